@@ -1,4 +1,4 @@
--- What an access leaves of an open round is what the event leaves of its world.
+-- An access changes an open round as the event changes the round's world.
 use Rattle.std.proofs.Common.{◌≡◌, ℕ, zero, suc, List, [], ◌∷◌, ◌++◌, length, true, false, refl, sym, ap, subst, ◌∙◌, ⊎_elim, Option, Some, None, arith}
 use Rattle.std.specs.Prelude.{slice_get, slice_set, replicate}
 use Rattle.std.proofs.lemmas.List.{set-set}
@@ -31,7 +31,7 @@ use Rattle.campaign_orders.proofs.Steady.{ahead_runs, run_more, runs_past, runs_
 use Rattle.campaign_orders.proofs.Stepping.{asks_on}
 use Rattle.campaign_orders.proofs.Walking.{silent}
 
--- turns without an access change only his part
+-- Turns without an access change only the general's part.
 module _ (g : ℕ) where
   silent_by : (n : ℕ) (w : World) (a b : Activation) (o : Turn) → turn a ≡ o → slice_get w.parts g ≡ Some (Acting a)
       → ((v : World) (c : Activation) → slice_get v.parts g ≡ Some (Acting c) → Runs n c [] b → run oral_kind v (replicate n (Tick g)) ≡ on v g b)
@@ -48,7 +48,7 @@ module _ (g : ℕ) where
       ap (λ (l : List Progress). record w { parts = l }) (sym (set-same w.parts g (Acting b) (at ∙ ap (λ (c : Activation). Some (Acting c)) way.1)))
   silent_ticks (suc n) w a b at way = silent_by n w a b (turn a) refl at (λ v c e r. silent_ticks n v c b e r) way
 
-  -- a turn changes his part and the words as the board serves it
+  -- A turn changes the general's part and the board's words as the board answers it.
   served_parts : (v : World) (b : Activation) (r : ℕ) (k : RecordedBoard) (o : Turn) → slice_get v.parts g ≡ Some (Acting b) → k.words ≡ v.words → (served v g o).parts ≡ slice_set v.parts g (Acting (moved g r b k o).0)
   served_parts v b r k (Goes c) at e = refl
   served_parts v b r k (Asks q f) at e = ap (λ (ws : List ℕ). slice_set v.parts g (Acting (f (reply ws q)))) (sym e)
@@ -59,7 +59,7 @@ module _ (g : ℕ) where
   served_words v b r k (Asks q f) e = ap (λ (ws : List ℕ). next ws q) (sym e)
   served_words v b r k Ended e = sym e
 
--- a world that is run on differs only in its parts
+-- A world whose activations have run on differs only in its parts.
 rest_is : (gs : List ℕ) (w v : World) → RunsOn w gs v → record w { closed = v.closed; words = v.words; parts = v.parts } ≡ v
 rest_is [] w v r = (let A : World → Type 0 = λ u. record w { closed = u.closed; words = u.words; parts = u.parts } ≡ u in subst A r refl)
 rest_is (x ∷ gs) w v r =
@@ -70,14 +70,14 @@ rest_is (x ∷ gs) w v r =
     (λ (m : GoesOn w x). ap (λ (y : World). record y { closed = v.closed; words = v.words; parts = v.parts }) (sym (goes_is w x m)) ∙ later)
     (quiet_is w x r.0)
 
--- who ends without an access makes none
+-- A general whose activation ends without an access makes none.
 ends : (g : ℕ) (words : List ℕ) (o : Option Progress) → IsPartAfter g words o None → will_ask o ≡ false
 ends g words None h = refl
 ends g words (Some (Acting a)) (end, way, over) = silent (length a.program) way.0 a end over way.1
 ends g words (Some Silent) h = refl
 ends g words (Some Posted) h = refl
 
--- the world after the access, with his turns after it
+-- The world after the access and the turns after it.
 record IsPassed (w : World) (g : ℕ) (end : Activation) (left : List ℕ) : Type 0 where
   asks : will_ask (slice_get w.parts g) ≡ true
   world : World
@@ -132,7 +132,7 @@ module _ (s : Scenario) (w : World) (g : ℕ) (t : IsOnTime oral_kind s w) where
   passes_part words (Some Silent) at same made h = absurd h
   passes_part words (Some Posted) at same made h = absurd h
 
--- so the open round after it is that of a world that is run on
+-- So the open round after the access is that of a world whose activations have run on.
 module _ (o : OpenRound) (rows : List (List ℕ)) (names : List ℕ) (good : IsScenario o.start.scenario) where
   round_passes : (g : ℕ) (next : OpenRound) → IsRunOn (reached (opening oral_kind o.start.scenario) rows names) (world_in rows names o) → IsRoundAfter o g (Some next)
       → (will_ask (slice_get o.parts g) ≡ true) × IsRunOn (past oral_kind (world_in rows names o) g) (world_in rows (names ++ g ∷ []) next)
@@ -151,12 +151,12 @@ module _ (o : OpenRound) (rows : List (List ℕ)) (names : List ℕ) (good : IsS
       (λ i. record (there i) { closed = sym p.closed_are i; words = sym p.words_are i; parts = sym p.parts_are i }) ∙ rest in
       (p.asks, subst (λ (y : World). IsRunOn (past oral_kind w g) y) (sym same ∙ ap (world_in rows (names ++ g ∷ [])) (sym next_is)) p.run_on)
 
--- as code makes it
+-- The same, as the code makes the round.
 pub after_is : (o : OpenRound) (g : ℕ) (made : Accessed) (start : World) (parts : List Progress) → IsPartAfter g o.words (slice_get o.parts g) (Some made) → start ≡ o.start → parts ≡ slice_set o.parts g (Acting made.running)
     → IsRoundAfter o g (Some (record { start = start; words = made.words; parts = parts }))
 after_is o g made start parts h a b = (made, h, (λ i. record { start = a i; words = made.words; parts = b i }))
 
--- as code has them
+-- The same, as the code has the state and the round.
 module _ (t : State) (o : OpenRound) (g : ℕ) (same : world_in t.rows t.names o ≡ t.world) where
   pub past_none : IsRoundAfter o g None → IsPastOf t.world t g None
   past_none h = ap (λ (w : World). will_ask (slice_get w.parts g)) (sym same) ∙ ends g o.words (slice_get o.parts g) h

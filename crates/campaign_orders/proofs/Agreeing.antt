@@ -1,4 +1,4 @@
--- What is found agrees under the bound.
+-- In the outcomes found the loyal lieutenants agree if the bound holds.
 use Rattle.std.proofs.Common.{◌≡◌, List, ℕ, All, refl, sym, subst, ◌∙◌}
 use Rattle.std.proofs.lemmas.List.Elements.{All-weaker}
 use Rattle.label.specs.Lieutenants.{AgreeInList}

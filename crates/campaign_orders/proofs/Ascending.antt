@@ -1,4 +1,4 @@
--- The list of orders is ascending, so the first with an outcome is the least.
+-- The list of orders is ascending, so the first order with an outcome is the least.
 use Rattle.std.proofs.Common.{Ordering, Less, Equal, Greater, ◌≡◌, ℕ, zero, suc, List, [], ◌∷◌, ◌++◌, map, true, false, Bool, cond, refl, sym, ap, subst, ◌∙◌, inl, inr, ⊎_elim, Some, ◌⊎◌}
 use Rattle.std.specs.Prelude.{find, ◌==◌}
 use Rattle.std.specs.Cmp.Lexicographic.{slice_cmp}
@@ -23,7 +23,7 @@ ascending-append R [] ys a b c = b
 ascending-append R (x ∷ xs) ys a b c =
     ((λ y h. ⊎_elim (λ k. a.0 y k) (λ k. c x y (inl refl) k) (has-append_of xs ys y h)), ascending-append R xs ys a.1 b (λ u v h k. c u v (inr h) k))
 
--- what begins with one choice, and what begins with a lesser one
+-- Lists that begin with one choice come after those that begin with a lesser one.
 module _ {A : Type 0} (R : A → A → Ordering) (self : (x : A) → R x x ≡ Equal) where
   begun_less : (g : A) (a : List A) (rows : List (List A)) → ((y : List A) → Has rows y → slice_cmp R a y ≡ Less) → (y : List A) → Has (map (λ r. g ∷ r) rows) y → slice_cmp R (g ∷ a) y ≡ Less
   begun_less g a [] h y k = absurd k
@@ -68,7 +68,7 @@ module _ (K : Kind) where
   orders_ascending most (suc k) w =
       branch_ascending names_cmp (tied_itself nat_list_cmp_total) (round_orders K most w) (λ names. orders_from K most (behind K w names) k) (round_ascending most w) (λ names. orders_ascending most k (behind K w names))
 
--- so the least that passes a test is the first that does
+-- So the least element that passes a test is the first that does.
 pub find_least : (p : List (List ℕ) → Bool) (all : List (List (List ℕ))) (x : List (List ℕ)) → AreAscending order_cmp all → Has all x → p x ≡ true
     → ((o : List (List ℕ)) → Has all o → p o ≡ true → is_gt (order_cmp x o) ≡ false) → find p all ≡ Some x
 find_least p [] x a h e least = absurd h

@@ -1,4 +1,4 @@
--- Who is still to ask makes one more access.
+-- A general who will make a further access makes it.
 use Rattle.std.proofs.Common.{◌≡◌, ℕ, zero, suc, [], ◌∷◌, ◌++◌, length, true, false, refl, sym, subst, Option, Some, None}
 use Rattle.std.specs.Prelude.{slice_get, replicate}
 use Rattle.board.specs.Board.{Access, reply}
@@ -12,7 +12,7 @@ use Rattle.world.proofs.Listing.{set-here}
 use Rattle.world.proofs.Replays.{tick_is}
 use Rattle.campaign_orders.specs.Orders.{asks_or, asks_within, will_ask}
 
--- one more access, of this general in the open round
+-- One more access, of this general in the open round.
 pub record OneMore (w v : World) (g : ℕ) : Type 0 where
   pub made : Access
   pub ledger : v.ledger ≡ w.ledger ++ made ∷ []

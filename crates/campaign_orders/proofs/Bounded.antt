@@ -1,4 +1,4 @@
--- No round has more accesses than its traitors have instructions.
+-- No round has more accesses than its traitors' programs have instructions.
 use Rattle.std.proofs.Common.{◌≡◌, ℕ, zero, suc, ◌*◌, ◌<◌, ◌≤◌, List, [], ◌∷◌, ◌++◌, length, map, take, drop, refl, sym, ap, subst, ◌∙◌, Option, Some, None, arith, All, length-append}
 use Rattle.std.proofs.lemmas.List.{length-map}
 use Rattle.std.specs.Prelude.{slice_get, slice_index_or, ◌==◌, filter, sum_by}
@@ -24,7 +24,7 @@ use Rattle.campaign_orders.specs.Orders.{order_of, IsOrder}
 use Rattle.campaign_orders.specs.Listing.{AreShort, instructions, most_in_round, OrdersAreWhole}
 use Rattle.campaign_orders.proofs.Listed.{orders_are_listed}
 
--- a run has no more accesses than steps
+-- A run has at most as many accesses as steps.
 few_by : (k : ℕ) (x : List Access) (end : Activation) → ((a : Activation) (t : List Access) → Runs k a t end → length t ≤ k) → (o : Turn) (t : List Access) → Onward (Runs k) o t end → length t ≤ suc k
 few_by k x end again (Goes b) t r = (let l = again b t r in omega arith)
 few_by k x end again (Asks q f) [] r = absurd r
@@ -35,7 +35,7 @@ few_accesses : (k : ℕ) (a end : Activation) (t : List Access) → Runs k a t e
 few_accesses zero a end t r = (let e = ap length r.0 in omega arith)
 few_accesses (suc k) a end t r = few_by k t end (λ b u q. few_accesses k b end u q) (turn a) t r
 
--- one of some programs
+-- A program is one of those of the scenario.
 one_of : (ps : List (Option (List Insn))) (g : ℕ) (program : List Insn) → slice_index_or ps g None ≡ Some program → length program ≤ sum_by instructions ps
 one_of [] g program e = absurd (let f : None ≡ Some program = e in cc)
 one_of (o ∷ ps) zero program e = (let l : instructions o ≡ length program = ap instructions e in omega (arith, sum_by-cons instructions o ps))

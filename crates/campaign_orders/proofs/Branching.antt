@@ -15,7 +15,7 @@ use Rattle.campaign_orders.specs.Layers.{IsCommon, or_sum, stepped, over_round, 
 use Rattle.campaign_orders.specs.Outcomes.{oral_outcome}
 use Rattle.campaign_orders.proofs.Merging.{behind_alike, round_lists}
 
--- sums that agree at each
+-- Sums of functions that agree everywhere are the same.
 sum_by_each : {A : Type 0} (f g : A → ℕ) → ((x : A) → f x ≡ g x) → (xs : List A) → sum_by f xs ≡ sum_by g xs
 sum_by_each {A} f g h xs = λ i. sum_by (λ (x : A). h x i) xs
 
@@ -27,7 +27,7 @@ sum_by_map {A} f g (x ∷ xs) =
     let c = sum_by_map f g xs in
     omega arith
 
--- over what can follow on a choice
+-- A sum over lists that begin with a choice.
 sum_branch : {A : Type 0} (f : List A → ℕ) (gs : List A) (later : A → List (List A)) → sum_by f (branch gs later) ≡ sum_by (λ g. sum_by (λ rest. f (g ∷ rest)) (later g)) gs
 sum_branch f [] later = refl
 sum_branch {A} f (g ∷ gs) later =
@@ -42,7 +42,7 @@ sum_or : (f : List ℕ → ℕ) (gs : List ℕ) (later : ℕ → List (List ℕ)
 sum_or f [] later = (let a = sum_by-cons f [] [] in a ∙ (let z : sum_by f [] ≡ 0 = refl in omega arith))
 sum_or f (g ∷ gs) later = sum_branch f (g ∷ gs) later
 
--- one access more, and then others
+-- One access is made, and then the others.
 behind_past : (w : World) (g : ℕ) (names : List ℕ) → behind oral_kind w (g ∷ names) ≡ behind oral_kind (past oral_kind w g) names
 behind_past w g names =
     let ticks = ticks_named g (slice_get w.parts g) in
@@ -61,7 +61,7 @@ next_step k h w =
     sum_or (λ (names : List ℕ). h (behind oral_kind w names)) (askers w) (λ (g : ℕ). round_orders oral_kind k (past oral_kind w g))
     ∙ (λ i. or_sum (askers w) (h (behind oral_kind w [])) (λ (g : ℕ). sum_by (λ (rest : List ℕ). h (behind_past w g rest i)) (round_orders oral_kind k (past oral_kind w g))))
 
--- alike worlds have them in common
+-- Alike worlds have the same sums.
 pub round_common : (most : ℕ) (h : World → ℕ) → IsCommon h → IsCommon (over_round most h)
 round_common most h common w v alike =
     (λ i. sum_by (λ (names : List ℕ). common (behind oral_kind w names) (behind oral_kind v names) (behind_alike names w v alike) i) (round_lists most w v alike i))
@@ -70,7 +70,7 @@ pub rounds_common : (most k : ℕ) (h : World → ℕ) → IsCommon h → IsComm
 rounds_common most zero h common = common
 rounds_common most (suc k) h common = round_common most (over_rounds most k h) (rounds_common most k h common)
 
--- a number of the worlds in which the orders end, summed over these
+-- A number for each world in which an order ends, summed over these worlds.
 pub over_orders : (h : World → ℕ) (most k : ℕ) (w : World) → sum_by (λ order. h (run oral_kind w (replayed_rounds oral_kind w k order))) (orders_from oral_kind most w k) ≡ over_rounds most k h w
 over_orders h most zero w = (let a = sum_by-cons (λ (order : List (List ℕ)). h w) [] [] in a ∙ (let z : sum_by (λ (order : List (List ℕ)). h w) [] ≡ 0 = refl in omega arith))
 over_orders h most (suc k) w =
@@ -82,7 +82,7 @@ over_orders h most (suc k) w =
     (orders_from oral_kind most (behind oral_kind w names) k)
     ∙ over_orders h most k (behind oral_kind w names)) i) (round_orders oral_kind most w))
 
--- so in how many orders a campaign comes to decisions, and how many there are
+-- So the number of orders that lead to some decisions is such a sum, and so is the number of all orders.
 pub ways_over : (s : Scenario) (ds : List ℕ) → ways_to oral_kind oral_outcome s ds ≡ over_rounds (most_in_round s) (suc s.bound) (λ w. cond (bytes_eq (oral_outcome w) ds) 1 0) (opening oral_kind s)
 ways_over s ds = over_orders (λ w. cond (bytes_eq (oral_outcome w) ds) 1 0) (most_in_round s) (suc s.bound) (opening oral_kind s)
 

@@ -1,4 +1,4 @@
--- Findings from states.
+-- Outcomes found are made from states.
 use Rattle.std.proofs.Common.{Result, Ok, Err, Bool, cond, zero, ◌⊎◌, ◌≡◌, ℕ, suc, ◌+◌, ◌*◌, ◌-◌, ◌^◌, ◌<◌, ◌≤◌, min, List, [], ◌∷◌, ◌++◌, length, take, set, get_or, true, false, refl, sym, ap, subst, ◌∙◌, inl, inr, ⊎_elim, arith, All, length-append}
 use Rattle.std.specs.Prelude.{bytes_eq, OnOk}
 use Rattle.std.specs.Ordering.{is_lt, is_gt}
@@ -20,7 +20,7 @@ use Rattle.campaign_orders.proofs.Having.{different-append, has-append_of, has-a
 use Rattle.campaign_orders.proofs.Lesser.{order_total, least_self, least_then, lesser_first, lesser_second}
 use Rattle.campaign_orders.proofs.Weighing.{as_more, kept_times, swapped}
 
--- so many ways more, and the lesser example
+-- Returns the finding with the state's ways added and the lesser example.
 abbrev counted_on : Finding → State → Finding
 counted_on f t = record f { count = kept (f.count + t.ways); example = lesser f.example t.rows }
 
@@ -31,7 +31,7 @@ lesser_of P a b pb pa = by (is_lt (order_cmp b a))
     by true = pb
     by false = pa
 
--- what a state adds to a sum over the findings
+-- What a state adds to a sum over the findings.
 counted_sums : (b : List ℕ → ℕ) (findings : List Finding) (t : State) (new : List Finding) → IsCountedOn findings t new → AsKept (tallied b new) (tallied b findings + t.ways * b (oral_outcome t.world))
 counted_sums b findings t new j =
     let g : Finding → ℕ = λ f. f.count * b f.decisions in
@@ -56,7 +56,7 @@ found_sums : (b : List ℕ → ℕ) (findings : List Finding) (t : State) (new :
 found_sums b findings t new (inl j) = counted_sums b findings t new j
 found_sums b findings t new (inr j) = first_sums b findings t new j
 
--- what is nowhere is in none
+-- Decisions that are not found belong to no finding.
 not_had : (findings : List Finding) (ds : List ℕ) → IsNowhere findings ds → Has (outcomes_of findings) ds → ⊥
 not_had [] ds none h = h
 not_had (f ∷ findings) ds none h =
@@ -87,7 +87,7 @@ found_few findings t new (inr j) all =
     let A : Finding → Type 0 = λ f. f.count < 2 ^ 64 in
     subst (λ (l : List Finding). All A l) (sym j.found) (All-push A findings (record { decisions = oral_outcome t.world; count = kept t.ways; example = t.rows }) all (kept_few t.ways))
 
--- as code enters it
+-- The same, as the code enters the state.
 pub on_ok_so : {A E : Type 0} (r : Result A E) (P Q : Type 0) → (P → Q) → OnOk r P → OnOk r Q
 on_ok_so (Ok x) P Q f h = f h
 on_ok_so (Err x) P Q f h = tt
@@ -105,7 +105,7 @@ finds_first findings t ds f rows new here same way made is =
       found = is ∙ (ap (λ (x : Finding). findings ++ x ∷ []) made ∙ (λ i. findings ++ record { decisions = same i; count = kept t.ways; example = way i } ∷ []));
     })
 
--- a state of some is one of more
+-- A state that is one of the first states is also one of more.
 still_of : (states : List State) (n : ℕ) (u : State) → n < length states → u ≡ get_or states n u → (f : Finding) → IsOfState (take n states) f → IsOfState (take (n + 1) states) f
 still_of states n u lt at f h =
     let e : take (n + 1) states ≡ take n states ++ get_or states n u ∷ [] = take_more states n u lt in

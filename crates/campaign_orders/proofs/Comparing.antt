@@ -1,4 +1,4 @@
--- Letters and rounds that tell alike, one by one.
+-- Letters and rounds that send the same orders, compared one by one.
 use Rattle.std.proofs.Common.{◌≡◌, ℕ, zero, suc, ◌+◌, ◌<◌, ◌≤◌, List, [], ◌∷◌, length, take, get_or, sym, ap, subst, ◌∙◌, arith}
 use Rattle.std.proofs.lemmas.List.{take_all}
 use Rattle.round.specs.Letters.{Letter}

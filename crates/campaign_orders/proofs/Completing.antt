@@ -1,4 +1,4 @@
--- The accesses of a replay: in each round those of the names, and behind them the others', by general.
+-- The accesses of a replay: in each round first those of the names, and then those of the others, by general.
 use Rattle.std.proofs.Common.{◌≡◌, ℕ, zero, suc, ◌+◌, ◌<◌, List, [], ◌∷◌, ◌++◌, length, map, Bool, true, false, cond, refl, sym, ap, subst, ◌∙◌, inl, inr, ⊎_elim, Option, Some, None, append_assoc, append-nil, arith}
 use Rattle.std.specs.Prelude.{slice_get, replicate}
 use Rattle.std.proofs.lemmas.List.{map-append}
@@ -31,7 +31,7 @@ of-append : (r : ℕ) (xs ys : List Access) → AreOf r xs → AreOf r ys → Ar
 of-append r [] ys a b = b
 of-append r (x ∷ xs) ys a b = (a.0, of-append r xs ys a.1 b)
 
--- some accesses more in a round
+-- Some more accesses of a round.
 pub record More (w v : World) : Type 0 where
   pub piece : List Access
   pub ledger : v.ledger ≡ w.ledger ++ piece
@@ -49,7 +49,7 @@ then_more u v w a b = record {
   closed = b.closed ∙ a.closed;
 }
 
--- all of one general
+-- States that all these accesses are of one general.
 abbrev Own : ℕ → List Access → Type 0
 Own g piece = (y : ℕ) → Has (generals_of piece) y → y ≡ g
 
@@ -73,7 +73,7 @@ ticked_more w g (Some (Acting a)) = served_more w g (turn a)
 ticked_more w g (Some Silent) = (no_more w w refl refl, λ y h. absurd h)
 ticked_more w g (Some Posted) = (no_more w w refl refl, λ y h. absurd h)
 
--- a post makes none
+-- States that a post makes no access.
 abbrev Quietly : World → World → Type 0
 Quietly w v = (v.ledger ≡ w.ledger) × (v.closed ≡ w.closed)
 
@@ -83,7 +83,7 @@ posting_quietly w g (Some (Acting a)) = (refl, refl)
 posting_quietly w g (Some Silent) = (refl, refl)
 posting_quietly w g (Some Posted) = (refl, refl)
 
--- by general, and of those below
+-- States that the accesses are ascending by general, and only of generals below `n`.
 abbrev Ending : ℕ → List Access → Type 0
 Ending n piece = IsAscending (generals_of piece) × ((y : ℕ) → Has (generals_of piece) y → y < n)
 
@@ -95,21 +95,21 @@ ending-append n a b e own =
       λ y h. ⊎_elim (λ k. (let l = e.1 y k in omega arith)) (λ k. (let l = own y k in omega arith)) (has-append_of (generals_of a) (generals_of b) y h),
     )
 
--- as a round is wound up
+-- The accesses made when a round is finished.
 pub record Wound (w v : World) : Type 0 where
   pub piece : List Access
   pub ledger : v.ledger ≡ w.ledger ++ piece
   pub in_round : AreOf (suc (length w.closed)) piece
   pub ascending : IsAscending (generals_of piece)
 
--- a round in which these come first
+-- A round in which the named generals make their accesses first.
 pub record Round (w v : World) (names : List ℕ) : Type 0 where
   pub piece : List Access
   pub ledger : v.ledger ≡ w.ledger ++ piece
   pub in_round : AreOf (suc (length w.closed)) piece
   pub continues : Continues names (generals_of piece)
 
--- so many rounds
+-- The same for `k` rounds.
 pub record Completed (w v : World) (k : ℕ) (names : List (List ℕ)) : Type 0 where
   pub later : List Access
   pub ledger : v.ledger ≡ w.ledger ++ later

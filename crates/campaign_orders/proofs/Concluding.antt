@@ -1,4 +1,4 @@
--- The findings of the last states are those of all orders.
+-- The outcomes found in the last states are those of all orders.
 use Rattle.std.proofs.Common.{◌≡◌, ℕ, zero, suc, ◌*◌, ◌-◌, ◌^◌, ◌<◌, ◌≤◌, List, [], ◌∷◌, ◌++◌, length, get_or, Bool, true, false, cond, refl, sym, ap, subst, ◌∙◌, inl, inr, ⊎_elim, arith, All, Some}
 use Rattle.std.specs.Prelude.{count_by, bytes_eq}
 use Rattle.std.specs.Ordering.{is_gt}
@@ -32,13 +32,13 @@ use Rattle.campaign_orders.proofs.Lesser.{order_total, least_then, then_first}
 use Rattle.campaign_orders.proofs.Listed.{orders_are_listed}
 use Rattle.campaign_orders.proofs.Merging.{messages_alike}
 
--- decisions are common to alike worlds
+-- Alike worlds lead to the same decisions.
 pub decisions_common : (b : List ℕ → ℕ) → IsCommon (λ w. b (oral_outcome w))
 decisions_common b w v alike =
     let m : messages w.closed ≡ messages v.closed = messages_alike w.closed v.closed alike.closed in
     λ i. b (decisions (alike.scenario i) (m i))
 
--- and running on leaves them
+-- Decisions do not change when activations run on.
 runs_outcome : (gs : List ℕ) (w v : World) → RunsOn w gs v → oral_outcome v ≡ oral_outcome w
 runs_outcome [] w v r = ap oral_outcome (sym r)
 runs_outcome (x ∷ gs) w v r =
@@ -48,7 +48,7 @@ runs_outcome (x ∷ gs) w v r =
 decisions_steady : (b : List ℕ → ℕ) → IsSteady (λ w. b (oral_outcome w))
 decisions_steady b w v is r on = ap b (runs_outcome on.0 w v on.1)
 
--- the way of a last state is an order
+-- The way to a last state is an order.
 rounds_from : (k : ℕ) (rows : List (List ℕ)) (w : World) → AreRounds w rows → length rows ≡ k → IsFrom oral_kind w k rows
 rounds_from zero [] w h e = refl
 rounds_from zero (r ∷ rows) w h e = absurd (omega arith)
@@ -72,7 +72,7 @@ rounds_run (suc k) [] w e = absurd (omega arith)
 rounds_run (suc k) (r ∷ rows) w e =
     run-append oral_kind (names_events oral_kind w r ++ wound_up w.scenario) (replayed_rounds oral_kind (behind oral_kind w r) k rows) w ∙ rounds_run k rows (behind oral_kind w r) (omega arith)
 
--- one for these decisions, and nothing for others
+-- Returns 1 for these decisions and 0 for others.
 abbrev pub chosen : List ℕ → List ℕ → ℕ
 chosen ds x = cond (bytes_eq x ds) 1 0
 
@@ -86,7 +86,7 @@ chosen_other ds x never = by (bytes_eq x ds) refl
     by true e = absurd (never ((bytes_eq-Decides x ds).0 e))
     by false e = ap (λ (b : Bool). cond b 1 0) e
 
--- a sum for decisions that are not found is nothing
+-- If no finding has these decisions, the sum for them is 0.
 none_tallied : (ds : List ℕ) (fs : List Finding) → (Has (outcomes_of fs) ds → ⊥) → tallied (chosen ds) fs ≡ 0
 none_tallied ds [] never = refl
 none_tallied ds (f ∷ fs) never =
@@ -105,7 +105,7 @@ chosen_is ds x one = by (bytes_eq x ds) refl
     by true e = (bytes_eq-Decides x ds).0 e
     by false e = absurd (let z : chosen ds x ≡ 0 = ap (λ (b : Bool). cond b 1 0) e in omega arith)
 
--- of different findings one is of some decisions
+-- An element of the list of findings.
 finding_at : (fs : List Finding) (k : ℕ) (d : Finding) → k < length fs → Has fs (get_or fs k d)
 finding_at [] k d lt = absurd (omega arith)
 finding_at (f ∷ fs) zero d lt = inl refl
@@ -127,7 +127,7 @@ one_finding (x ∷ fs) different f g h k e =
     (λ (m : Has fs g). one_finding fs different.1 f g n m e) k)
     h
 
--- of different findings it is the count of one
+-- If the findings are different, the sum for decisions is the count of one finding.
 has_at : (fs : List Finding) (k : ℕ) (d : Finding) → k < length fs → Has (outcomes_of fs) (get_or fs k d).decisions
 has_at [] k d lt = absurd (omega arith)
 has_at (f ∷ fs) zero d lt = inl refl
@@ -175,7 +175,7 @@ all_tallied (f ∷ fs) =
     let d = mul-one f.count in
     omega arith
 
--- an order that leads there counts
+-- An order that leads to the decisions is counted.
 has_ways : (s : Scenario) (ds : List ℕ) (all : List (List (List ℕ))) (order : List (List ℕ)) → Has all order → outcome_of oral_kind oral_outcome s order ≡ ds → 0 < count_by (λ o. bytes_eq (outcome_of oral_kind oral_outcome s o) ds) all
 has_ways s ds [] order h e = absurd h
 has_ways s ds (o ∷ all) order h e =
@@ -229,7 +229,7 @@ module _ (s : Scenario) (is : IsScenario s) (states : List State) (findings : Li
       let w = ways_kept ds in
       has_tallied ds findings (omega arith)
 
-  -- the example of each is the least order that leads there
+  -- Each example is the least order that leads to its decisions.
   leads_least : (f : Finding) → Has findings f → (order : List (List ℕ)) → Has (orders oral_kind s) order → bytes_eq (outcome_of oral_kind oral_outcome s order) f.decisions ≡ true → is_gt (order_cmp f.example order) ≡ false
   leads_least f here order listed leads =
       let o = opening oral_kind s in
@@ -271,7 +271,7 @@ module _ (s : Scenario) (is : IsScenario s) (states : List State) (findings : Li
   pub few_counted : kept (counted_in findings) < 2 ^ 64 - 1 → counted_in findings ≤ 2 ^ 64 - 1
   few_counted lt = omega arith
 
-  -- so the exploration is one of all orders
+  -- So the exploration covers all orders.
   pub is_beyond : kept (counted_in findings) ≡ 2 ^ 64 - 1 → IsExploration oral_kind oral_outcome s (2 ^ 64 - 1) (record { findings = findings; reach = Beyond })
   is_beyond h = record {
     few = λ n. absurd (n refl);

@@ -1,4 +1,4 @@
--- The schedules of the examples of an exploration can be read.
+-- The schedules for an exploration's examples are short enough to be read.
 use Rattle.std.proofs.Common.{◌≡◌, ℕ, suc, ◌≤◌, List, length, map, All, Some, arith}
 use Rattle.std.proofs.lemmas.List.Elements.{All-map}
 use Rattle.insn.specs.declared.insn.Insn.{Insn}

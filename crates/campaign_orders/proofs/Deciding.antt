@@ -1,4 +1,4 @@
--- The laws of orders.
+-- The laws of orders of accesses.
 use Rattle.std.proofs.Common.{◌≡◌, ℕ, suc, List, sym, ap, subst, ◌∙◌}
 use Rattle.world.specs.declared.event.Event.{Event}
 use Rattle.round.specs.Scenario.{Scenario, IsScenario}
@@ -12,7 +12,7 @@ use Rattle.campaign_orders.proofs.Walking.{order_walks}
 use Rattle.campaign_orders.proofs.Leading.{leads}
 
 module _ (K : Kind) (good : AreCampaigns K) where
-  -- a complete run is the replay of its order
+  -- A complete run is the replay of its order.
   pub again : (s : Scenario) (events : List Event) → IsScenario s → IsComplete K s events → run K (opening K s) (replayed K s (order_of K s events)) ≡ run K (opening K s) events
   again s events is c = (runs_are_replays K good).worlds s events is c
 

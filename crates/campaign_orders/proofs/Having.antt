@@ -1,4 +1,4 @@
--- What stands in a list.
+-- Elements of lists.
 use Rattle.std.proofs.Common.{◌≡◌, ℕ, ◌≤◌, List, [], ◌∷◌, ◌++◌, refl, ◌⊎◌, inl, inr, ⊎_elim, arith}
 use Rattle.campaign_orders.specs.Listing.{Has, AreDifferent}
 use Rattle.campaign_orders.specs.Walks.{IsAscending}

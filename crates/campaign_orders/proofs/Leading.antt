@@ -1,4 +1,4 @@
--- Whoever chooses who makes the next access, one after another, comes to the order of a complete run.
+-- Choosing, again and again, which general makes the next access leads to the order of a complete run.
 use Rattle.std.proofs.Common.{◌≡◌, ℕ, zero, suc, List, [], ◌∷◌, ◌++◌, true, false, refl, sym, ap, subst, ◌∙◌, append-nil, arith}
 use Rattle.round.specs.Scenario.{Scenario, IsScenario}
 use Rattle.world.specs.Kind.{Kind, World, opening}
@@ -20,7 +20,7 @@ module _ (K : Kind) where
   from_walks (suc k) [] w h = absurd h
   from_walks (suc k) (names ∷ order) w h = (round_walks names w h.0, from_walks k order (behind K w names) h.1)
 
-  -- behind a whole round nobody comes
+  -- After all accesses of a round nobody makes a further one.
   none_comes : (names q : List ℕ) (w : World) → IsRoundFrom K w names → IsRoundFrom K w (names ++ q) → q ≡ []
   none_comes [] [] w h k = refl
   none_comes [] (g ∷ q) w h k = absurd (let f : false ≡ true = sym (h g) ∙ k.0 in cc)
@@ -41,7 +41,7 @@ module _ (K : Kind) where
       let A : List ℕ → Type 0 = λ l. IsFrom K (behind K w l) k rows in
       (λ i. one i ∷ completed_same k order rows (behind K w names) h.1 (subst A one j.1) c.1 i)
 
-  -- the order of a replay, by the names
+  -- The order of a replay, given its names.
   pub replay_completes : (s : Scenario) (names : List (List ℕ)) → IsCampaign K s → AreWalks K (opening K s) names → IsCompletion names (order_of K s (replayed K s names))
   replay_completes s names is h =
       let r = completes K s is (suc s.bound) names (opening K s) (opening_due K s is) (omega arith) h in

@@ -1,4 +1,4 @@
--- Orders by the first access in which they differ.
+-- Orders are compared by the first access in which they differ.
 use Rattle.std.proofs.Common.{Vec, Ordering, Less, Equal, Greater, ◌≡◌, ℕ, List, [], ◌∷◌, ◌++◌, length, true, false, Bool, cond, refl, ap, ◌∙◌, arith}
 use Rattle.std.specs.Cmp.{IsTotalOrder}
 use Rattle.std.specs.Cmp.Lexicographic.{slice_cmp}
@@ -14,14 +14,14 @@ order_total = lists_total nat_list_cmp_total
 pub beginning_total : IsTotalOrder beginning_cmp
 beginning_total = then_total (on_total (λ (b : Beginning). b.0) order_total) (on_total (λ (b : Beginning). b.1) nat_list_cmp_total)
 
--- as code compares them
+-- The same, as the code compares them.
 pub lists_cmp : (a b : List (Vec ℕ Global)) → slice_cmp (λ (v w : Vec ℕ Global). slice_cmp nat_cmp v.items w.items) a b ≡ order_cmp (lists_in a) (lists_in b)
 lists_cmp [] [] = refl
 lists_cmp [] (w ∷ b) = refl
 lists_cmp (v ∷ a) [] = refl
 lists_cmp (v ∷ a) (w ∷ b) = ap (ordering_then (names_cmp v.items w.items)) (lists_cmp a b)
 
--- what an answer says of the other way round
+-- What the result of a comparison says about the opposite one.
 less_not_gt : (o : Ordering) → is_lt o ≡ true → is_gt o ≡ false
 less_not_gt Less e = refl
 less_not_gt Equal e = refl
@@ -45,7 +45,7 @@ module _ {K : Type 0} {R : K → K → Ordering} (o : IsTotalOrder R) where
   pub least_then : (x y z : K) → is_gt (R x y) ≡ false → is_gt (R y z) ≡ false → is_gt (R x z) ≡ false
   least_then x y z a b = upto o x y z a b
 
--- one more behind both
+-- One more round is compared.
 then_equal : (o : Ordering) → ordering_then o Equal ≡ o
 then_equal Less = refl
 then_equal Equal = refl
@@ -79,7 +79,7 @@ pub begins_closed : (rows others : List (List ℕ)) (names those : List ℕ) →
 begins_closed rows others names those e h =
     ap is_gt (then_equal (order_cmp (rows ++ names ∷ []) (others ++ those ∷ [])) ∙ cmp_more names_cmp rows others names those e) ∙ h
 
--- the lesser of two
+-- The lesser of two orders.
 pub lesser_first : (a b : List (List ℕ)) → is_gt (order_cmp (lesser a b) a) ≡ false
 lesser_first a b = by (is_lt (order_cmp b a)) refl
   where

@@ -1,4 +1,4 @@
--- The list of orders has each of them once.
+-- The list of orders has each order once.
 use Rattle.std.proofs.Common.{◌≡◌, ℕ, zero, suc, ◌+◌, ◌<◌, ◌≤◌, List, [], ◌∷◌, length, map, Bool, true, false, cond, refl, sym, ap, subst, ◌∙◌, ◌⊎◌, inl, inr, ⊎_elim, Option, Some, None, arith}
 use Rattle.std.specs.Prelude.{slice_get, filter}
 use Rattle.std.specs.List.{range_with_len}
@@ -11,7 +11,7 @@ use Rattle.campaign_orders.specs.Listing.{askers, branch, or_end, round_orders, 
 use Rattle.campaign_orders.proofs.Having.{has-append_to, has-append_of, different-append}
 use Rattle.campaign_orders.proofs.Deciding.{orders_decide}
 
--- what begins with a choice
+-- Lists that begin with a choice.
 has_begun : {A : Type 0} → (g : A) (rows : List (List A)) (rest : List A) → Has rows rest → Has (map (λ r. g ∷ r) rows) (g ∷ rest)
 has_begun g [] rest h = absurd h
 has_begun g (r ∷ rows) rest h = ⊎_elim (λ e. inl (ap (λ x. g ∷ x) e)) (λ k. inr (has_begun g rows rest k)) h
@@ -62,7 +62,7 @@ branch_different {A} (g ∷ gs) later d e =
         let P : A → Type 0 = λ y. Has gs y in
         d.0 (subst P (sym (begun_has g x (later g) rest h).0) (branch_has gs later x rest k).0)
 
--- numbers that pass a test
+-- Numbers that pass a test.
 pub record Passes (p : ℕ → Bool) (a n g : ℕ) : Type 0 where
   pub passes : p g ≡ true
   pub from : a ≤ g
@@ -104,7 +104,7 @@ numbers_different p a (suc n) = by (p a) (numbers_different p (a + 1) n) (λ h. 
     by true d none = (none, d)
     by false d none = d
 
--- who asks is among the askers
+-- A general who will make a further access is among those listed.
 asker_is : (w : World) (g : ℕ) (o : Option Progress) → slice_get w.parts g ≡ o → will_ask o ≡ true → g < length w.parts
 asker_is w g None e y = absurd (let f : false ≡ true = y in cc)
 asker_is w g (Some part) e y = slice_get_within w.parts g part e
@@ -122,7 +122,7 @@ nobody w e g = by (will_ask (slice_get w.parts g)) refl
     by true y = absurd (let P : List ℕ → Type 0 = λ l. Has l g in subst P e (to_asker w g y))
     by false y = y
 
--- a list with a choice, and one with none
+-- There are choices, or there is none.
 end_to : (w : World) (later : ℕ → List (List ℕ)) (gs : List ℕ) → askers w ≡ gs → ((g : ℕ) → will_ask (slice_get w.parts g) ≡ false) → Has (or_end gs later) []
 end_to w later [] e none = inl refl
 end_to w later (g ∷ gs) e none =

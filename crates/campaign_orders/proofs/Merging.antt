@@ -1,4 +1,4 @@
--- Alike worlds go on alike.
+-- Alike worlds stay alike.
 use Rattle.std.proofs.Common.{◌≡◌, ℕ, zero, suc, ◌-◌, List, [], ◌∷◌, ◌++◌, length, map, Bool, true, false, cond, refl, sym, ap, subst, ◌∙◌, Option, Some, None}
 use Rattle.std.specs.Prelude.{filter, slice_get, slice_set, slice_index, slice_index_or, take, nat_lt, ◌==◌}
 use Rattle.insn.specs.declared.insn.Insn.{Insn}
@@ -51,7 +51,7 @@ row_at (x ∷ a) [] k h = absurd h
 row_at (x ∷ a) (y ∷ b) zero h = h.0
 row_at (x ∷ a) (y ∷ b) (suc k) h = row_at a b k h.1
 
--- whom the general told what
+-- Which order a general has sent to whom.
 told_alike : (a b : List Letter) (g : ℕ) (u : List ℕ) (p : ℕ) → TellAlike a b → told_by (letter_of a g) u p ≡ told_by (letter_of b g) u p
 told_alike [] [] g u p h = refl
 told_alike [] (m ∷ b) g u p h = absurd h
@@ -86,7 +86,7 @@ begins_alike s a b g (Some program) h =
     let n : length a ≡ length b = rounds_long a b h in
     λ i. Acting (started s.patience program (c i) (oral (shape_of s g (suc (n i)))))
 
--- the letters that a close makes
+-- The letters that a close makes.
 letter_alike : (w v : World) (g : ℕ) (o : Option Progress) → AreAlike w v → TellAlike (letters_at w g o) (letters_at v g o)
 letter_alike w v g None h = tt
 letter_alike w v g (Some (Acting a)) h =

@@ -1,4 +1,4 @@
--- Who makes no access any more: his turns may be taken whenever, and so a round ends alike.
+-- If a general makes no further access, his turns may be taken at any time, and the round ends the same.
 use Rattle.std.proofs.Common.{◌≡◌, ◌≢◌, ℕ, zero, suc, List, [], ◌∷◌, ◌++◌, length, true, false, refl, sym, ap, subst, ◌∙◌, ◌⊎◌, inl, inr, ⊎_elim, Some}
 use Rattle.std.specs.Prelude.{slice_get, ◌==◌}
 use Rattle.std.proofs.lemmas.Bool.Decides.{eqb_tells}
@@ -21,13 +21,13 @@ use Rattle.world.proofs.Ticking.{still_tick}
 use Rattle.campaign_orders.specs.Orders.{asks_or, asks_within, will_ask, behind}
 use Rattle.campaign_orders.proofs.RunningOn.{GoesOn, goes_is, never, tick_on, post_on, tick_at, post_at, within}
 
--- he makes no access any more
+-- States that the general makes no further access.
 record IsMute (x : ℕ) (w : World) : Type 0 where
   pub a : Activation
   pub at : slice_get w.parts x ≡ Some (Acting a)
   pub mute : (k : ℕ) → asks_within k a ≡ false
 
--- his next turn goes on, or he has ended
+-- States that his next turn is no request, or his activation has ended.
 abbrev NextOf : Activation → Type 0
 NextOf a = IsStill (Some (Acting a)) ⊎ ((b : Activation) × (turn a ≡ Goes b))
 
@@ -51,7 +51,7 @@ module _ (x : ℕ) where
   own_post : (w : World) → IsMute x w → happen oral_kind w (Post x) ≡ w
   own_post w m = ap (posting w x) m.at
 
-  -- others leave it so
+  -- Events of other generals do not change that.
   stays : (w : World) (e : Event) → IsMove e → IsMute x w → IsMute x (happen oral_kind w e)
   stays w (Tick g) i m =
       ⊎_elim (λ (e : (g == x ≡ true) × (g ≡ x)). subst (λ (h : ℕ). IsMute x (happen oral_kind w (Tick h))) (sym e.1) (own_tick w m))
@@ -63,7 +63,7 @@ module _ (x : ℕ) where
       (eqb_tells g x)
   stays w Close i m = absurd i
 
-  -- and come to the same before his turn and behind it
+  -- They have the same effect before and after his turn.
   tick_swaps : (w : World) (g : ℕ) → g ≢ x → IsMute x w → happen oral_kind (happen oral_kind w (Tick x)) (Tick g) ≡ happen oral_kind (happen oral_kind w (Tick g)) (Tick x)
   tick_swaps w g ne m =
       let v = happen oral_kind w (Tick g) in
@@ -101,14 +101,14 @@ module _ (x : ℕ) where
   all_swap [] w i m = refl
   all_swap (e ∷ es) w i m = ap (λ (v : World). run oral_kind v es) (swaps w e i.0 m) ∙ all_swap es (happen oral_kind w e) i.1 (stays w e i.0 m)
 
--- the end of a round, by posts and ends
+-- The end of a round: posts, and the ends of activations.
 wound : (s : Scenario) (w : World) → w.scenario ≡ s → behind oral_kind w [] ≡ happen oral_kind (run oral_kind (run oral_kind w (posts s)) (ends s)) Close
 unfolding posts ends
 wound s w e =
     ap (λ (c : Scenario). run oral_kind w (wound_up c)) e
     ∙ (run-append oral_kind (posts s) (ends s ++ Close ∷ []) w ∙ run-append oral_kind (ends s) (Close ∷ []) (run oral_kind w (posts s)))
 
--- a round ends alike before a turn of who makes no access any more and behind it
+-- The round ends the same whether his turn was taken before or not.
 pub goes_behind : (s : Scenario) (w : World) (x : ℕ) → IsOnTime oral_kind s w → GoesOn w x → will_ask (slice_get w.parts x) ≡ false → behind oral_kind (happen oral_kind w (Tick x)) [] ≡ behind oral_kind w []
 goes_behind s w x t m none =
     let mute : IsMute x w = record { a = m.a; at = m.at; mute = λ k. never k (length m.a.program) m.a (within s w x t m) (sym (ap will_ask m.at) ∙ none) } in

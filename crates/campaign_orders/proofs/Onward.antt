@@ -1,4 +1,4 @@
--- What one step of a layer makes of what its states stand for.
+-- What a step from one layer to the next does for the beginnings that its states represent.
 use Rattle.std.proofs.Common.{◌≡◌, ℕ, suc, ◌≤◌, List, [], ◌∷◌, ◌++◌, length, true, refl, sym, ◌∙◌, arith}
 use Rattle.std.specs.Prelude.{slice_get}
 use Rattle.round.specs.Scenario.{Scenario, IsScenario}
@@ -23,7 +23,7 @@ module _ (s : Scenario) (good : IsScenario s) (k : ℕ) (layer next done done_ne
       let way = way_is_out s k z.t (its_state s good k layer all rows names made z) good its in
       stands_closed s good k layer all rows names made z done_new count (nobody_asks oral_kind (reached o rows names) none) (nobody_asks oral_kind (reached o z.t.rows z.t.names) way) (x.closes k all fresh z.t z.has its)
 
--- rounds by the last
+-- Lists of rounds, split at the last.
 pub nothing : {A : Type 0} (xs : List A) → length xs ≡ 0 → xs ≡ []
 nothing [] e = refl
 nothing (x ∷ xs) e = absurd (omega arith)

@@ -1,4 +1,4 @@
--- Names and rounds behind which nothing comes.
+-- Names and rounds after which no further order comes.
 use Rattle.std.proofs.Common.{◌≡◌, ℕ, zero, suc, ◌+◌, ◌-◌, ◌<◌, ◌≤◌, List, [], ◌∷◌, ◌++◌, length, length-drop, map, take, drop, get_or, set, true, refl, sym, ap, ◌∙◌, Option, Some, None, arith}
 use Rattle.std.specs.Prelude.{filter, ◌==◌, bytes_eq}
 use Rattle.std.proofs.Common.{Vec}
@@ -13,7 +13,7 @@ use Rattle.campaign_orders.specs.Entering.{entered}
 use Rattle.campaign_orders.specs.Places.{AreElsewhere, IsNowhere}
 use Rattle.campaign_orders.specs.Succession.{least_above, turned_at, next_names, turned_in, next_order}
 
--- one round more
+-- One more round.
 pub names_more : (round k : ℕ) (ledger : List Access) → names_in round ledger (suc k) ≡ names_in round ledger k ++ map (λ a. a.general) (filter (λ a. a.round == (round + k)) ledger) ∷ []
 names_more round zero ledger = (let e : round ≡ round + 0 = omega arith in ap (λ (r : ℕ). map (λ a. a.general) (filter (λ a. a.round == r) ledger) ∷ []) e)
 names_more round (suc k) ledger =
@@ -29,13 +29,13 @@ order_more old new names ledger k round r so here is =
     ∙ ((λ i. so i ++ (here ∙ ap (λ (n : ℕ). map (λ a. a.general) (filter (λ a. a.round == n) ledger)) round_is) i ∷ [])
     ∙ (sym (names_more 1 k ledger) ∙ ap (λ (n : ℕ). names_in 1 ledger n) one)))
 
--- what turns behind some names turns behind all
+-- If the names from an index on have a next order, so do all names.
 pub turned_behind : (names : List ℕ) (place : ℕ) (next : List ℕ) → place ≤ length names → next_names (drop place names) ≡ Some next → next_names names ≡ Some (take place names ++ next)
 turned_behind names zero next le e = e
 turned_behind [] (suc place) next le e = absurd (omega arith)
 turned_behind (g ∷ names) (suc place) next le e = ap (λ (o : Option (List ℕ)). turned_at g o (least_above g names)) (turned_behind names place next (omega arith) e)
 
--- where it turns, with the list as code leaves it
+-- The names change at this index, in the list as the code has it.
 pub turned_there : (names : List ℕ) (place g h : ℕ) (behind after rest : List ℕ) → place < length names → next_names (drop (suc place) names) ≡ None → g ≡ get_or names place g → behind ≡ drop (suc place) names →
     Some h ≡ least_above g behind → after ≡ set names place h → rest ≡ take (suc place) after → Some rest ≡ next_names names
 turned_there names place g h behind after rest lt none here later least written kept =
@@ -56,7 +56,7 @@ turned_before names s place g h rest more le none here same least kept =
     turned_there names p g h (take (length s - (p + 1)) (drop (p + 1) s)) (set names p h) rest (omega arith) (ap (λ (n : ℕ). next_names (drop n names)) (sym is) ∙ none) here behind least refl
     (kept ∙ ap (λ (n : ℕ). take n (set names p h)) one)
 
--- a round more, in which nothing turns, and one in which it does
+-- One more round, which cannot change or does.
 pub passed : (order : List (List ℕ)) (names : List ℕ) → next_names names ≡ None → next_order (order ++ names ∷ []) ≡ next_order order
 passed [] names e = ap (λ (o : Option (List ℕ)). turned_in names None o) e
 passed (first ∷ order) names e = ap (λ (o : Option (List (List ℕ))). turned_in first o (next_names first)) (passed order names e)
@@ -65,7 +65,7 @@ pub turned : (order : List (List ℕ)) (names next : List ℕ) → next_names na
 turned [] names next e = ap (λ (o : Option (List ℕ)). turned_in names None o) e
 turned (first ∷ order) names next e = ap (λ (o : Option (List (List ℕ))). turned_in first o (next_names first)) (turned order names next e)
 
--- where an order more is entered
+-- One more order is counted.
 pub entered_there : (fs : List Finding) (place : ℕ) (ds : List ℕ) (order : List (List ℕ)) (old new : Finding) → place < length fs → AreElsewhere place fs ds → ((d : Finding) → bytes_eq (get_or fs place d).decisions ds ≡ true) →
     old ≡ get_or fs place old → new ≡ record old { count = old.count + 1 } → entered fs ds order ≡ set fs place new
 entered_there [] place ds order old new lt before here was is = absurd (omega arith)
@@ -80,7 +80,7 @@ pub entered_behind : (fs : List Finding) (ds : List ℕ) (order : List (List ℕ
 entered_behind [] ds order before = refl
 entered_behind (f ∷ fs) ds order before = rw (before 0 f (omega arith)) (λ i. f ∷ entered_behind fs ds order (λ k d l. before (suc k) d (omega arith)) i)
 
--- a round taken from the end of an order
+-- A round is removed from the end of an order.
 pub order_turned : (old front new : List (Vec ℕ Global)) (names next : Vec ℕ Global) → old ≡ front ++ names ∷ [] → Some next.items ≡ next_names names.items → new ≡ front ++ next ∷ [] →
     Some (lists_in new) ≡ next_order (lists_in old)
 order_turned old front new names next is turns made =

@@ -1,4 +1,4 @@
--- A line name by name, and a schedule line by line.
+-- A schedule's line is made name by name, and a schedule line by line.
 use Rattle.std.proofs.Common.{◌≡◌, ℕ, zero, suc, ◌+◌, ◌<◌, List, [], ◌∷◌, ◌++◌, length, drop, get_or, true, false, refl, sym, ap, subst, ◌∙◌, Some, append_assoc, append-nil, arith, drop-cons, Vec, Result, Ok, Err}
 use Rattle.std.specs.Prelude.{slice_get, IfOk}
 use Rattle.std.specs.Global.{Global}
@@ -22,7 +22,7 @@ use Rattle.campaign_orders.proofs.Leading.{replay_completes}
 use Rattle.campaign_orders.proofs.ScheduleLaws.{walks_played, orders_walk}
 use Rattle.campaign_orders.proofs.Deciding.{again}
 
--- the first of those from a place on
+-- The first of the names from an index on.
 pub names_at : (names : List ℕ) (i : ℕ) → i < length names → drop i names ≡ get_or names i 0 ∷ drop (i + 1) names
 names_at names i lt =
     let one : suc i ≡ i + 1 = omega arith in
@@ -38,7 +38,8 @@ if_ok_map (Ok x) P Q f h = f x h
 if_ok_map (Err x) P Q f h = tt
 
 module _ (K : Kind) where
-  -- from a start, so many names have made their accesses; what is said of the rest is said of all
+  -- States that the first names have made their accesses from the start, and that what the entries for the other names
+  -- are determines those for all.
   pub record IsOnLine (start : World) (names : List ℕ) (w : World) (rest : List ℕ) (i : ℕ) (made : List Repeat) : Type 0 where
     pub walk : IsWalk K w rest → IsWalk K start names
     pub stuck : (place : ℕ) → IsStuckAt K w rest place → IsStuckAt K start names (i + place)
@@ -76,7 +77,7 @@ module _ (K : Kind) where
       let A : ℕ → Type 0 = λ n. IsStuckAt K start names n in
       subst A e (h.stuck 0 none)
 
-  -- so it is with rounds
+  -- The same for rounds.
   pub record IsOnSchedule (start : World) (names : List (List ℕ)) (w : World) (rest : List (List ℕ)) (i : ℕ) (made : List (List Repeat)) : Type 0 where
     pub walk : AreWalks K w rest → AreWalks K start names
     pub stuck : (round place : ℕ) → IsStuckIn K w rest round place → IsStuckIn K start names (i + round) place
@@ -111,7 +112,7 @@ module _ (K : Kind) where
       let A : ℕ → Type 0 = λ n. IsStuckIn K start names n place in
       subst A e (h.stuck 0 place none)
 
-  -- who is stuck does not walk
+  -- If a general makes no further access at his turn, the names cannot make their accesses in this order.
   stuck_line : (w : World) (names : List ℕ) (place : ℕ) → IsStuckAt K w names place → IsWalk K w names → ⊥
   stuck_line w [] place s h = s
   stuck_line w (g ∷ names) zero s h = (let f = sym s ∙ h.0 in let c : false ≡ true = f in cc)

@@ -1,4 +1,4 @@
--- Worlds by their ways: an access more, and a round more.
+-- Worlds and the ways to them: one more access, and one more round.
 use Rattle.std.proofs.Common.{◌≡◌, ℕ, zero, suc, ◌+◌, ◌<◌, ◌≤◌, List, [], ◌∷◌, ◌++◌, length, true, false, Bool, refl, sym, ap, subst, ◌∙◌, ⊎_elim, arith, length-append, append-nil, take, get_or, Vec, None, Some}
 use Rattle.std.specs.Prelude.{◌-◌, slice_get, slice_index_or, filter, cond, nat_lt, sum_by}
 use Rattle.std.specs.Global.{Global}
@@ -29,7 +29,7 @@ use Rattle.campaign_orders.proofs.Bounded.{get_of}
 use Rattle.campaign_orders.proofs.Listed.{nobody}
 use Rattle.campaign_orders.proofs.Steady.{reached_time, run_more, runs_asks, runs_behind, runs_past, runs_scenario, runs_time}
 
--- a round more
+-- One more round.
 pub behind_more : (w : World) (rows : List (List ℕ)) (row : List ℕ) → behind_all w (rows ++ row ∷ []) ≡ behind oral_kind (behind_all w rows) row
 behind_more w [] row = refl
 behind_more w (r ∷ rows) row = behind_more (behind oral_kind w r) rows row
@@ -41,7 +41,7 @@ rounds_more w (x ∷ rows) row h r = (h.0, rounds_more (behind oral_kind w x) ro
 pub behind_events : (w : World) (names : List ℕ) → behind oral_kind w names ≡ run oral_kind (run oral_kind w (names_events oral_kind w names)) (wound_up w.scenario)
 behind_events w names = run-append oral_kind (names_events oral_kind w names) (wound_up w.scenario) w
 
--- a round more, as code plays it
+-- One more round, as the code plays it.
 pub round_played : (w v u : World) (rows : List (List ℕ)) (row : List ℕ) → v ≡ behind_all w rows → u ≡ run oral_kind (run oral_kind v (names_events oral_kind v row)) (wound_up v.scenario) → u ≡ behind_all w (rows ++ row ∷ [])
 round_played w v u rows row here played =
     played ∙ (sym (behind_events v row) ∙ (ap (λ (x : World). behind oral_kind x row) here ∙ sym (behind_more w rows row)))
@@ -59,7 +59,7 @@ pub played_last : (w v u : World) (rows : List (Vec ℕ Global)) (i : ℕ) (name
 played_last w v u rows i names le here played =
     played ∙ ap (λ (x : World). run oral_kind x (names_events oral_kind x names)) (here ∙ ap (λ (l : List (Vec ℕ Global)). behind_all w (lists_in l)) (take_all i rows le))
 
--- an access more
+-- One more access.
 pub events_first : (w : World) (g : ℕ) (names : List ℕ) → run oral_kind w (names_events oral_kind w (g ∷ names)) ≡ run oral_kind (past oral_kind w g) (names_events oral_kind (past oral_kind w g) names)
 events_first w g names = run-append oral_kind (ticks_named g (slice_get w.parts g)) (names_events oral_kind (past oral_kind w g) names) w
 
@@ -74,14 +74,14 @@ walk_more w (x ∷ names) g h asks =
     let A : World → Type 0 = λ v. will_ask (slice_get v.parts g) ≡ true in
     (h.0, walk_more (past oral_kind w x) names g h.1 (subst A (events_first w x names) asks))
 
--- nobody has one left
+-- Nobody makes a further access.
 walk_ends : (w : World) (names : List ℕ) → IsWalk oral_kind w names → ((g : ℕ) → will_ask (slice_get (run oral_kind w (names_events oral_kind w names)).parts g) ≡ false) → IsRoundFrom oral_kind w names
 walk_ends w [] h none = none
 walk_ends w (x ∷ names) h none =
     let A : World → Type 0 = λ v. (g : ℕ) → will_ask (slice_get v.parts g) ≡ false in
     (h.0, walk_ends (past oral_kind w x) names h.1 (subst A (events_first w x names) none))
 
--- a world behind some events of one that is reached
+-- Further events lead from a reached world to reached worlds.
 pub reached_behind : (w : World) (events : List Event) → IsReached oral_kind w → IsReached oral_kind (run oral_kind w events)
 reached_behind w events h = (
   h.0 ++ events,
@@ -101,7 +101,7 @@ all_scenario : (rows : List (List ℕ)) (w : World) → (behind_all w rows).scen
 all_scenario [] w = refl
 all_scenario (r ∷ rows) w = all_scenario rows (behind oral_kind w r) ∙ run_scenario oral_kind (names_events oral_kind w r ++ wound_up w.scenario) w
 
--- the world of a way
+-- The world at the end of a way.
 pub way_reached : (s : Scenario) (rows : List (List ℕ)) (names : List ℕ) → IsReached oral_kind (reached (opening oral_kind s) rows names)
 way_reached s rows names =
     let u = behind_all (opening oral_kind s) rows in
@@ -119,7 +119,7 @@ way_time s good rows names =
     let t = reached_time w (subst (λ (c : Scenario). IsScenario c) (sym e) good) (way_reached s rows names) in
     subst (λ (c : Scenario). IsOnTime oral_kind c w) e t
 
--- the world as the next round begins
+-- The world when the next round begins.
 pub closed_all : (s : Scenario) (rows : List (List ℕ)) (names : List ℕ) → behind_all (opening oral_kind s) (rows ++ names ∷ []) ≡ behind oral_kind (reached (opening oral_kind s) rows names) []
 closed_all s rows names =
     let u = behind_all (opening oral_kind s) rows in
@@ -138,7 +138,7 @@ module _ (s : Scenario) (k : ℕ) (t : State) (is : IsStateOf s k t) where
     pub state_time : IsOnTime oral_kind s t.world
     state_time = runs_time s is.world.0 (reached (opening oral_kind s) t.rows t.names) t.world (way_time s good t.rows t.names) is.world.1
 
-    -- an access more, from the world of its way or one that is run on from there
+    -- One more access, from the world at the end of a way, in which activations may have run on.
     pub past_state : (w : World) → IsRunOn (reached (opening oral_kind s) t.rows t.names) w → (g : ℕ) (next : State) → IsPastOf w t g (Some next) → IsStateOf s k next
     past_state w on g next (asks, ahead) =
         let o = opening oral_kind s in
@@ -157,7 +157,7 @@ module _ (s : Scenario) (k : ℕ) (t : State) (is : IsStateOf s k t) where
         let same : made ≡ next = (λ i. record { world = next.world; ways = next.ways; rows = sym ahead.rows i; names = sym ahead.names i }) in
         subst (λ (v : State). IsStateOf s k v) same of_made
 
-    -- nobody has one left
+    -- Nobody makes a further access.
     pub nobody_asks : askers t.world ≡ [] → (g : ℕ) → will_ask (slice_get (reached (opening oral_kind s) t.rows t.names).parts g) ≡ false
     nobody_asks none g = sym (runs_asks s is.world.0 (reached (opening oral_kind s) t.rows t.names) t.world (way_time s good t.rows t.names) is.world.1 g) ∙ nobody t.world none g
 
@@ -184,7 +184,7 @@ module _ (s : Scenario) (k : ℕ) (t : State) (is : IsStateOf s k t) where
           begins = begun;
         }
 
-    -- how many parts it has
+    -- How many parts a world has.
     few_from : (ps : List Progress) (n : ℕ) → ((g : ℕ) (part : Progress) → slice_get ps g ≡ Some part → g < n) → length ps ≤ n
     few_from ps n h =
         ⊎_elim (λ (e : nat_lt n (length ps) ≡ true). (let lt = ltb-true n (length ps) e in let l = h n (slice_index_or ps n Silent) (get_of ps n Silent lt) in omega arith)) (λ (e : nat_lt n (length ps) ≡ false). ltb-false n (length ps) e)
@@ -195,7 +195,7 @@ module _ (s : Scenario) (k : ℕ) (t : State) (is : IsStateOf s k t) where
         let here = state_time.kept in
         few_from t.world.parts s.generals (λ g part e. (let l = (here.parts g part e).0 in let c : t.world.scenario.generals ≡ s.generals = ap (λ (x : Scenario). x.generals) scenario_is in omega arith))
 
--- who asks, of so many
+-- Returns the generals below `n` who make a further access.
 abbrev pub askers_below : World → ℕ → List ℕ
 askers_below w n = filter (λ g. will_ask (slice_get w.parts g)) (generals n)
 

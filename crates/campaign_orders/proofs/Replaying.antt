@@ -1,4 +1,4 @@
--- What the replay of some names tells of its order and its outcome, in oral campaigns.
+-- The order and the outcome of a replay, in oral campaigns.
 use Rattle.std.proofs.Common.{◌≡◌, ℕ, suc, ◌+◌, ◌<◌, ◌≤◌, List, [], All, refl, sym, ap, subst, ◌∙◌, Some, None, Result, Ok, Err, Vec, arith}
 use Rattle.std.specs.Prelude.{OnOk, IfOk}
 use Rattle.std.specs.Global.{Global}
@@ -34,7 +34,7 @@ pub if_ok_along : {A E X : Type 0} (r : Result A E) (f : A → X) (a b : X) → 
 if_ok_along (Ok x) f a b e h = h ∙ e
 if_ok_along (Err x) f a b e h = tt
 
--- the world of the replay of these names
+-- Returns the world of the replay of these names.
 abbrev pub replay_at : Scenario → Order → World
 replay_at s names = kind.run oral_kind (kind.opening oral_kind s) (replayed oral_kind s names)
 
@@ -44,7 +44,7 @@ few_generals s is names k d lt =
     let few = is.few in
     omega arith
 
--- the chronicle of the replay, of a copy of the scenario
+-- The chronicle of the replay, for a copy of the scenario.
 module _ (s t : Scenario) (names : Order) (chronicle : Chronicle) (copy : t ≡ s) (told : chronicle ≡ chronicle_of (replay_at t names)) where
   told_is : chronicle ≡ chronicle_of (replay_at s names)
   told_is = told ∙ ap (λ (v : Scenario). chronicle_of (replay_at v names)) copy
@@ -60,7 +60,7 @@ module _ (s t : Scenario) (names : Order) (chronicle : Chronicle) (copy : t ≡ 
   pub order_is : (order : Order) (accesses : List Access) (rounds : ℕ) → accesses ≡ chronicle.accesses → rounds ≡ suc s.bound → order ≡ names_in 1 accesses rounds → order ≡ order_of oral_kind s (replayed oral_kind s names)
   order_is order accesses rounds e n o = o ∙ (λ i. names_in 1 ((e ∙ ap (λ (c : Chronicle). c.accesses) told_is) i) (n i))
 
--- from visit to visit
+-- Orders are visited one after another.
 module _ (s : Scenario) (is : IsScenario s) where
   pub visits_begin : (names : List (Vec ℕ Global)) (findings : List Finding) → names ≡ [] → findings ≡ [] → IsVisited oral_kind oral_outcome s 0 (lists_in names) findings
   visits_begin names findings n f =
@@ -68,7 +68,7 @@ module _ (s : Scenario) (is : IsScenario s) where
       let start = visit_first oral_kind oral_campaigns oral_outcome s is in
       subst (λ (o : List (Vec ℕ Global)). A (lists_in o) findings) (sym n) (subst (λ (l : List Finding). A [] l) (sym f) start)
 
-  -- what a visit has entered
+  -- States what a visit has entered.
   abbrev Entered : Order → List Finding → List Finding → Type 0
   Entered names findings new = new ≡ entered findings (outcome_in oral_kind oral_outcome s (replayed oral_kind s names)) (order_of oral_kind s (replayed oral_kind s names))
 
@@ -89,7 +89,7 @@ module _ (s : Scenario) (is : IsScenario s) where
       let A : List Finding → Type 0 = λ l. IsExplored oral_kind oral_outcome s l in
       subst A (sym here) (visit_last oral_kind oral_campaigns oral_outcome s is n (lists_in names) findings v stops)
 
-  -- of each outcome the least order that leads there
+  -- The example of each outcome is the least order that leads to it.
   pub visits_first : (n : ℕ) (names slice : List (Vec ℕ Global)) (findings new : List Finding) → IsVisited oral_kind oral_outcome s n (lists_in names) findings → slice ≡ names →
       Entered (lists_in slice) findings new → None ≡ next_order (order_of oral_kind s (replayed oral_kind s (lists_in slice))) → AreFirst oral_kind oral_campaigns oral_outcome s is new
   visits_first n names slice findings new v same made e =
@@ -107,7 +107,7 @@ module _ (s : Scenario) (is : IsScenario s) where
       let e = ap counted_in here in
       omega arith
 
-  -- the examples of an exploration are orders
+  -- The examples of an exploration are orders.
   pub all_orders : (most : ℕ) (e : Exploration) → IsExploration oral_kind oral_outcome s most e → All (λ (f : Finding). IsOrder oral_kind s f.example) e.findings
   all_orders most e h = by e.reach refl
     where
@@ -116,7 +116,7 @@ module _ (s : Scenario) (is : IsScenario s) where
       by Beyond t = All-weaker (IsCappedFinding oral_kind oral_outcome s) (λ (f : Finding). IsOrder oral_kind s f.example) (λ f k. k.real.example) e.findings (h.beyond t).1.each
       by InPart t = All-weaker (IsLowerFinding oral_kind oral_outcome s) (λ (f : Finding). IsOrder oral_kind s f.example) (λ f k. k.real.example) e.findings (h.part t).1.each
 
-  -- and have schedules
+  -- The examples have schedules.
   pub all_walk : (most : ℕ) (e : Exploration) → IsExploration oral_kind oral_outcome s most e → All (λ (f : Finding). AreWalks oral_kind (kind.opening oral_kind s) f.example) e.findings
   all_walk most e h =
       All-weaker (λ (f : Finding). IsOrder oral_kind s f.example) (λ (f : Finding). AreWalks oral_kind (kind.opening oral_kind s) f.example)
@@ -127,7 +127,7 @@ module _ (s : Scenario) (is : IsScenario s) where
       let A : ℕ → Type 0 = λ m. IsExploredInPart oral_kind oral_outcome s m findings in
       subst A e (visit_limit oral_kind oral_campaigns oral_outcome s is n (lists_in names) findings v)
 
--- all orders, fewer than a limit, are all within a greater one
+-- If all orders are within a limit, they are within a greater one.
 pub whole_within : (s : Scenario) (n most : ℕ) (e : Exploration) → n ≤ most → e.reach ≡ Whole → IsExploration oral_kind oral_outcome s n e → IsExploration oral_kind oral_outcome s most e
 whole_within s n most e le whole h = record {
   few = λ r. (let l = h.few r in omega arith);

@@ -1,4 +1,4 @@
--- Numbers that rise, and which of them are beyond one.
+-- Ascending numbers, and those of them that are greater than one.
 use Rattle.std.proofs.Common.{◌≡◌, ℕ, zero, suc, ◌+◌, ◌<◌, ◌≤◌, List, [], ◌∷◌, length, Bool, true, false, cond, refl, sym, ap, subst, ◌∙◌, ◌⊎◌, inl, inr, ⊎_elim, Option, Some, None, arith}
 use Rattle.std.specs.Prelude.{slice_get, filter, nat_lt}
 use Rattle.std.specs.List.{range_with_len}
@@ -9,7 +9,7 @@ use Rattle.campaign_orders.specs.Listing.{Has, askers}
 use Rattle.campaign_orders.specs.Succession.{lesser, least_above}
 use Rattle.campaign_orders.proofs.Listed.{passes_of}
 
--- what is least above
+-- The least number that is greater than another.
 pub least_none : (g : ℕ) (names : List ℕ) → least_above g names ≡ None → (k : ℕ) → Has names k → k ≤ g
 least_none g [] e k h = absurd h
 least_none g (x ∷ names) e k h = by (λ f m. least_none g names f k m) (nat_lt g x) refl e
@@ -47,7 +47,7 @@ least_some g (x ∷ names) h e = by (nat_lt g x) refl (least_above g names) refl
           least = λ k m less. ⊎_elim (λ (q : x ≡ k). omega arith) (λ n. (let le = later.least k n less in omega arith)) m;
         }
 
--- each is below those behind it
+-- States that each number is less than those after it.
 abbrev pub IsRising : List ℕ → Type 0
 IsRising [] = Unit {0}
 IsRising (x ∷ xs) = ((y : ℕ) → Has xs y → x < y) × IsRising xs
@@ -63,7 +63,7 @@ pub none_over : (g : ℕ) (xs : List ℕ) → ((y : ℕ) → Has xs y → y ≤ 
 none_over g [] h = refl
 none_over g (x ∷ xs) h = rw (le-ltb g x (h x (inl refl))) (none_over g xs (λ y k. h y (inr k)))
 
--- the first, and those beyond it
+-- The first number, and the ones that are greater.
 pub first_over : (g : ℕ) (xs : List ℕ) → IsRising xs → Has xs g → ((y : ℕ) → Has xs y → g ≤ y) → xs ≡ g ∷ beyond g xs
 first_over g [] r h l = absurd h
 first_over g (x ∷ xs) r h l = ⊎_elim (λ (e : x ≡ g). here e) (λ k. absurd (let a = r.0 g k in let b = l x (inl refl) in omega arith)) h
@@ -73,7 +73,7 @@ first_over g (x ∷ xs) r h l = ⊎_elim (λ (e : x ≡ g). here e) (λ k. absur
         let p : beyond g (x ∷ xs) ≡ xs = rw (le-ltb g x (omega arith)) (over_all g xs (λ y k. (let m = r.0 y k in omega arith))) in
         λ i. e i ∷ sym p i
 
--- the first beyond one, and those beyond that
+-- The next greater number, and the ones that are greater than this.
 pub next_over : (g h : ℕ) (xs : List ℕ) → IsRising xs → Has xs h → g < h → ((y : ℕ) → Has xs y → g < y → h ≤ y) → beyond g xs ≡ h ∷ beyond h xs
 next_over g h [] r has lt l = absurd has
 next_over g h (x ∷ xs) r has lt l = by (λ k. next_over g h xs r.1 k lt (λ y m. l y (inr m))) (cases_lt g x)

@@ -1,4 +1,4 @@
--- Turns that ask nothing may be taken before their time.
+-- Turns that are no requests may be taken early.
 use Rattle.std.proofs.Common.{◌≡◌, ◌≢◌, ℕ, zero, suc, List, [], ◌∷◌, length, true, false, refl, sym, ap, subst, ◌∙◌, ◌⊎◌, inl, inr, ⊎_elim, Option, Some, None}
 use Rattle.std.specs.Prelude.{slice_get, slice_set, replicate, ◌==◌}
 use Rattle.std.proofs.lemmas.Bool.Decides.{eqb_tells}
@@ -23,7 +23,7 @@ use Rattle.campaign_orders.specs.Ahead.{AsksNothing, IsQuiet}
 use Rattle.campaign_orders.specs.Orders.{asks_or, asks_within, will_ask, past}
 use Rattle.campaign_orders.proofs.Walking.{within_zero}
 
--- whoever is over after so many turns, asks within these or never, and has as many turns up to it
+-- An activation that ends within `k` turns makes a request within these or never, and more turns change nothing.
 asks_stable_by : (k : ℕ) → ((b : Activation) → Within k b → asks_within (suc k) b ≡ asks_within k b) → (o : Turn) → WithinAfter k o → asks_or (asks_within (suc k)) o ≡ asks_or (asks_within k) o
 asks_stable_by k again (Goes b) h = again b h
 asks_stable_by k again (Asks q f) h = refl
@@ -42,7 +42,7 @@ until_stable : (k : ℕ) (a : Activation) → Within k a → until_access (suc k
 until_stable zero a h = ap (further_turns (until_access zero)) (over_ended a (within_zero a h))
 until_stable (suc k) a h = until_stable_by k (λ b w. until_stable k b w) (turn a) (turn_left k a h)
 
--- one turn on, it asks as before, and has one turn less
+-- After one turn it makes the same requests, and has one turn less.
 on_asks : (k : ℕ) (a b : Activation) → Within k a → turn a ≡ Goes b → asks_within k a ≡ asks_within k b
 on_asks zero a b h e = refl
 on_asks (suc k) a b h e =
@@ -55,7 +55,7 @@ on_until (suc k) a b h e =
     let left : Within k b = subst (λ (o : Turn). WithinAfter k o) e (turn_left k a h) in
     ap (further_turns (until_access k)) e ∙ ap suc (sym (until_stable k b left))
 
--- who will not ask in time never does
+-- If it makes no request in time, it never does.
 never_by : (k l : ℕ) → ((b : Activation) → Within l b → asks_within l b ≡ false → asks_within k b ≡ false) → (o : Turn) → WithinAfter l o → asks_or (asks_within l) o ≡ false → asks_or (asks_within k) o ≡ false
 never_by k l again (Goes b) h e = again b h e
 never_by k l again (Asks q f) h e = absurd (let g : true ≡ false = e in cc)
@@ -66,7 +66,7 @@ never zero l a h e = refl
 never (suc k) zero a h e = ap (asks_or (asks_within k)) (over_ended a (within_zero a h))
 never (suc k) (suc l) a h e = never_by k l (λ b w f. never k l b w f) (turn a) (turn_left l a h) e
 
--- a quiet turn goes on, or changes nothing
+-- A turn that is no request goes on, or changes nothing.
 pub record GoesOn (w : World) (x : ℕ) : Type 0 where
   pub a : Activation
   pub b : Activation
@@ -87,14 +87,14 @@ quiet_part w x (Some Posted) at q = inl tt
 pub quiet_is : (w : World) (x : ℕ) → IsQuiet (slice_get w.parts x) → (happen oral_kind w (Tick x) ≡ w) ⊎ GoesOn w x
 quiet_is w x q = ⊎_elim (λ (h : IsStill (slice_get w.parts x)). inl (still_tick oral_kind w x (slice_get w.parts x) refl h)) (λ (m : GoesOn w x). inr m) (quiet_part w x (slice_get w.parts x) refl q)
 
--- the world with that turn
+-- Returns the world in which this turn was taken.
 abbrev pub on : World → ℕ → Activation → World
 on w x b = record w { parts = slice_set w.parts x (Acting b) }
 
 pub goes_is : (w : World) (x : ℕ) (m : GoesOn w x) → happen oral_kind w (Tick x) ≡ on w x m.b
 goes_is w x m = tick_is oral_kind w x m.a (Goes m.b) m.at m.turns
 
--- what others do comes to the same before it and behind it
+-- Events of others have the same effect before and after it.
 set_swap : (xs : List Progress) (i j : ℕ) (u v : Progress) → j ≢ i → slice_set (slice_set xs i u) j v ≡ slice_set (slice_set xs j v) i u
 set_swap [] i j u v ne = refl
 set_swap (y ∷ ys) zero zero u v ne = absurd (ne refl)
@@ -138,7 +138,7 @@ module _ (x g : ℕ) (ne : g ≢ x) where
   named_on w b (Some Silent) = refl
   named_on w b (Some Posted) = refl
 
-  -- and leaves it where it was
+  -- They do not change the general's part.
   other : x ≢ g
   other e = ne (sym e)
 
@@ -175,7 +175,7 @@ module _ (x g : ℕ) (ne : g ≢ x) where
   named_at w (Some Silent) = refl
   named_at w (Some Posted) = refl
 
-  -- so another's next access leaves the turn to be taken
+  -- So after another general's next access the turn can still be taken.
   abbrev pub past_goes : (w : World) (m : GoesOn w x) → GoesOn (past oral_kind w g) x
   past_goes w m = record { a = m.a; b = m.b; at = named_at w (slice_get w.parts g) ∙ m.at; turns = m.turns }
 
@@ -184,7 +184,7 @@ module _ (x g : ℕ) (ne : g ≢ x) where
       ap (λ (o : Option Progress). run oral_kind (on w x m.b) (ticks_named g o)) (set-other w.parts x g (Acting m.b) ne)
       ∙ (named_on w m.b (slice_get w.parts g) ∙ sym (goes_is (past oral_kind w g) x (past_goes w m)))
 
--- his own next access is the same
+-- The general's own next access is the same.
 module _ (s : Scenario) (w : World) (x : ℕ) (t : IsOnTime oral_kind s w) (m : GoesOn w x) where
   due : IsDue s x m.a
   due = t.due x (Acting m.a) m.at

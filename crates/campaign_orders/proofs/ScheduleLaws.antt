@@ -1,4 +1,4 @@
--- Schedules of orders.
+-- Schedules for orders of accesses.
 use Rattle.std.proofs.Common.{◌≡◌, ℕ, zero, suc, ◌+◌, ◌<◌, List, [], ◌∷◌, ◌++◌, length, map, true, false, refl, sym, ap, subst, ◌∙◌, Option, Some, None, append_assoc, arith}
 use Rattle.std.specs.Prelude.{slice_get, filter, nat_lt, replicate}
 use Rattle.std.proofs.lemmas.Bool.{lt-ltb}
@@ -41,7 +41,7 @@ named_again g (Some Silent) = refl
 named_again g (Some Posted) = refl
 
 module _ (K : Kind) where
-  -- who asks is a general with a program
+  -- A general who makes a further access is one with a program.
   asker_has : (s : Scenario) (w : World) → IsOnTime K s w → (g : ℕ) (o : Option Progress) → slice_get w.parts g ≡ o → will_ask o ≡ true → (g < s.generals) × (program : List Insn) × (program_of s g ≡ Some program)
   asker_has s w d g None e y = absurd (let f : false ≡ true = y in cc)
   asker_has s w d g (Some (Acting a)) e y =

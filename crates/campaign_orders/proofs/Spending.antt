@@ -1,4 +1,5 @@
--- How long the text of a schedule can be: each access takes two steps, but for a general's first in a round.
+-- How long the text of a schedule can be. Each access takes at least two steps, except for a general's first in a
+-- round.
 use Rattle.std.proofs.Common.{◌≡◌, ◌≢◌, ℕ, zero, suc, ◌+◌, ◌*◌, ◌<◌, ◌≤◌, List, [], ◌∷◌, ◌++◌, length, set, get_or, Bool, true, false, cond, refl, sym, ap, subst, ◌∙◌, ◌⊎◌, inl, inr, ⊎_elim, Option, Some, None, arith, All, length-append}
 use Rattle.std.specs.Prelude.{slice_get, replicate, decimal, sum_by, ◌==◌}
 use Rattle.std.specs.List.{flat_map}
@@ -156,7 +157,7 @@ set_long [] k v = refl
 set_long (p ∷ ps) zero v = refl
 set_long (p ∷ ps) (suc k) v = ap suc (set_long ps k v)
 
--- at most so many at the start of a round
+-- Returns the most turns that a general has at the start of a round.
 abbrev full : ℕ
 full = 4097
 
@@ -176,7 +177,7 @@ ticks_many : (n g : ℕ) → length (replicate n (Tick g)) ≡ n
 ticks_many zero g = refl
 ticks_many (suc n) g = ap suc (ticks_many n g)
 
--- a general's turns up to his access
+-- A general's turns up to his access.
 record Spent (v : World) (g n t : ℕ) : Type 0 where
   b : Activation
   now : slice_get v.parts g ≡ Some (Acting b)
@@ -209,7 +210,7 @@ module _ (K : Kind) where
       absurd (let f : false ≡ true = sym (ap (asks_or (asks_within fuel)) (over_ended a (within_zero a h))) ∙ will in cc)
   spent (suc fuel) (suc n) w g a at board h will = spent_by fuel n w g a at board (λ v b at' board' h' will'. spent fuel n v g b at' board' h' will') (turn a) refl (turn_left n a h) (then_quiet a) will
 
-  -- each access is paid with turns
+  -- Each access uses up turns.
   record Paid (ps : List ℕ) (w v : World) (entry : Repeat) : Type 0 where
     later : List ℕ
     have : HaveLeft later v
@@ -358,6 +359,6 @@ module _ (K : Kind) where
         let c = length-append (line_text (entries_from K w line)) (schedule_text (schedule_from K (behind K w line) names)) in
         omega arith
 
-    -- the text of the schedule of some names is not too long to be read
+    -- The text of a schedule is short enough to be read.
     pub text_short : (names : List (List ℕ)) → length names ≤ 5 → AreWalks K (opening K s) names → length (schedule_text (schedule_from K (opening K s) names)) ≤ 1048576
     text_short names five walks = (let cost = lines_cost names [] (opening K s) refl walks in omega arith)

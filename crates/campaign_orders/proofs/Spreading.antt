@@ -1,4 +1,4 @@
--- A layer gives way to the next, state by state and access by access.
+-- A layer is replaced by the next one, state by state and access by access.
 use Rattle.std.proofs.Common.{◌≡◌, ℕ, suc, ◌+◌, ◌*◌, ◌-◌, ◌^◌, ◌<◌, ◌≤◌, List, [], ◌∷◌, ◌++◌, length, drop, get_or, reverse, take, Bool, true, false, refl, sym, ap, subst, ◌∙◌, inl, ⊎_elim, arith, All, Some, append-nil, append_assoc, length-append}
 use Rattle.std.specs.Prelude.{slice_get, sum_by, ◌||◌}
 use Rattle.std.proofs.lemmas.Bool.{cases_lt}
@@ -29,14 +29,14 @@ use Rattle.campaign_orders.proofs.Steady.{round_steady, zero_steady, runs_asks, 
 use Rattle.campaign_orders.proofs.Standing.{ending, entered_made, entered_stands, stands_own, walk_front, walk_last}
 use Rattle.campaign_orders.proofs.Weighing.{as_more, entered_weighs, entered_states, entered_fresh}
 
--- all of one scenario
+-- All states have the same scenario.
 pub states_scenario : (s : Scenario) (k : ℕ) (states : List State) → AreStatesOf s k states → All (λ (u : State). u.world.scenario ≡ s) states
 states_scenario s k states all = All-weaker (IsStateOf s k) (λ (u : State). u.world.scenario ≡ s) (λ u h. scenario_is s k u h) states all
 
 pub fresh_states : (s : Scenario) (k : ℕ) (states : List State) → AreFreshOf s k states → AreStatesOf s k states
 fresh_states s k states all = All-weaker (IsFreshOf s k) (IsStateOf s k) (λ u h. h.state) states all
 
--- so many generals have been asked
+-- States that the states after an access of each of the first `n` generals are entered.
 pub record IsSpread (s : Scenario) (t : State) (n : ℕ) (old new : List State) (asked : Bool) : Type 0 where
   pub states : (k : ℕ) → IsStateOf s k t → AreStatesOf s k old → AreStatesOf s k new
   pub weight : (k : ℕ) (f : World → ℕ) → IsStateOf s k t → AreStatesOf s k old → IsCommon f → IsSteady f →
@@ -78,7 +78,7 @@ spread_none s t n old new asked h idle =
       some = λ a b. h.some a (sym e ∙ b);
     }
 
--- a world in which they are asked: that of the state's way, or one that is run on from there
+-- A world from which accesses are made: the one at the end of the state's way, in which activations may have run on.
 pub record IsBase (s : Scenario) (t : State) (w : World) : Type 0 where
   pub good : IsScenario s
   pub from : IsRunOn (reached (opening oral_kind s) t.rows t.names) w
@@ -94,11 +94,11 @@ module _ (s : Scenario) (t : State) (w : World) (base : IsBase s t w) where
   base_time : IsOnTime oral_kind s w
   base_time = runs_time s base.from.0 (reached (opening oral_kind s) t.rows t.names) w (way_time s base.good t.rows t.names) base.from.1
 
-  -- they are those who are asked in the state's own world
+  -- The same generals make further accesses in the state's own world.
   same_asks : (g : ℕ) → will_ask (slice_get t.world.parts g) ≡ will_ask (slice_get w.parts g)
   same_asks g = runs_asks s base.to.0 w t.world base_time base.to.1 g
 
-  -- and what comes behind the access is the same
+  -- What follows after the access is the same.
   same_past : (f : World → ℕ) → IsSteady f → (g : ℕ) (v : World) → IsRunOn (past oral_kind w g) v → f v ≡ f (past oral_kind t.world g)
   same_past f steady g v on =
       let ticks = ticks_named g (slice_get w.parts g) in
@@ -148,20 +148,20 @@ module _ (s : Scenario) (t : State) (w : World) (base : IsBase s t w) where
   spread_more n old mid new true true h (next, is, entered) = spread_some next n old mid new true h is entered
   spread_more n old mid new false true h (next, is, entered) = spread_some next n old mid new false h is entered
 
--- run on from a state's beginning, by the state's own scenario
+-- Activations have run on from the world at the end of the state's way, with the state's own scenario.
 pub own_run : (s : Scenario) (t u : State) → u ≡ t → IsRunOn (reached (opening oral_kind s) t.rows t.names) t.world → IsRunOn (reached (opening oral_kind u.world.scenario) u.rows u.names) u.world
 own_run s t u same run =
     let own : t.world.scenario ≡ s = runs_scenario run.0 (reached (opening oral_kind s) t.rows t.names) t.world run.1 ∙ way_scenario s t.rows t.names in
     subst (λ (v : State). IsRunOn (reached (opening oral_kind v.world.scenario) v.rows v.names) v.world) (sym same)
     (subst (λ (c : Scenario). IsRunOn (reached (opening oral_kind c) t.rows t.names) t.world) (sym own) run)
 
--- a general is asked of a state that is the same
+-- One more general's access is considered.
 pub spread_next : (s : Scenario) (t u : State) (n : ℕ) (old mid new : List State) (asked one : Bool) → IsScenario s → IsRunOn (reached (opening oral_kind s) t.rows t.names) t.world → u ≡ t
     → IsSpread s t n old mid asked → IsAsked u.world u n mid one new → IsSpread s t (n + 1) old new (asked || one)
 spread_next s t u n old mid new asked one good run same h asks =
     spread_more s t t.world (record { good = good; from = run; to = ([], refl) }) n old mid new asked one h (subst (λ (v : State). IsAsked v.world v n mid one new) same asks)
 
--- the state as the next round begins
+-- The state when the next round begins.
 pub shut_is : (s : Scenario) (t u shut : State) → u ≡ t
     → shut ≡ record { world = behind_all (opening oral_kind s) (u.rows ++ u.names ∷ []); ways = u.ways; rows = u.rows ++ u.names ∷ []; names = [] }
     → shut ≡ record { world = behind oral_kind (reached (opening oral_kind s) t.rows t.names) []; ways = t.ways; rows = t.rows ++ t.names ∷ []; names = [] }
@@ -170,7 +170,7 @@ shut_is s t u shut same is =
     ∙ ((λ i. record { world = behind_all (opening oral_kind s) ((same i).rows ++ (same i).names ∷ []); ways = (same i).ways; rows = (same i).rows ++ (same i).names ∷ []; names = [] })
     ∙ (λ i. record { world = closed_all s t.rows t.names i; ways = t.ways; rows = t.rows ++ t.names ∷ []; names = [] }))
 
--- who is to make an access is one of the generals
+-- Who makes a further access is a general of the campaign.
 asks_within : (s : Scenario) (k : ℕ) (t : State) → IsScenario s → IsStateOf s k t → (g : ℕ) → will_ask (slice_get t.world.parts g) ≡ true → g < s.generals
 asks_within s k t good is g asks =
     let few = few_parts s k t is good in
@@ -178,7 +178,7 @@ asks_within s k t good is g asks =
     omega arith
 
 module _ (s : Scenario) (t : State) (next done new : List State) where
-  -- somebody had an access left
+  -- Some general makes a further access.
   pub expanded_on : IsScenario s → IsSpread s t s.generals next new true → IsExpanded s t next done new done
   expanded_on good h = record {
     states = h.states;
@@ -199,7 +199,7 @@ module _ (s : Scenario) (t : State) (next done new : List State) where
     closes = λ k is all none. absurd (h.some refl (all_askers t.world s.generals (few_parts s k t is good) ∙ none));
   }
 
-  -- nobody had
+  -- No general makes a further access.
   pub expanded_out : (shut : State) (done_new : List State) → IsSpread s t s.generals next new false → shut ≡ record { world = behind oral_kind (reached (opening oral_kind s) t.rows t.names) []; ways = t.ways; rows = t.rows ++ t.names ∷ []; names = [] } → IsEntered done shut done_new →
       IsScenario s → IsExpanded s t next done new done_new
   expanded_out shut done_new h shut_is entered good =
@@ -281,7 +281,7 @@ step_more s seen next mid done done_mid done_new t h x = record {
       (has-append_of seen (t ∷ []) u here);
 }
 
--- a list that was turned round in its place
+-- A list is reversed in its place.
 front_of : (xs zs : List State) → take (length xs) (xs ++ zs) ≡ xs
 front_of [] zs = refl
 front_of (x ∷ xs) zs = ap (λ (l : List State). x ∷ l) (front_of xs zs)
@@ -294,7 +294,7 @@ pub none_left : (left : List State) (n : ℕ) → n ≡ length left → n ≡ 0 
 none_left [] n count none = refl
 none_left (t ∷ left) n count none = absurd (omega (arith, count, none))
 
--- these of a layer have given way, and these, the last at the front, are left
+-- States that some states of the layer are replaced, and the others are left, the next one as the last.
 pub record IsSteppingOn (s : Scenario) (layer left next done done_new : List State) : Type 0 where
   pub seen : List State
   pub step : IsStep s seen next done done_new
@@ -315,7 +315,7 @@ stepping_begins s layer left next done none is = record {
   all = ap reverse is ∙ reverse-reverse layer;
 }
 
--- one more leaves
+-- One more state is replaced.
 left_more : (layer seen left rest : List State) (t : State) → seen ++ reverse left ≡ layer → left ≡ rest ++ t ∷ [] → (seen ++ t ∷ []) ++ reverse rest ≡ layer
 left_more layer seen left rest t all popped =
     append_assoc seen (t ∷ []) (reverse rest) ∙ (ap (λ (l : List State). seen ++ l) (sym (ap reverse popped ∙ reverse-append rest (t ∷ []))) ∙ all)
@@ -332,7 +332,7 @@ pub stepping_ends : (s : Scenario) (layer left next done done_new : List State) 
 stepping_ends s layer left next done done_new on none =
     subst (λ (l : List State). IsStep s l next done done_new) (sym (append-nil on.seen) ∙ (ap (λ (l : List State). on.seen ++ reverse l) (sym none) ∙ on.all)) on.step
 
--- one that is left is of the layer
+-- A state that is left is one of the layer.
 all_left : (P : State → Type 0) (xs ys : List State) (t : State) → All P (xs ++ t ∷ ys) → P t
 all_left P xs ys t all =
     let long = length-append xs (t ∷ ys) in
@@ -350,7 +350,7 @@ left_is_state s k layer left rest next done done_new t on popped all =
     let e : on.seen ++ (t ∷ reverse rest) ≡ layer = ap (λ (l : List State). on.seen ++ l) (sym (ap reverse popped ∙ reverse-append rest (t ∷ []))) ∙ on.all in
     all_left (IsStateOf s k) on.seen (reverse rest) t (subst (λ (l : List State). AreStatesOf s k l) (sym e) all)
 
--- so many accesses of a round are made
+-- States that this many accesses of a round are made.
 pub record IsUnderWay (s : Scenario) (most made : ℕ) (first layer done : List State) : Type 0 where
   pub states : (k : ℕ) → AreStatesOf s k first → AreStatesOf s k layer
   pub fresh : (k : ℕ) → AreStatesOf s k first → AreFreshOf s (suc k) done
@@ -380,7 +380,7 @@ way_begins s most first done none = record {
 weighed_each : (f g : World → ℕ) → ((w : World) → f w ≡ g w) → (states : List State) → weighed f states ≡ weighed g states
 weighed_each f g h states = λ i. sum_by (λ (t : State). t.ways * h t.world i) states
 
--- a round of no more accesses than were made is closed
+-- A round with no more accesses than that is closed.
 closes_more : (s : Scenario) (most made : ℕ) (first layer done next done_new : List State) → IsUnderWay s most made first layer done → IsStep s layer next done done_new
     → (k : ℕ) → IsScenario s → AreFreshOf s k first → (rows : List (List ℕ)) → length rows ≡ k → StandsFor s first rows []
     → (names : List ℕ) → length names ≤ made → IsRoundFrom oral_kind (behind_all (opening oral_kind s) rows) names → StandsFor s done_new (rows ++ names ∷ []) []
@@ -437,7 +437,7 @@ way_ends s most made first layer done next done_new le ge h x = record {
   stands = λ k good all rows count z row round few. closes_more s most made first layer done next done_new h x k good all rows count z row (omega arith) round;
 }
 
--- so many rounds are over
+-- States that this many rounds are closed.
 pub record IsOnRounds (s : Scenario) (rounds made : ℕ) (states : List State) : Type 0 where
   pub fresh : AreFreshOf s made states
   pub weight : (h : World → ℕ) → IsCommon h → AsKept (weighed (over_rounds (most_in_round s) (rounds - made) h) states) (over_rounds (most_in_round s) rounds h (opening oral_kind s))

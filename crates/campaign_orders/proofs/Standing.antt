@@ -1,4 +1,4 @@
--- A state stands for each beginning of an order, and one that is no greater begins it.
+-- For each beginning of an order there is a state that represents it, whose own beginning is no greater.
 use Rattle.std.proofs.Common.{◌≡◌, ℕ, zero, suc, ◌+◌, ◌<◌, List, [], ◌∷◌, ◌++◌, length, set, get_or, Bool, true, false, cond, refl, sym, ap, subst, ◌∙◌, ◌⊎◌, inl, inr, ⊎_elim, arith, All}
 use Rattle.std.specs.Prelude.{slice_get}
 use Rattle.std.specs.Ordering.{is_lt, is_gt}
@@ -117,7 +117,7 @@ module _ (s : Scenario) (good : IsScenario s) where
       sym (steady w t.world (subst (λ (c : Scenario). IsScenario c) (sym (way_scenario s t.rows t.names)) good) (way_reached s t.rows t.names) is.world)
 
 module _ (s : Scenario) (k : ℕ) (states : List State) (t : State) (new : List State) (entered : IsEntered states t new) (all : AreStatesOf s k states) (one : IsStateOf s k t) where
-  -- for what one of these stands, still one does
+  -- What was represented before still is.
   pub entered_stands : StandsOn s states new
   entered_stands rows names z = by entered
     where
@@ -144,7 +144,7 @@ module _ (s : Scenario) (k : ℕ) (states : List State) (t : State) (new : List 
                     ∙ (ap (λ (u : State). f u.world) (sym here) ∙ sym (joined_world f j.was t (common j.was.world t.world (j.alike (was ∙ sym (scenario_is s k t one))))));
               }
 
-  -- and one stands for its own beginning
+  -- The new state represents its own beginning.
   pub stands_own : IsScenario s → StandsFor s new t.rows t.names
   stands_own good = by entered
     where
@@ -189,7 +189,7 @@ module _ (s : Scenario) (good : IsScenario s) (k : ℕ) (layer : List State) (al
   its_names : length z.t.names ≡ length names
   its_names = all_has (λ (u : State). length u.names ≡ length names) layer z.t made z.has
 
-  -- who is to make an access is so in its world
+  -- A general who makes a further access does so in the state's world, too.
   pub its_asks : (g : ℕ) → will_ask (slice_get (reached (opening oral_kind s) rows names).parts g) ≡ will_ask (slice_get z.t.world.parts g)
   its_asks g = told_by (will_ask (slice_get (reached (opening oral_kind s) rows names).parts g)) (will_ask (slice_get z.t.world.parts g)) (z.same (asks g) (asks_common g) (asks_steady g))
 
@@ -209,7 +209,7 @@ module _ (s : Scenario) (good : IsScenario s) (k : ℕ) (layer : List State) (al
             ∙ (sym (own_world s good k z.t its_state h steady') ∙ (ap f (sym (names_more (behind_all o z.t.rows) z.t.names g)) ∙ v.same f common steady)));
       }
 
-  -- where nobody is to make one, the round is over
+  -- If nobody makes one there, the round is over.
   pub its_end : ((g : ℕ) → will_ask (slice_get (reached (opening oral_kind s) rows names).parts g) ≡ false) → (g : ℕ) → will_ask (slice_get z.t.world.parts g) ≡ false
   its_end none g = sym (its_asks g) ∙ none g
 

@@ -1,4 +1,4 @@
--- States as code makes them.
+-- States as the code makes them.
 use Rattle.std.proofs.Common.{◌≡◌, ℕ, ◌<◌, List, [], ◌∷◌, ◌++◌, length, get_or, inr, sym, ap, subst, ◌∙◌, Result, Ok, Err, Vec}
 use Rattle.std.specs.Global.{Global}
 use Rattle.std.specs.Prelude.{OnOk}
@@ -18,7 +18,7 @@ use Rattle.campaign_orders.specs.Outcomes.{oral_outcome}
 use Rattle.campaign_orders.specs.Stages.{world_at}
 use Rattle.campaign_orders.proofs.Reaching.{way_scenario}
 
--- a round that is played again from its start
+-- A round that is played again from the start.
 pub played_open : (s : Scenario) (rows : List (List ℕ)) (names : List ℕ) (w : World) (o : OpenRound) → w ≡ reached (opening oral_kind s) rows names → o ≡ record { start = w; words = w.words; parts = w.parts }
     → world_in rows names o ≡ reached (opening oral_kind s) rows names
 played_open s rows names w o played is =
@@ -27,18 +27,18 @@ played_open s rows names w o played is =
     ap (world_in rows names) (is ∙ ap begun played)
     ∙ ap (λ (c : Scenario). record (reached (opening oral_kind c) rows names) { closed = r.closed; words = r.words; parts = r.parts }) (way_scenario s rows names)
 
--- a state by its fields
+-- A state, given by its fields.
 module _ (t : State) (rows : List (List ℕ)) (names : List ℕ) (stage : Stage) (ways : ℕ)
     (seen : record { world = world_at rows names stage; ways = ways; rows = rows; names = names } ≡ t) where
-  -- in an open round
+  -- A state in an open round.
   pub open_world : (o : OpenRound) → stage ≡ Open o → world_in t.rows t.names o ≡ t.world
   open_world o is = (λ i. world_in (sym seen i).rows (sym seen i).names o) ∙ (ap (world_at rows names) (sym is) ∙ ap (λ (u : State). u.world) seen)
 
-  -- at the start of a round
+  -- A state at the start of a round.
   pub begun_world : (s : Scenario) → stage ≡ Begun s → reached (opening oral_kind s) t.rows t.names ≡ t.world
   begun_world s is = (λ i. reached (opening oral_kind s) (sym seen i).rows (sym seen i).names) ∙ (ap (world_at rows names) (sym is) ∙ ap (λ (u : State). u.world) seen)
 
--- played again with numbers as code has them
+-- The campaign played again with copies of the state's contents.
 pub again_open : (t : State) (s c : Scenario) (rows : List (List ℕ)) (names : List ℕ) (o : OpenRound) → c ≡ s → rows ≡ t.rows → names ≡ t.names → reached (opening oral_kind s) t.rows t.names ≡ t.world
     → world_in rows names o ≡ reached (opening oral_kind c) rows names → world_in t.rows t.names o ≡ t.world
 again_open t s c rows names o same a b there is =
@@ -47,14 +47,14 @@ again_open t s c rows names o same a b there is =
 pub again_is : (t : State) (s c : Scenario) (rows : List (List ℕ)) (names : List ℕ) (w : World) → c ≡ s → rows ≡ t.rows → names ≡ t.names → w ≡ reached (opening oral_kind c) rows names → w ≡ reached (opening oral_kind s) t.rows t.names
 again_is t s c rows names w same a b is = is ∙ (λ i. reached (opening oral_kind (same i)) (a i) (b i))
 
--- in another stage
+-- The same state in another stage.
 pub opened_is : (t : State) (rows : List (List ℕ)) (names : List ℕ) (stage later : Stage) (ways : ℕ) (rows' : List (List ℕ)) (names' : List ℕ) → rows' ≡ rows → names' ≡ names → world_at rows' names' later ≡ world_at rows' names' stage
     → record { world = world_at rows names stage; ways = ways; rows = rows; names = names } ≡ t → record { world = world_at rows names later; ways = ways; rows = rows; names = names } ≡ t
 opened_is t rows names stage later ways rows' names' a b same seen =
     let e : world_at rows names later ≡ world_at rows names stage = (λ i. world_at (sym a i) (sym b i) later) ∙ (same ∙ (λ i. world_at (a i) (b i) stage)) in
     (λ i. record { world = e i; ways = ways; rows = rows; names = names }) ∙ seen
 
--- the state as a round begins
+-- Returns the state at the start of a round.
 abbrev state_at : World → ℕ → List (List ℕ) → List ℕ → State
 state_at w ways rows names = record { world = w; ways = ways; rows = rows; names = names }
 
@@ -68,11 +68,11 @@ pub closed_is : (s c : Scenario) (t next : State) (ways : ℕ) (rows : List (Lis
     → next ≡ record { world = behind_all (opening oral_kind s) (t.rows ++ t.names ∷ []); ways = t.ways; rows = t.rows ++ t.names ∷ []; names = [] }
 closed_is s c t next ways rows same a b is = is ∙ (λ i. record { world = behind_all (opening oral_kind (same i)) (b i); ways = a i; rows = b i; names = [] })
 
--- what comes of it
+-- The state's outcome.
 pub open_outcome : (t : State) (o : OpenRound) → world_in t.rows t.names o ≡ t.world → decisions o.start.scenario (messages o.start.closed) ≡ oral_outcome t.world
 open_outcome t o there = ap (λ (c : Scenario). decisions c (messages o.start.closed)) (sym (way_scenario o.start.scenario t.rows t.names)) ∙ ap oral_outcome there
 
--- alike, in open rounds and as rounds begin
+-- Alike states, in open rounds or at the start of a round.
 pub open_alike : (t u : State) (o p : OpenRound) → world_in t.rows t.names o ≡ t.world → world_in u.rows u.names p ≡ u.world → o.words ≡ p.words → o.parts ≡ p.parts → RoundsAlike o.start.closed p.start.closed
     → t.world.scenario ≡ u.world.scenario → AreAlike t.world u.world
 open_alike t u o p a b words parts closed same =
@@ -85,14 +85,14 @@ pub begun_alike : (t u : State) (w v : World) → w ≡ t.world → v ≡ u.worl
 begun_alike t u w v a b alike =
     subst (λ (x : World). x.scenario ≡ u.world.scenario → AreAlike x u.world) a (subst (λ (x : World). w.scenario ≡ x.scenario → AreAlike w x) b alike)
 
--- found at a place
+-- A state that is found at an index.
 pub alike_at : (states : List State) (t was : State) (place : ℕ) → place < length states → was ≡ get_or states place was → (was.world.scenario ≡ t.world.scenario → AreAlike was.world t.world) → IsAlikeAt states t place
 alike_at states t was place lt at alike = (
   lt,
   λ d. (let e : was ≡ get_or states place d = at ∙ get_or_default states place was d lt in subst (λ (u : State). u.world.scenario ≡ t.world.scenario → AreAlike u.world t.world) e alike),
 )
 
--- entered behind all
+-- A state that is appended.
 pub enters_behind : {A E : Type 0} (result : Result A E) (states : List State) (t : State) (new : List State) → OnOk result (new ≡ states ++ t ∷ []) → OnOk result (IsEntered states t new)
 enters_behind (Ok x) states t new e = inr e
 enters_behind (Err x) states t new e = tt

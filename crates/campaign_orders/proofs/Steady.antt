@@ -1,4 +1,4 @@
--- What comes of a world does not change where activations are run on.
+-- What follows from a world does not change when activations run on.
 use Rattle.std.proofs.Common.{◌≡◌, ◌≢◌, ℕ, zero, suc, List, [], ◌∷◌, ◌++◌, length, true, false, refl, sym, ap, subst, ◌∙◌, ◌⊎◌, inl, inr, ⊎_elim, Option, Some, None}
 use Rattle.std.specs.Prelude.{slice_get, replicate, filter, sum_by, ◌==◌}
 use Rattle.std.proofs.lemmas.Bool.Decides.{eqb_tells}
@@ -31,7 +31,7 @@ use Rattle.campaign_orders.proofs.RunningOn.{GoesOn, quiet_is, goes_is, goes_ask
 goes_quiet : (w : World) (x : ℕ) → GoesOn w x → IsQuiet (slice_get w.parts x)
 goes_quiet w x m = subst (λ (o : Option Progress). IsQuiet o) (sym m.at) (subst (λ (o : Turn). AsksNothing o) (sym m.turns) tt)
 
--- the world behind an access, where a turn is taken before: the same, or that turn is still to be taken
+-- After an access, a turn that was taken early has the same effect, or can still be taken.
 abbrev SoonPast : World → ℕ → ℕ → Type 0
 SoonPast w x g =
     (past oral_kind (happen oral_kind w (Tick x)) g ≡ past oral_kind w g)
@@ -45,7 +45,7 @@ module _ (s : Scenario) where
   passed w g t = moves_due oral_kind s (ticks_named g (slice_get w.parts g)) w (named_moves g (slice_get w.parts g)) t
 
   module _ (w : World) (x : ℕ) (t : IsOnTime oral_kind s w) (q : IsQuiet (slice_get w.parts x)) where
-    -- who is to make an access, the world behind it, and that behind the round
+    -- Who makes a further access, the world after it, and the world after the round do not change.
     quiet_asks : (g : ℕ) → will_ask (slice_get (happen oral_kind w (Tick x)).parts g) ≡ will_ask (slice_get w.parts g)
     quiet_asks g =
         ⊎_elim (λ (e : happen oral_kind w (Tick x) ≡ w). ap (λ (v : World). will_ask (slice_get v.parts g)) e) (λ (m : GoesOn w x). goes_asks s w x t m g) (quiet_is w x q)
@@ -63,7 +63,7 @@ module _ (s : Scenario) where
     quiet_behind : will_ask (slice_get w.parts x) ≡ false → behind oral_kind (happen oral_kind w (Tick x)) [] ≡ behind oral_kind w []
     quiet_behind none = ⊎_elim (λ (e : happen oral_kind w (Tick x) ≡ w). ap (λ (v : World). behind oral_kind v []) e) (λ (m : GoesOn w x). goes_behind s w x t m none) (quiet_is w x q)
 
-  -- so many such turns
+  -- Several such turns.
   pub runs_time : (gs : List ℕ) (w v : World) → IsOnTime oral_kind s w → RunsOn w gs v → IsOnTime oral_kind s v
   runs_time [] w v t r = subst (λ (u : World). IsOnTime oral_kind s u) r t
   runs_time (x ∷ gs) w v t r = runs_time gs (happen oral_kind w (Tick x)) v (ticked w x t) r.1
@@ -98,7 +98,7 @@ runs_more (x ∷ gs) hs u w v r k = (r.0, runs_more gs hs (happen oral_kind u (T
 pub run_more : (u w v : World) → IsRunOn u w → IsRunOn w v → IsRunOn u v
 run_more u w v r k = (r.0 ++ k.0, runs_more r.0 k.0 u w v r.1 k.1)
 
--- a number behind one access more, or behind the round
+-- A number after one more access, or after the round.
 or_same : (gs : List ℕ) (end end' : ℕ) (f f' : ℕ → ℕ) → (gs ≡ [] → end ≡ end') → ((g : ℕ) → f g ≡ f' g) → or_sum gs end f ≡ or_sum gs end' f'
 or_same [] end end' f f' e h = e refl
 or_same (g ∷ gs) end end' f f' e h = λ i. sum_by (λ (x : ℕ). h x i) (g ∷ gs)
@@ -135,7 +135,7 @@ module _ (s : Scenario) (h : World → ℕ) where
   runs_round k [] w v t r = ap (over_round k h) (sym r)
   runs_round k (x ∷ gs) w v t r = runs_round k gs (happen oral_kind w (Tick x)) v (ticked s w x t) r.1 ∙ round_quiet k w x t r.0
 
--- a world that is reached is on time
+-- The activations of a reached world end in time.
 pub reached_time : (w : World) → IsScenario w.scenario → IsReached oral_kind w → IsOnTime oral_kind w.scenario w
 reached_time w is r = subst (λ (u : World). IsOnTime oral_kind w.scenario u) r.1 ((held oral_kind w.scenario r.0 (oral_campaigns w.scenario is)).timely)
 
@@ -145,7 +145,7 @@ round_steady k h w v is r on = runs_round w.scenario h k on.0 w v (reached_time 
 pub zero_steady : IsSteady (λ v. 0)
 zero_steady w v is r on = refl
 
--- as code runs them on
+-- The same, as the code runs activations on.
 module _ (g : ℕ) where
   ahead_by : (n : ℕ) (w : World) (a b : Activation) → slice_get w.parts g ≡ Some (Acting a) → ((v : World) (c : Activation) → slice_get v.parts g ≡ Some (Acting c) → Runs n c [] b → RunsOn v (replicate n g) (run oral_kind v (replicate n (Tick g))))
       → (o : Turn) → turn a ≡ o → Onward (Runs n) o [] b → AsksNothing o × RunsOn (happen oral_kind w (Tick g)) (replicate n g) (run oral_kind (happen oral_kind w (Tick g)) (replicate n (Tick g)))

@@ -1,4 +1,4 @@
--- How many ticks it takes until a general has made one more access.
+-- How many ticks a general takes until he has made one more access.
 use Rattle.std.proofs.Common.{◌≡◌, ℕ, zero, suc, ◌+◌, ◌-◌, ◌≤◌, List, [], length, true, false, refl, sym, ap, subst, ◌∙◌, Option, Some, None, Ok, Result, arith, zero-add}
 use Rattle.std.specs.Prelude.{slice_get, replicate}
 use Rattle.board.specs.Board.{IsBoard}
@@ -24,14 +24,14 @@ use Rattle.campaign_orders.specs.Orders.{asks_or, asks_within, will_ask}
 use Rattle.campaign_orders.specs.Planning.{IsStepTo}
 use Rattle.campaign_orders.proofs.Walking.{silent}
 
--- no more than the limit
+-- At most as many ticks are taken as the limit allows.
 pub ahead_few : (limit taken : ℕ) (parts : List Progress) (g : ℕ) (o : Option Progress) (new : List Progress) → AheadTo limit taken parts g o new → taken ≤ limit
 ahead_few limit taken parts g None new h = (let e = h.0 in omega arith)
 ahead_few limit taken parts g (Some (Acting a)) new (b, way, le, pause, same) = omega arith
 ahead_few limit taken parts g (Some Silent) new h = (let e = h.0 in omega arith)
 ahead_few limit taken parts g (Some Posted) new h = (let e = h.0 in omega arith)
 
--- who does not act asks nothing
+-- A general without an activation makes no request.
 pub idle_asks : (o : Option Progress) → program_length o ≡ None → will_ask o ≡ false
 idle_asks None e = refl
 idle_asks (Some (Acting a)) e = absurd (let c : Some (length a.program) ≡ None = e in cc)
@@ -49,7 +49,7 @@ runs_asks (suc n) a b fuel way =
     let y : suc n + fuel ≡ suc (n + fuel) = omega arith in
     ap (λ (k : ℕ). asks_within k a) y ∙ asks_by n a b (turn a) fuel (λ c w. runs_asks n c b fuel w) way
 
--- who has come to his end without an access makes none
+-- A general whose activation has ended without an access makes none.
 pub still_asks : (w v : World) (g most taken : ℕ) (o : Option Progress) → slice_get w.parts g ≡ o → AheadTo most taken w.parts g o v.parts → IsStill (slice_get v.parts g) → will_ask o ≡ false
 still_asks w v g most taken None at far still = refl
 still_asks w v g most taken (Some (Acting a)) at (b, way, le, pause, new) still =
@@ -62,7 +62,7 @@ ticks_many : (n g : ℕ) → length (replicate n (Tick g)) ≡ n
 ticks_many zero g = refl
 ticks_many (suc n) g = ap suc (ticks_many n g)
 
--- else he asks, with one tick more
+-- Otherwise he makes a request with one more tick.
 abbrev pub AsksAt : ℕ → ℕ → Option Progress → Type 0
 AsksAt taken g o = (will_ask o ≡ true) × (length (ticks_named g o) ≡ taken + 1)
 
@@ -100,7 +100,7 @@ module _ (K : Kind) (good : AreCampaigns K) where
       let timely : IsOnTime K w.scenario w = subst (λ (x : World). IsOnTime K w.scenario x) h.1 ((held K w.scenario h.0 (good w.scenario inside)).timely) in
       asks_more K w.scenario w v g most taken timely (slice_get w.parts g) refl (ap (λ (l : List Progress). program_length (slice_get l g)) (sym parts) ∙ sym most_is) far on
 
-  -- with the numbers and parts as code has them
+  -- The same with the numbers and parts as the code has them.
   pub step_taken : (w v u : World) (s : Scenario) (ps qs : List Progress) (g one two three most limit taken : ℕ) → one ≡ g → two ≡ g → three ≡ g → limit ≡ most → s ≡ w.scenario → IsScenario s → IsReached K w → ps ≡ w.parts → qs ≡ v.parts →
       Some most ≡ program_length (slice_get ps g) → AheadTo limit taken w.parts one (slice_get w.parts one) v.parts → v ≡ run K w (replicate taken (Tick one)) → (IsStill (slice_get qs two) → ⊥) → u ≡ happen K v (Tick three) →
       IsStepTo K w g u (Some (taken + 1))

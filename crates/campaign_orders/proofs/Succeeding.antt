@@ -1,4 +1,4 @@
--- What is behind an order in the list: it begins with the order that comes next.
+-- The list of orders after a given one begins with the order that comes next.
 use Rattle.std.proofs.Common.{◌≡◌, ◌≢◌, ℕ, zero, suc, ◌<◌, ◌≤◌, List, [], ◌∷◌, ◌++◌, length, map, true, false, refl, sym, ap, subst, ◌∙◌, inl, inr, ⊎_elim, Option, Some, None, arith}
 use Rattle.std.specs.Prelude.{slice_get, replicate, ◌==◌}
 use Rattle.std.proofs.lemmas.Bool.Decides.{eqb_tells}
@@ -18,7 +18,7 @@ use Rattle.campaign_orders.proofs.Listed.{to_asker, of_asker}
 use Rattle.campaign_orders.proofs.Rising.{least_none, least_some, beyond, none_over, first_over, next_over, askers_rising}
 use Rattle.campaign_orders.proofs.Leading.{round_walks, same_round}
 
--- another's tick leaves a part as it is
+-- Another general's tick does not change a part.
 served_stays : (w : World) (g h : ℕ) (o : Turn) → h ≢ g → slice_get (served w g o).parts h ≡ slice_get w.parts h
 served_stays w g h (Goes a) ne = set-other w.parts g h (Acting a) ne
 served_stays w g h (Asks q f) ne = set-other w.parts g h (Acting (f (reply w.words q))) ne
@@ -41,7 +41,7 @@ module _ (K : Kind) where
   past_stays w g h (Some Silent) ne = refl
   past_stays w g h (Some Posted) ne = refl
 
-  -- who is to ask comes in the round, and who comes is to ask
+  -- Exactly the generals who make further accesses are in the order of the round.
   pub asker_comes : (names : List ℕ) (w : World) → IsRoundFrom K w names → (h : ℕ) → will_ask (slice_get w.parts h) ≡ true → Has names h
   asker_comes [] w r h y = absurd (let f : false ≡ true = sym (r h) ∙ y in cc)
   asker_comes (g ∷ names) w r h y = ⊎_elim
@@ -65,13 +65,13 @@ module _ (K : Kind) where
       by [] e = refl
       by (g ∷ gs) e = absurd (let A : List ℕ → Type 0 = λ l. Has l g in let f : true ≡ false = sym (of_asker w g (subst A (sym e) (inl refl))) ∙ r g in cc)
 
-  -- what is behind the order of a round
+  -- Returns the orders of the round that come after the given one.
   abbrev pub round_rest : ℕ → World → List ℕ → List (List ℕ)
   round_rest zero w names = []
   round_rest (suc k) w [] = []
   round_rest (suc k) w (g ∷ names) = map (λ r. g ∷ r) (round_rest k (past K w g) names) ++ branch (beyond g (askers w)) (λ h. round_orders K k (past K w h))
 
-  -- the first is that in which who asks comes by number
+  -- The first order has the accesses by general, ascending.
   round_first : (k : ℕ) (w : World) (q : List ℕ) → IsRoundFrom K w q → IsAscending q → length q ≤ k → round_orders K k w ≡ q ∷ round_rest k w q
   round_first zero w [] r a le = ap (λ gs. or_end gs (λ g. [])) (nobody_asks w r)
   round_first zero w (g ∷ q) r a le = absurd (omega arith)
@@ -83,7 +83,7 @@ module _ (K : Kind) where
       let more : later g ≡ q ∷ round_rest k (past K w g) q = round_first k (past K w g) q r.1 a.1 (omega arith) in
       ap (λ gs. or_end gs later) one ∙ (λ i. map (λ x. g ∷ x) (more i) ++ branch (beyond g (askers w)) later)
 
-  -- the last has nothing behind it
+  -- After the last order there is none.
   round_last : (names : List ℕ) (k : ℕ) (w : World) → IsRoundFrom K w names → length names ≤ k → next_names names ≡ None → round_rest k w names ≡ []
   round_last [] zero w r le e = refl
   round_last [] (suc k) w r le e = refl
@@ -97,7 +97,7 @@ module _ (K : Kind) where
           let none : beyond g (askers w) ≡ [] = none_over g (askers w) (λ y h. ⊎_elim (λ (e : g ≡ y). omega arith) (λ j. least_none g names m y j) (asker_comes (g ∷ names) w r y (of_asker w y h))) in
           λ i. map (λ x. g ∷ x) (again n i) ++ branch (none i) (λ h. round_orders K k (past K w h))
 
-  -- else the next begins so, and goes on by number
+  -- Otherwise the next order begins like this, and goes on by general, ascending.
   round_next : (names : List ℕ) (k : ℕ) (w : World) → IsRoundFrom K w names → length names ≤ k → (p : List ℕ) → next_names names ≡ Some p →
       (q : List ℕ) → IsRoundFrom K w (p ++ q) → IsAscending q → length (p ++ q) ≤ k → round_rest k w names ≡ (p ++ q) ∷ round_rest k w (p ++ q)
   round_next [] k w r le p e = absurd (let c : None ≡ Some p = e in cc)
@@ -124,7 +124,7 @@ module _ (K : Kind) where
           (λ i. map (λ y. g ∷ y) (none i) ++ branch (over i) (λ j. round_orders K k (past K w j))) ∙ (λ i. map (λ y. h ∷ y) (one i) ++ branch (beyond h (askers w)) (λ j. round_orders K k (past K w j))))
       by again None n None m f = absurd (let d : None ≡ Some p = f in cc)
 
-  -- each of its names makes an access
+  -- Each of its names makes an access.
   walk_next : (names : List ℕ) (w : World) → IsRoundFrom K w names → (p : List ℕ) → next_names names ≡ Some p → IsWalk K w p
   walk_next [] w r p e = absurd (let c : None ≡ Some p = e in cc)
   walk_next (g ∷ names) w r p e = by (λ p n. walk_next names (past K w g) r.1 p n) (next_names names) refl (least_above g names) refl e
@@ -137,7 +137,7 @@ module _ (K : Kind) where
           subst A c (comer_asks (g ∷ names) w r h (inr (least_some g names h m).has), tt)
       by again None n None m f = absurd (let d : None ≡ Some p = f in cc)
 
-  -- so it is round by round
+  -- The same holds round by round.
   abbrev pub rest_from : ℕ → World → ℕ → List (List ℕ) → List (List (List ℕ))
   rest_from most w zero order = []
   rest_from most w (suc k) [] = []

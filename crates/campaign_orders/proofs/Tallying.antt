@@ -1,4 +1,4 @@
--- The findings of some orders, and of one more.
+-- The outcomes of some orders, and of one more order.
 use Rattle.std.proofs.Common.{◌≡◌, ℕ, ◌+◌, ◌<◌, List, [], ◌∷◌, ◌++◌, length, Bool, true, false, cond, refl, sym, ap, subst, ◌∙◌, ◌⊎◌, inl, inr, ⊎_elim, arith, length-append, Some, None}
 use Rattle.std.specs.Prelude.{bytes_eq, sum_by}
 use Rattle.std.specs.List.{AllByRecursion}
@@ -22,12 +22,13 @@ differ a b never = by (bytes_eq a b) refl
     by true e = absurd (never ((bytes_eq-Decides a b).0 e))
     by false e = refl
 
--- an order more stands behind the others
+-- One more order is appended.
 known : (V : List Order) (o x : Order) → Has V x → Has (V ++ o ∷ []) x
 known V o x h = has-append_to V (o ∷ []) x (inl h)
 
 module _ (K : Kind) (D : Outcome) (s : Scenario) where
-  -- a finding's example is the first of these orders that leads where it does, and so many of them do
+  -- States that a finding's example is the first of these orders with its decisions, and that its count is the number
+  -- of such orders.
   pub record IsCounted (V : List Order) (f : Finding) : Type 0 where
     pub example : Has V f.example
     pub outcome : outcome_of K D s f.example ≡ f.decisions
@@ -35,7 +36,7 @@ module _ (K : Kind) (D : Outcome) (s : Scenario) where
     pub count : f.count ≡ ways_among K D s V f.decisions
     pub first : first_to K D s V f.decisions ≡ Some f.example
 
-  -- these findings are those of these orders
+  -- States that these are the findings of these orders.
   pub record IsTally (V : List Order) (findings : List Finding) : Type 0 where
     pub each : AllByRecursion (IsCounted V) findings
     pub different : AreDifferent (outcomes_of findings)
@@ -45,7 +46,7 @@ module _ (K : Kind) (D : Outcome) (s : Scenario) where
   pub no_tally : IsTally [] []
   no_tally = record { each = tt; different = tt; whole = λ order h. absurd h; total = refl }
 
-  -- one order more that leads there, or elsewhere
+  -- One more order has the decisions, or has others.
   more_ways : (V : List Order) (o : Order) (ds : List ℕ) → ways_among K D s (V ++ o ∷ []) ds ≡ ways_among K D s V ds + cond (bytes_eq (outcome_of K D s o) ds) 1 0
   more_ways V o ds = sum_by_push (λ (order : Order). cond (bytes_eq (outcome_of K D s order) ds) 1 0) V o
 
@@ -63,7 +64,7 @@ module _ (K : Kind) (D : Outcome) (s : Scenario) where
       let rest : sum_by f V ≡ 0 = none_way V ds (λ y h. never y (inr h)) in
       sum_by-cons f x V ∙ (λ i. here i + rest i)
 
-  -- the first stays the first, and where there was none, one that leads there is it
+  -- The first order with the decisions stays the first. If there was none, it is the new one.
   pub first_stays : (V rest : List Order) (ds : List ℕ) (o : Order) → first_to K D s V ds ≡ Some o → first_to K D s (V ++ rest) ds ≡ Some o
   first_stays [] rest ds o e = absurd (let f : None ≡ Some o = e in cc)
   first_stays (x ∷ V) rest ds o e = by (first_stays V rest ds o) (bytes_eq (outcome_of K D s x) ds) e
@@ -82,7 +83,7 @@ module _ (K : Kind) (D : Outcome) (s : Scenario) where
       by again true z = absurd (omega arith)
       by again false z = again (omega arith)
 
-  -- what was found stays found
+  -- What was found is still found.
   stays : (V : List Order) (o : Order) (f : Finding) → IsCounted V f → (outcome_of K D s o ≡ f.decisions → ⊥) → IsCounted (V ++ o ∷ []) f
   stays V o f h never = record { example = known V o f.example h.example; outcome = h.outcome; some = h.some; count = h.count ∙ sym (no_way V o f.decisions never); first = first_stays V (o ∷ []) f.decisions f.example h.first }
 
@@ -119,7 +120,7 @@ module _ (K : Kind) (D : Outcome) (s : Scenario) where
             let ne : f.decisions ≡ outcome_of K D s o → ⊥ = (λ e. (let y = sym t ∙ (bytes_eq-Decides f.decisions (outcome_of K D s o)).1 e in let c : false ≡ true = y in cc)) in
             (stays V o f h.0 (λ e. ne (sym e)), again (λ never. z (λ k. ⊎_elim (λ e. ne e) (λ m. never m) k)))
 
-    -- the outcomes are those found, and this one
+    -- The outcomes are those found before and this one.
     outcomes_more : (fs : List Finding) (x : List ℕ) → Has (outcomes_of (entered fs (outcome_of K D s o) o)) x → Has (outcomes_of fs) x ⊎ (outcome_of K D s o ≡ x)
     outcomes_more [] x h = ⊎_elim (λ e. inr e) (λ k. absurd k) h
     outcomes_more (f ∷ fs) x h = by (λ k. outcomes_more fs x k) (bytes_eq f.decisions (outcome_of K D s o)) h

@@ -1,4 +1,4 @@
--- Order after order, from the first to the last or to a limit.
+-- Orders are visited one after another, from the first to the last or up to a limit.
 use Rattle.std.proofs.Common.{◌≡◌, ℕ, suc, ◌+◌, ◌≤◌, List, [], ◌∷◌, ◌++◌, length, refl, sym, ap, subst, ◌∙◌, inl, Some, None, append-nil, append_assoc, arith, length-append, take, All}
 use Rattle.std.specs.Prelude.{cond, bytes_eq}
 use Rattle.std.proofs.lemmas.List.Sums.{sum_by-append}
@@ -23,14 +23,14 @@ use Rattle.campaign_orders.proofs.Succeeding.{rest_from, from_first, from_last, 
 use Rattle.campaign_orders.proofs.Tallying.{Order, IsCounted, IsTally, no_tally, tally_more, first_stays}
 
 module _ (K : Kind) where
-  -- the order of the replay of these names, and what is behind it
+  -- Returns the order of the replay of these names, and the orders after it.
   abbrev pub here : Scenario → Order → Order
   here s names = order_of K s (replayed K s names)
 
   abbrev pub after : Scenario → Order → List Order
   after s order = rest_from K (most_in_round s) (opening K s) (suc s.bound) order
 
-  -- so many orders are counted, and the next one is that of the replay of these names
+  -- States that `n` orders are counted, and that the next one is the order of this replay.
   pub record IsVisited (D : Outcome) (s : Scenario) (n : ℕ) (names : Order) (findings : List Finding) : Type 0 where
     pub before : List Order
     pub count : length before ≡ n
@@ -107,7 +107,7 @@ module _ (K : Kind) where
         let A : List Order → Type 0 = λ V. IsTally K D s V new in
         explored new (subst A (sym all) (one_more n names findings v))
 
-    -- of each outcome the first order that leads there
+    -- States that each example is the first order that leads to its decisions.
     abbrev pub AreFirst : List Finding → Type 0
     AreFirst findings = All (λ (f : Finding). first_to K D s (orders K s) f.decisions ≡ Some f.example) findings
 

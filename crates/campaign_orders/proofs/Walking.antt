@@ -1,4 +1,4 @@
--- The order of a complete run is one choice after another of who makes the next access.
+-- The order of a complete run results from choosing, again and again, which general makes the next access.
 use Rattle.std.proofs.Common.{◌≡◌, ◌≢◌, ℕ, zero, suc, ◌<◌, ◌≤◌, List, [], ◌∷◌, ◌++◌, length, map, take, drop, true, false, refl, sym, ap, subst, ◌∙◌, ⊎_elim, Option, Some, None, arith, length-append}
 use Rattle.std.specs.Prelude.{slice_get, ◌==◌, filter, sum_by}
 use Rattle.std.proofs.lemmas.Bool.{lt-ltb}
@@ -28,7 +28,7 @@ use Rattle.world.proofs.Replaying.{runs_are_accounted}
 use Rattle.world.specs.Campaigns.{IsCampaign, AreCampaigns}
 use Rattle.campaign_orders.specs.Orders.{asks_or, asks_within, will_ask, IsRoundFrom, IsFrom, order_of}
 
--- who makes an access asks
+-- A general who makes an access makes a request.
 asks_zero : (k : ℕ) (a : Activation) (x : Access) (t : List Access) (end : Activation) → has_ended a ≡ true → Runs k a (x ∷ t) end → ⊥
 asks_zero zero a x t end over way = (let e = way.0 in cc)
 asks_zero (suc k) a x t end over way = (let A : Turn → Type 0 = λ o. Onward (Runs k) o (x ∷ t) end in subst A (over_ended a over) way)
@@ -52,7 +52,7 @@ asks zero k a x t end within way = absurd (asks_zero k a x t end (within_zero a 
 asks (suc fuel) zero a x t end within way = absurd (let e = way.0 in cc)
 asks (suc fuel) (suc k) a x t end within way = asks_by fuel k x t end (λ b w r. asks fuel k b x t end w r) (turn a) (turn_left fuel a within) way
 
--- who makes none does not
+-- A general who makes no access makes no request.
 silent_by : (fuel k : ℕ) (end : Activation) → ((b : Activation) → Runs k b [] end → asks_within fuel b ≡ false) → (o : Turn) → Onward (Runs k) o [] end → asks_or (asks_within fuel) o ≡ false
 silent_by fuel k end again (Goes b) way = again b way
 silent_by fuel k end again (Asks q f) way = absurd way
@@ -85,7 +85,7 @@ module _ (K : Kind) where
       act_later parts later g now piece at others acts.1,
     )
 
-    -- each of the named is still to make an access as his turn comes
+    -- Each named general makes a further access when it is his turn.
     walk : (s : Scenario) (piece : List Access) (w : World) → IsBoard w.words → AllParts (Due s) w.parts → IsLegal w.words piece → AreOf (suc (length w.closed)) piece → Act w.parts piece
         → AllParts (Ways K E piece) w.parts → IsRoundFrom K w (map (λ a. a.general) piece)
     walk s [] w board due legal in_round acts ways = λ g. all_silent w ways g (slice_get w.parts g) refl
@@ -119,7 +119,7 @@ module _ (K : Kind) where
               (act_later w.parts v.parts g c.now piece c.at c.others acts.1) ways',
         )
 
-  -- so it is for an accounted round
+  -- The same for an accounted round.
   pub round_walk : (s : Scenario) (closed : List (List Letter)) (words : List ℕ) (ledger piece : List Access) (letters : List Letter) → IsOnTime K s (begun K s closed words ledger true)
       → length closed < suc s.bound → IsLegal words piece → IsAccountedRound K s closed piece letters → IsRoundFrom K (begun K s closed words ledger true) (map (λ a. a.general) piece)
   round_walk s closed words ledger piece letters d less legal round =
@@ -128,7 +128,7 @@ module _ (K : Kind) where
       walk (Tells letters) s piece w d.kept.board d.due legal (entries_of s.generals (suc (length closed)) piece round.entries)
       (acts_begin K s closed piece letters round (round_open s closed) more) (ways_begin K s closed piece letters round (round_open s closed))
 
-  -- and for all rounds to come
+  -- The same for all further rounds.
   rounds_walk : (s : Scenario) → IsCampaign K s → (rounds closed : List (List Letter)) (words : List ℕ) (ledger later : List Access)
       → IsOnTime K s (begun K s closed words ledger true) → IsLegal words later → AreAccounted K s closed later rounds
       → IsFrom K (begun K s closed words ledger true) (length rounds) (names_in (suc (length closed)) later (length rounds))

@@ -1,4 +1,4 @@
--- Sums over states, as far as they are kept.
+-- Sums over states, up to the greatest number that is stored.
 use Rattle.std.proofs.Common.{[], ◌≡◌, ℕ, zero, suc, ◌+◌, ◌*◌, ◌<◌, ◌≤◌, min, List, set, get_or, sym, ap, subst, ◌∙◌, inl, inr, ⊎_elim, arith, All}
 use Rattle.std.specs.Prelude.{nat_lt, true, false, ◌-◌, ◌^◌}
 use Rattle.std.proofs.Math.Nat.{add-mul, mul-suc, mul-zero}
@@ -12,14 +12,14 @@ use Rattle.campaign_orders.specs.Merging.{AreAlike}
 use Rattle.campaign_orders.specs.Layers.{State, kept, AsKept, IsStateOf, AreStatesOf, IsFreshOf, AreFreshOf, IsAlikeAt, IsJoined, IsEntered, IsCommon, weighed, behind_all, joined}
 use Rattle.campaign_orders.proofs.Standing.{earlier_case, joined_world, joined_state}
 
--- the same more on both sides
+-- The same number is added on both sides.
 pub as_more : (m a b c : ℕ) → min a m ≡ min b m → min (a + c) m ≡ min (b + c) m
 as_more m a b c e = omega arith
 
 pub as_both : (m a b c d : ℕ) → min a m ≡ min b m → min c m ≡ min d m → min (a + c) m ≡ min (b + d) m
 as_both m a b c d e f = omega arith
 
--- a sum that is kept, as often as f
+-- A stored sum is multiplied.
 short_times : (m n f t : ℕ) → n < m → min (t + min n m * f) m ≡ min (t + n * f) m
 short_times m n f t lt = (let e : min n m ≡ n = omega arith in ap (λ (k : ℕ). min (t + k * f) m) e)
 
@@ -35,13 +35,13 @@ pub kept_times : (m n f t : ℕ) → min (t + min n m * f) m ≡ min (t + n * f)
 kept_times m n f t =
     ⊎_elim (λ (h : nat_lt n m ≡ true). (let lt = ltb-true n m h in short_times m n f t (omega arith))) (λ (h : nat_lt n m ≡ false). long_times m n f t (ltb-false n m h)) (cases_Bool (nat_lt n m))
 
--- what stands at a place is replaced by one that weighs so much more
+-- An element is replaced by one that adds more to the sum.
 pub swapped : (m all old new was extra : ℕ) → all + was ≡ old + new → ((t : ℕ) → min (t + new) m ≡ min (t + (was + extra)) m) → was ≤ old → min all m ≡ min (old + extra) m
 swapped m all old new was extra e h le =
     let k = h (old - was) in
     omega arith
 
--- one state more
+-- One more state is entered.
 joined_weighs : (f : World → ℕ) (states : List State) (t : State) (new : List State) → IsCommon f → (j : IsJoined states t new) → j.was.world.scenario ≡ t.world.scenario →
     AsKept (weighed f new) (weighed f states + t.ways * f t.world)
 joined_weighs f states t new common j same =
@@ -68,13 +68,13 @@ entered_weighs f states t new s common (inl j) all same =
 entered_weighs f states t new s common (inr e) all same =
     ap (λ (l : List State). kept (weighed f l)) e ∙ ap kept (sum_by_push (λ (u : State). u.ways * f u.world) states t)
 
--- as code joins it
+-- The same, as the code merges it.
 pub joins : (states : List State) (t : State) (place : ℕ) (was fresh : State) (new : List State) → IsAlikeAt states t place → was ≡ get_or states place was → fresh ≡ joined was t → new ≡ set states place fresh → IsEntered states t new
 joins states t place was fresh new (lt, alike) at made is =
     let A : State → Type 0 = λ u. u.world.scenario ≡ t.world.scenario → AreAlike u.world t.world in
     inl (record { place = place; was = was; inside = lt; there = at; alike = subst A (sym at) (alike was); made = is ∙ ap (λ (u : State). set states place u) made })
 
--- one more of a kind
+-- A property of both states holds for the merged one.
 joined_fresh : (s : Scenario) (k : ℕ) (t u : State) → IsFreshOf s k t → IsFreshOf s k u → IsFreshOf s k (joined t u)
 joined_fresh s k t u a b =
     let st = joined_state s k t u a.state b.state in

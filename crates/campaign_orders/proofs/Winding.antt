@@ -1,4 +1,4 @@
--- A round in which some make their accesses, and that is then wound up, is that in which the others come by number.
+-- If some accesses of a round are made and the round is then finished, the further accesses come by general, ascending.
 use Rattle.std.proofs.Common.{◌≡◌, ℕ, suc, ◌<◌, List, [], ◌∷◌, ◌++◌, length, drop, true, false, cond, refl, sym, ap, subst, ◌∙◌, ⊎_elim, arith, ◌&&◌}
 use Rattle.std.specs.List.{list_all}
 use Rattle.std.proofs.lemmas.Bool.{lt-ltb}
@@ -30,7 +30,7 @@ use Rattle.campaign_orders.proofs.Succeeding.{asker_comes}
 use Rattle.campaign_orders.proofs.Walking.{round_walk}
 
 module _ (K : Kind) where
-  -- who comes behind some by number is one list
+  -- There is only one such order of the further accesses.
   by_number : (q r : List ℕ) (w : World) → IsRoundFrom K w q → IsRoundFrom K w r → IsAscending q → IsAscending r → q ≡ r
   by_number [] [] w h k a b = refl
   by_number [] (j ∷ r) w h k a b = absurd (let f : false ≡ true = sym (h j) ∙ k.0 in cc)
@@ -64,7 +64,7 @@ module _ (K : Kind) where
     moves_added (e ∷ es) w i c t a =
         moves_added es (happen K w e) i.1 ((move_same K w e i.0).closed ∙ c) (moves_due K s (e ∷ []) w (i.0, tt) t) (move_added K s first w e i.0 c t a)
 
-    -- the round with its letters
+    -- The round with its letters.
     pub record Wound (names : List ℕ) : Type 0 where
       pub piece : List Access
       pub letters : List Letter
@@ -105,7 +105,7 @@ module _ (K : Kind) where
         let whole : run K first (es ++ all) ≡ happen K w Close = run-append K es all first ∙ (run-append K (posts s) (ends s ++ Close ∷ []) w1 ∙ run-append K (ends s) (Close ∷ []) w2) in
         record { piece = piece; letters = round_letters K w; is = whole ∙ (close_open K w open3 ∙ there); round = a.round; legal = midst.legal }
 
-    -- so the worlds behind both are the same
+    -- So the worlds after both are the same.
     pub wound_so : (names row : List ℕ) → IsWalk K first names → IsRoundFrom K first row → Continues names row → behind K first row ≡ behind K first names
     wound_so names row walk whole continues =
         let c = wound names in

@@ -6,8 +6,8 @@ use Rattle.world.specs.World.{oral_kind}
 use Rattle.campaign_orders.specs.Outcomes.{oral_outcome}
 use Rattle.campaign_orders.specs.Exploring.{Finding, Exploration, IsExploration}
 
--- States that, in each outcome found of an oral campaign whose bound holds, the loyal lieutenants decide alike and obey
--- a loyal commander.
+-- States that in every outcome found for an oral campaign whose bound holds, the loyal lieutenants decide on the same
+-- order and obey a loyal commander.
 abbrev pub FindingsAgree : Type 0
 FindingsAgree =
     (s : Scenario) (most : ℕ) (e : Exploration) → IsScenario s → IsExploration oral_kind oral_outcome s most e →

@@ -1,4 +1,4 @@
--- Activations that are run on early: by turns that make no request, whenever these turns are taken (own).
+-- Activations that have run on: by turns that are no requests, and so could also be taken later (own).
 use Rattle.std.specs.Prelude.{ℕ, ◌≡◌, List, [], ◌∷◌, slice_get, Option, Some}
 use Rattle.round.specs.Activation.{Turn, Asks, turn}
 use Rattle.world.specs.declared.event.Event.TheVariants.{Tick}
@@ -7,22 +7,22 @@ use Rattle.world.specs.declared.part.Progress.TheVariants.{Acting}
 use Rattle.world.specs.Kind.{World, happen}
 use Rattle.world.specs.World.{oral_kind}
 
--- States that the turn makes no request.
+-- States that the turn is not a request to the board.
 abbrev pub AsksNothing : Turn → Type 0
 AsksNothing (Asks request answered) = ⊥
 AsksNothing _ = Unit {0}
 
--- States that the next turn of this part makes no request.
+-- States that the next turn of a general with this part is not a request to the board.
 abbrev pub IsQuiet : Option Progress → Type 0
 IsQuiet (Some (Acting a)) = AsksNothing (turn a)
 IsQuiet _ = Unit {0}
 
--- States that the world becomes `v` by one turn of each of these generals in this order, and that none of the turns
--- makes a request.
+-- States that the world `w` becomes `v` if each of these generals takes a turn, in this order, and that none of these
+-- turns is a request.
 abbrev pub RunsOn : World → List ℕ → World → Type 0
 RunsOn w [] v = w ≡ v
 RunsOn w (g ∷ gs) v = IsQuiet (slice_get w.parts g) × RunsOn (happen oral_kind w (Tick g)) gs v
 
--- States that the world becomes `v` by turns that make no request.
+-- States that the world `w` becomes `v` by some turns of generals, none of which is a request.
 abbrev pub IsRunOn : World → World → Type 0
 IsRunOn w v = (gs : List ℕ) × RunsOn w gs v

@@ -1,9 +1,9 @@
--- How one more order changes the findings (own).
+-- How the outcomes found change when one more order of accesses is counted (own).
 use Rattle.std.specs.Prelude.{ℕ, ◌+◌, cond, List, [], ◌∷◌, bytes_eq}
 use Rattle.campaign_orders.specs.Exploring.{Finding}
 
--- Returns the findings after one more order is counted. If its decisions were found before, their count is incremented.
--- Otherwise a new finding is appended.
+-- Returns the outcomes found after one more order of accesses is counted, which leads to the decisions `ds`. If these
+-- were found before, their count grows by 1. Otherwise they are appended, with this order as their example.
 abbrev pub entered : List Finding → List ℕ → List (List ℕ) → List Finding
 entered [] ds order = record { decisions = ds; count = 1; example = order } ∷ []
 entered (f ∷ findings) ds order =

@@ -1,4 +1,4 @@
--- The findings of the states in which a campaign can end (own).
+-- The outcomes that are found in the states in which a campaign can end (own).
 use Rattle.std.specs.Prelude.{ℕ, ◌≡◌, ◌<◌, ◌+◌, ◌*◌, ◌^◌, ◌++◌, false, List, [], ◌∷◌, All, length, sum_by, slice_index_or, slice_set, ◌⊎◌}
 use Rattle.std.specs.Ordering.{is_gt}
 use Rattle.campaign_orders.specs.Exploring.{Finding, outcomes_of}
@@ -8,8 +8,8 @@ use Rattle.campaign_orders.specs.Listing.{AreDifferent, Has}
 use Rattle.campaign_orders.specs.Outcomes.{oral_outcome}
 use Rattle.campaign_orders.specs.Places.{IsPlaceOf, IsNowhere}
 
--- States that the outcome of a state was found before. Its count grows by the state's number of beginnings, and its
--- example becomes the lesser of the two orders.
+-- States that the outcome of state `t` was found before. Its count grows by the number of ways in which accesses lead
+-- to `t`, and its example becomes the lesser of the two orders.
 pub record IsCountedOn (findings : List Finding) (t : State) (new : List Finding) : Type 0 where
   pub place : ℕ
   pub was : Finding
@@ -20,16 +20,16 @@ pub record IsCountedOn (findings : List Finding) (t : State) (new : List Finding
     example = lesser was.example t.rows;
   })
 
--- States that the outcome of a state was not found before, and that it is appended as a new finding.
+-- States that the outcome of state `t` was not found before, and is appended as a new finding.
 pub record IsFirstOf (findings : List Finding) (t : State) (new : List Finding) : Type 0 where
   pub nowhere : IsNowhere findings (oral_outcome t.world)
   pub found : new ≡ findings ++ record { decisions = oral_outcome t.world; count = kept t.ways; example = t.rows } ∷ []
 
--- States that the outcome of a state is counted: for a finding that exists, or as a new one.
+-- States that the outcome of state `t` is counted: by an earlier finding, or as a new one.
 abbrev pub IsFound : List Finding → State → List Finding → Type 0
 IsFound findings t new = IsCountedOn findings t new ⊎ IsFirstOf findings t new
 
--- States that a finding has the outcome of one of the states, with the order of that state as its example.
+-- States that a finding has the outcome of one of these states, and the state's order as its example.
 pub record IsOfState (states : List State) (f : Finding) : Type 0 where
   pub t : State
   pub place : ℕ
@@ -38,20 +38,19 @@ pub record IsOfState (states : List State) (f : Finding) : Type 0 where
   pub decisions : f.decisions ≡ oral_outcome t.world
   pub example : f.example ≡ t.rows
 
--- States that the outcome of a state is among the findings, with an example that is no greater than the order of the
--- state.
+-- States that some finding has the outcome of state `t`, with an example that is no greater than the state's order.
 pub record IsShown (findings : List Finding) (t : State) : Type 0 where
   pub f : Finding
   pub has : Has findings f
   pub decisions : f.decisions ≡ oral_outcome t.world
   pub least : is_gt (order_cmp f.example t.rows) ≡ false
 
--- Returns the sum of `b` over the decisions of the findings, each multiplied by its finding's count.
+-- Returns the sum over the findings of `b` of the decisions, times the finding's count.
 abbrev pub tallied : (List ℕ → ℕ) → List Finding → ℕ
 tallied b findings = sum_by (λ (f : Finding). f.count * b f.decisions) findings
 
--- States that these are the findings of the states. No two have the same outcome. Each count is the sum of its states'
--- numbers of beginnings, up to 2 ^ 64 - 1, and each example is the least of their orders.
+-- States that these are the findings of these states. No two have the same decisions. Each count is the sum of the ways
+-- to its states, up to 2 ^ 64 - 1, and each example is the least of their orders.
 pub record AreGathered (states : List State) (findings : List Finding) : Type 0 where
   pub of_states : All (IsOfState states) findings
   pub different : AreDifferent (outcomes_of findings)

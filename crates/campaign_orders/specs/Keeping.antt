@@ -9,12 +9,12 @@ use Rattle.campaign_orders.specs.Outcomes.{oral_outcome}
 use Rattle.campaign_orders.specs.Schedules.{schedule_from}
 use Rattle.campaign_orders.specs.Text.{exploration_text, schedule_text}
 
--- Returns the text of the schedule of a finding's example.
+-- Returns the text of the schedule for the order that is a finding's example.
 abbrev pub example_text : Kind → Scenario → Finding → List ℕ
 example_text K s f = schedule_text (schedule_from K (opening K s) f.example)
 
--- States that the text is that of an exploration, and that these are the texts of the schedules of its examples, each
--- of at most 1,048,576 bytes. In each outcome the loyal lieutenants agree if the bound holds.
+-- States that the text is that of an exploration, and that `schedules` are the texts of the schedules for its examples,
+-- each of at most 1,048,576 bytes. In each outcome the loyal lieutenants agree if the bound holds.
 pub record IsKept (s : Scenario) (most : ℕ) (text : List ℕ) (schedules : List (List ℕ)) : Type 0 where
   pub exploration : Exploration
   pub explores : IsExploration oral_kind oral_outcome s most exploration

@@ -1,4 +1,6 @@
--- Beginnings of orders in layers, where those that lead to alike worlds are one state (own).
+-- How an exploration follows all orders together (own). A *beginning* of an order is a sequence of first accesses.
+-- Beginnings that lead to alike worlds are merged into one state, and a layer has the states after the same number of
+-- accesses.
 use Rattle.std.specs.Prelude.{ℕ, zero, suc, ◌≡◌, ◌<◌, ◌≤◌, ◌+◌, ◌*◌, ◌-◌, ◌^◌, ◌++◌, min, cond, Bool, true, false, List, [], ◌∷◌, All, length, sum_by, slice_get, slice_index_or, slice_set, Option, None, Some, ◌⊎◌}
 use Rattle.std.specs.declared.cmp.Ordering.{Ordering}
 use Rattle.std.specs.Ordering.{is_lt, is_gt}
@@ -14,15 +16,15 @@ use Rattle.campaign_orders.specs.Listing.{Has, AreShort, askers, round_orders, m
 use Rattle.campaign_orders.specs.Merging.{AreAlike}
 use Rattle.campaign_orders.specs.Walks.{IsWalk}
 
--- A state: a world, how many beginnings of orders lead to it or to an alike world, and the least of these beginnings. A
--- beginning lists the generals who made the accesses of the closed rounds, and of the open one.
+-- A state: a world, how many beginnings lead to it or to an alike world, and the least of these beginnings. A beginning
+-- lists the generals who made the accesses: in `rows` for the closed rounds, and in `names` for the open one.
 pub record State : Type 0 where
   pub world : World
   pub ways : ℕ
   pub rows : List (List ℕ)
   pub names : List ℕ
 
--- Returns the number of beginnings as it is stored: a number above 2 ^ 64 - 1 is stored as 2 ^ 64 - 1.
+-- Returns a number of beginnings as it is stored: if it is above 2 ^ 64 - 1, as 2 ^ 64 - 1.
 abbrev pub kept : ℕ → ℕ
 kept n = min n (2 ^ 64 - 1)
 
@@ -30,45 +32,45 @@ kept n = min n (2 ^ 64 - 1)
 abbrev pub AsKept : ℕ → ℕ → Type 0
 AsKept a b = kept a ≡ kept b
 
--- Returns the world after further rounds, in which the generals in these lists make their accesses.
+-- Returns the world after further rounds. Each list names the generals who make accesses in a round, in order.
 abbrev pub behind_all : World → List (List ℕ) → World
 behind_all w [] = w
 behind_all w (row ∷ rows) = behind_all (behind oral_kind w row) rows
 
--- Returns the world after further rounds, in which the generals in `rows` make their accesses, and after the accesses
--- of the generals in `names` in the next round.
+-- Returns the world after further rounds and part of the next one. `rows` names for each of these rounds the generals
+-- who make accesses, in order, and `names` does so for the next round.
 abbrev pub reached : World → List (List ℕ) → List ℕ → World
 reached w rows names = run oral_kind (behind_all w rows) (names_events oral_kind (behind_all w rows) names)
 
--- States that the generals in each list make all accesses of its round, one after another.
+-- States that each list names the generals who make all accesses of a round, in order.
 abbrev pub AreRounds : World → List (List ℕ) → Type 0
 AreRounds w [] = Unit {0}
 AreRounds w (row ∷ rows) = IsRoundFrom oral_kind w row × AreRounds (behind oral_kind w row) rows
 
--- States that the beginning of a state leads to its world, with activations run on, and that `k` rounds are closed
--- there.
+-- States that the beginning of state `t` leads to its world, in which `k` rounds are closed. Activations may have run
+-- on to their next requests.
 pub record IsStateOf (s : Scenario) (k : ℕ) (t : State) : Type 0 where
   pub rounds : AreRounds (opening oral_kind s) t.rows
   pub count : length t.rows ≡ k
   pub walk : IsWalk oral_kind (behind_all (opening oral_kind s) t.rows) t.names
   pub world : IsRunOn (reached (opening oral_kind s) t.rows t.names) t.world
 
--- States that the beginning of each state leads to its world, with activations run on, and that `k` rounds are closed
--- there.
+-- States that the beginning of each state leads to its world, in which `k` rounds are closed. Activations may have run
+-- on to their next requests.
 abbrev pub AreStatesOf : Scenario → ℕ → List State → Type 0
 AreStatesOf s k states = All (IsStateOf s k) states
 
--- States that a round has just begun in a state, after `k` closed rounds, and that no activation is run on.
+-- States that in state `t` a round has just begun, after `k` closed rounds, and no activation has run on.
 pub record IsFreshOf (s : Scenario) (k : ℕ) (t : State) : Type 0 where
   pub state : IsStateOf s k t
   pub fresh : t.names ≡ []
   pub begins : t.world ≡ behind_all (opening oral_kind s) t.rows
 
--- States that a round has just begun in each state, after `k` closed rounds, and that no activation is run on.
+-- States that in each state a round has just begun, after `k` closed rounds, and no activation has run on.
 abbrev pub AreFreshOf : Scenario → ℕ → List State → Type 0
 AreFreshOf s k states = All (IsFreshOf s k) states
 
--- States that the state at this index has an alike world.
+-- States that the state at this index has a world that is alike to that of `t`.
 abbrev pub IsAlikeAt : List State → State → ℕ → Type 0
 IsAlikeAt states t place =
     (place < length states) × ((d : State) → (slice_index_or states place d).world.scenario ≡ t.world.scenario →
@@ -78,19 +80,21 @@ IsAlikeAt states t place =
 abbrev pub beginning_of : State → Beginning
 beginning_of t = (t.rows, t.names)
 
--- Compares the beginnings of two states.
+-- Compares the beginnings of two states. At the first access in which they differ, the lesser one has the general with
+-- the lower number.
 abbrev pub begins_cmp : State → State → Ordering
 begins_cmp t u = beginning_cmp (beginning_of t) (beginning_of u)
 
--- Returns the state with the lesser beginning.
+-- Returns the state with the lesser beginning, or `t` if they are equal.
 abbrev pub earlier : State → State → State
 earlier t u = cond (is_lt (begins_cmp u t)) u t
 
--- Returns the state with the lesser beginning. Its number of beginnings is the sum of both.
+-- Returns the state that results from merging two: the one with the lesser beginning, but with the number of beginnings
+-- of both.
 abbrev pub joined : State → State → State
 joined t u = record (earlier t u) { ways = kept (t.ways + u.ways) }
 
--- States that a state is joined with one of these states whose world is alike.
+-- States that `new` is the list of states after `t` is merged with one of them whose world is alike.
 pub record IsJoined (states : List State) (t : State) (new : List State) : Type 0 where
   pub place : ℕ
   pub was : State
@@ -99,26 +103,27 @@ pub record IsJoined (states : List State) (t : State) (new : List State) : Type 
   pub alike : was.world.scenario ≡ t.world.scenario → AreAlike was.world t.world
   pub made : new ≡ slice_set states place (joined was t)
 
--- States that a state is joined with one of these states, or appended.
+-- States that `new` is the list of states after `t` is merged with one of them, or appended.
 abbrev pub IsEntered : List State → State → List State → Type 0
 IsEntered states t new = IsJoined states t new ⊎ (new ≡ states ++ t ∷ [])
 
--- States that this is the state of the world `w`, with its activations run on, this number of beginnings and this
--- beginning.
+-- States that `t` is a state with the world `w`, whose activations may have run on, and with this number of beginnings
+-- and this least beginning.
 pub record IsAhead (w : World) (count : ℕ) (before : List (List ℕ)) (made : List ℕ) (t : State) : Type 0 where
   pub world : IsRunOn w t.world
   pub ways : t.ways ≡ count
   pub rows : t.rows ≡ before
   pub names : t.names ≡ made
 
--- States that this is the state after a general has made his next access in the world `w`, or that he makes no further
--- access there.
+-- States that this is the state after the next access of general `g` in the world `w`. It is `None` if he makes no
+-- further access in the round.
 abbrev pub IsPastOf : World → State → ℕ → Option State → Type 0
 IsPastOf w t g None = will_ask (slice_get w.parts g) ≡ false
 IsPastOf w t g (Some next) =
     (will_ask (slice_get w.parts g) ≡ true) × IsAhead (past oral_kind w g) t.ways t.rows (t.names ++ g ∷ []) next
 
--- States whether a general makes a further access, and that the state after it is entered if he does.
+-- States whether general `g` makes a further access in the round. If he does, `new` is the list of states with the
+-- state after it entered.
 abbrev pub IsAsked : World → State → ℕ → List State → Bool → List State → Type 0
 IsAsked w t g states true new = (next : State) × IsPastOf w t g (Some next) × IsEntered states next new
 IsAsked w t g states false new = IsPastOf w t g None × (new ≡ states)
@@ -127,59 +132,60 @@ IsAsked w t g states false new = IsPastOf w t g None × (new ≡ states)
 abbrev pub IsCommon : (World → ℕ) → Type 0
 IsCommon f = (w v : World) → AreAlike w v → f w ≡ f v
 
--- States that running activations on does not change the value of the function `f`.
+-- States that the value of the function `f` does not change when activations run on.
 abbrev pub IsSteady : (World → ℕ) → Type 0
 IsSteady f = (w v : World) → IsScenario w.scenario → IsReached oral_kind w → IsRunOn w v → f v ≡ f w
 
--- Returns the sum of `f` over the states' worlds, each multiplied by its state's number of beginnings.
+-- Returns the sum over the states of `f` of the world, times the state's number of beginnings.
 abbrev pub weighed : (World → ℕ) → List State → ℕ
 weighed f states = sum_by (λ (t : State). t.ways * f t.world) states
 
--- Returns the sum of `f` over these generals, or `end` if there are none.
+-- Returns the sum of `f` over these generals, or `end` if there are no generals.
 abbrev pub or_sum : List ℕ → ℕ → (ℕ → ℕ) → ℕ
 or_sum [] end f = end
 or_sum (g ∷ gs) end f = sum_by f (g ∷ gs)
 
--- Returns the sum of `f` over the worlds after one more access. If no general has accesses left, it is `h` of the world
--- after the round.
+-- Returns the sum of `f` over the worlds after one more access in the round. If no general makes a further access,
+-- returns `h` of the world after the round.
 abbrev pub stepped : (World → ℕ) → (World → ℕ) → World → ℕ
 stepped f h w = or_sum (askers w) (h (behind oral_kind w [])) (λ g. f (past oral_kind w g))
 
--- Returns the sum of `h` over the worlds after the round, for all orders in which the round can go on with at most
--- `most` accesses.
+-- Returns the sum of `h` over the worlds after the round, one for each order in which its further accesses can come.
+-- Orders with more than `most` accesses are left out.
 abbrev pub over_round : ℕ → (World → ℕ) → World → ℕ
 over_round most h w = sum_by (λ names. h (behind oral_kind w names)) (round_orders oral_kind most w)
 
--- Returns the sum of `h` over the worlds after `k` rounds, for all orders with at most `most` accesses in each round.
+-- Returns the sum of `h` over the worlds after `k` rounds, one for each order in which their accesses can come. Orders
+-- with more than `most` accesses in a round are left out.
 abbrev pub over_rounds : ℕ → ℕ → (World → ℕ) → World → ℕ
 over_rounds most zero h w = h w
 over_rounds most (suc k) h w = over_round most (over_rounds most k h) w
 
--- Returns the sum of `f` over the states of one layer plus the sum of `h` over those of another, each multiplied by its
--- number of beginnings.
+-- Returns the sum over the states `next` of `f` of the world, plus the sum over the states `done` of `h` of the world,
+-- each times the state's number of beginnings.
 abbrev pub weighed_both : (World → ℕ) → (World → ℕ) → List State → List State → ℕ
 weighed_both f h next done = weighed f next + weighed h done
 
--- States that one of these states represents the beginning with these rounds and accesses. Its own beginning is no
--- greater. Its world has the same value under each function that is the same for alike worlds and that running on does
--- not change.
+-- States that one of these states represents the beginning `rows` and `names`. Its own beginning is no greater. Its
+-- world has the same value as the one to which this beginning leads, for every function that has the same value for
+-- alike worlds and does not change when activations run on.
 pub record StandsFor (s : Scenario) (states : List State) (rows : List (List ℕ)) (names : List ℕ) : Type 0 where
   pub t : State
   pub has : Has states t
   pub least : is_gt (beginning_cmp (beginning_of t) (rows, names)) ≡ false
   pub same : (f : World → ℕ) → IsCommon f → IsSteady f → f (reached (opening oral_kind s) rows names) ≡ f t.world
 
--- States that every beginning that the first states represent is also represented by the second ones.
+-- States that every beginning that is represented in `states` is also represented in `new`.
 abbrev pub StandsOn : Scenario → List State → List State → Type 0
 StandsOn s states new =
     (rows : List (List ℕ)) (names : List ℕ) → StandsFor s states rows names → StandsFor s new rows names
 
--- States that in each state `n` accesses have been made in the open round.
+-- States that in each state exactly `n` accesses have been made in the open round.
 abbrev pub AreMade : ℕ → List State → Type 0
 AreMade n states = All (λ (t : State). length t.names ≡ n) states
 
--- States that a state is replaced by the states that can follow it, and that the sums over the states change only by
--- that.
+-- States that the states that can follow state `t` are entered, into `next` after one more access or into `done` after
+-- the round. Sums over all states, weighted by their numbers of beginnings, change accordingly.
 pub record IsExpanded (s : Scenario) (t : State) (next done next_new done_new : List State) : Type 0 where
   pub states : (k : ℕ) → IsStateOf s k t → AreStatesOf s k next → AreStatesOf s k next_new
   pub fresh : (k : ℕ) → IsStateOf s k t → AreFreshOf s (suc k) done → AreFreshOf s (suc k) done_new
@@ -194,8 +200,8 @@ pub record IsExpanded (s : Scenario) (t : State) (next done next_new done_new : 
   pub closes : (k : ℕ) → IsStateOf s k t → AreFreshOf s (suc k) done → askers t.world ≡ [] →
       StandsFor s done_new (t.rows ++ t.names ∷ []) []
 
--- States that all states of a layer are replaced by the states that can follow them, and that the sums over the states
--- change only by that.
+-- States that the states that can follow those of a layer are entered, into `next` after one more access or into `done`
+-- after the round. Sums over all states, weighted by their numbers of beginnings, change accordingly.
 pub record IsStep (s : Scenario) (layer next done done_new : List State) : Type 0 where
   pub states : (k : ℕ) → AreStatesOf s k layer → AreStatesOf s k next
   pub fresh : (k : ℕ) → AreStatesOf s k layer → AreFreshOf s (suc k) done → AreFreshOf s (suc k) done_new
@@ -209,7 +215,7 @@ pub record IsStep (s : Scenario) (layer next done done_new : List State) : Type 
   pub closes : (k : ℕ) → AreStatesOf s k layer → AreFreshOf s (suc k) done → (t : State) → Has layer t →
       askers t.world ≡ [] → StandsFor s done_new (t.rows ++ t.names ∷ []) []
 
--- States that these are the states after a round that begins in the states `first`.
+-- States that `done` are the states after a round that begins in the states `first`.
 pub record IsRoundOn (s : Scenario) (most : ℕ) (first done : List State) : Type 0 where
   pub fresh : (k : ℕ) → AreStatesOf s k first → AreFreshOf s (suc k) done
   pub weight : (k : ℕ) (h : World → ℕ) → IsScenario s → AreStatesOf s k first → IsCommon h →
@@ -218,7 +224,8 @@ pub record IsRoundOn (s : Scenario) (most : ℕ) (first done : List State) : Typ
       StandsFor s first rows [] → (row : List ℕ) → IsRoundFrom oral_kind (behind_all (opening oral_kind s) rows) row →
       length row ≤ most → StandsFor s done (rows ++ row ∷ []) []
 
--- States that these are the states after `k` rounds, and that they represent every beginning of `k` rounds.
+-- States that these are the states after `k` rounds, and that every beginning of `k` rounds is represented by one of
+-- them.
 pub record AreLayers (s : Scenario) (k : ℕ) (states : List State) : Type 0 where
   pub fresh : AreFreshOf s k states
   pub weight : (h : World → ℕ) → IsCommon h →

@@ -1,4 +1,4 @@
--- An open round in parts that states share, and what an access leaves of it (own).
+-- An open round, of which copies share parts, and what an access does to it (own).
 use Rattle.std.specs.Prelude.{ℕ, ◌≡◌, true, false, List, length, slice_get, slice_set, Option, None, Some}
 use Rattle.board.specs.Ledger.{RecordedBoard}
 use Rattle.round.specs.Activation.{Activation, turn, has_ended}
@@ -10,14 +10,14 @@ use Rattle.world.specs.World.{oral_kind}
 use Rattle.campaign_orders.specs.declared.accessed.Accessed.{Accessed}
 use Rattle.campaign_orders.specs.Layers.{reached}
 
--- An open round: the world at its start, the board's words now, and the generals' parts now.
+-- An open round: the world at its start, the board's current words, and the generals' current parts.
 pub record OpenRound : Type 0 where
   pub start : World
   pub words : List ℕ
   pub parts : List Progress
 
--- Returns the world in an open round, if the generals in `rows` made the accesses of the closed rounds and those in
--- `names` the accesses of the open one.
+-- Returns the world with this open round. `rows` lists for each closed round the generals who made its accesses, and
+-- `names` lists those for the open round.
 abbrev pub world_in : List (List ℕ) → List ℕ → OpenRound → World
 world_in rows names o = record (reached (opening oral_kind o.start.scenario) rows names) {
   closed = o.start.closed;
@@ -25,13 +25,12 @@ world_in rows names o = record (reached (opening oral_kind o.start.scenario) row
   parts = o.parts;
 }
 
--- States that an activation ends without a further access.
+-- States that an activation ends without making a further access.
 abbrev pub EndsSilently : Activation → Type 0
 EndsSilently a = (end : Activation) × Silently a end × (has_ended end ≡ true)
 
--- States that general `g` makes an access in the activation `a` when the board has these words, that `end` is his
--- activation after it, and that the board then has the words `left`. Turns without an access may come before the access
--- and after it.
+-- States that the next access of general `g`, whose activation is `a`, to a board with these words leads to the
+-- activation `end` and leaves the words `left`. Turns that are no requests may come before and after the access.
 pub record MakesAccess (g : ℕ) (a : Activation) (words : List ℕ) (end : Activation) (left : List ℕ) : Type 0 where
   pub before : Activation
   pub after : Activation
@@ -46,15 +45,15 @@ pub record MakesAccess (g : ℕ) (a : Activation) (words : List ℕ) (end : Acti
   pub to_end : Silently after end
   pub left_words : left ≡ served.words
 
--- States that general `g`, whose part is given, makes this access when the board has these words, or that he makes
--- none.
+-- States that this is the result of the next access of general `g`, whose part is given, to a board with these words.
+-- It is `None` if he makes no further access.
 abbrev pub IsPartAfter : ℕ → List ℕ → Option Progress → Option Accessed → Type 0
 IsPartAfter g words (Some (Acting a)) None = EndsSilently a
 IsPartAfter g words (Some (Acting a)) (Some made) = MakesAccess g a words made.running made.words
 IsPartAfter g words _ None = Unit {0}
 IsPartAfter g words _ (Some made) = ⊥
 
--- States that this is the open round after general `g` has made his next access, or that he makes none.
+-- States that this is the open round after the next access of general `g`. It is `None` if he makes no further access.
 abbrev pub IsRoundAfter : OpenRound → ℕ → Option OpenRound → Type 0
 IsRoundAfter o g None = IsPartAfter g o.words (slice_get o.parts g) None
 IsRoundAfter o g (Some next) =

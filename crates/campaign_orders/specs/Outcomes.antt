@@ -1,4 +1,4 @@
--- The outcome of a campaign, by its kind (own).
+-- The outcome of a campaign, which for oral campaigns is the lieutenants' decisions (own).
 use Rattle.std.specs.Prelude.{ℕ, List}
 use Rattle.round.specs.Scenario.{Scenario}
 use Rattle.round.specs.Letters.{messages}
@@ -7,15 +7,15 @@ use Rattle.world.specs.Chronicle.{decisions}
 use Rattle.world.specs.Kind.{Kind, World, opening, run}
 use Rattle.world.specs.KindLists.{replayed}
 
--- How an outcome is computed from the world of a finished campaign.
+-- A function that computes the outcome from the world of a finished campaign.
 abbrev pub Outcome : Type 0
 Outcome = World → List ℕ
 
--- Returns the outcome of an oral campaign: what its lieutenants decide, ascending.
+-- Returns the outcome of an oral campaign: the order on which each lieutenant decides, ascending by lieutenant.
 abbrev pub oral_outcome : Outcome
 oral_outcome w = decisions w.scenario (messages w.closed)
 
--- Returns the outcome of the run with these events.
+-- Returns the outcome of the campaign in which these events happen.
 abbrev pub outcome_in : Kind → Outcome → Scenario → List Event → List ℕ
 outcome_in K D s events = D (run K (opening K s) events)
 

@@ -15,8 +15,9 @@ fn instructions_of(running: &Running) -> u32
     running.program().program().len() as u32
 }
 
-/// Lets a general make his next access to a board with these words, and returns what it leaves. His activation is
-/// copied, and run on after the access to its next request or its end. Returns `None` if he makes no further access.
+/// Returns a copy of the general's activation after his next access, to a board with these words, and the board's words
+/// after it. The copy has been run on to its next request or its end. Returns `None` if he makes no further access.
+/// Fails with `AllocError` if it runs out of memory.
 pub(crate) fn next_access(
     alloc: Global,
     running: &Running,
@@ -34,7 +35,7 @@ pub(crate) fn next_access(
     if copy.has_ended() {
         return Ok(None);
     }
-    // Only the ledger would hold the round, and this board's ledger is dropped.
+    // The round's number would matter only in the ledger, and the ledger of this board is dropped.
     let mut board = Board::new(alloc, *words);
     copy.turn(&mut board, general, 1)?;
     copy.ahead(most);

@@ -1,7 +1,7 @@
-//! What an access leaves.
+//! Defines the result of an access to the board.
 use round::Running;
 
-/// What an access leaves: the activation of the general who made it, and the board's words.
+/// The result of an access: the activation of the general who made it, and the board's words.
 #[derive(Drop)]
 pub(crate) struct Accessed {
     /// The activation after the access.

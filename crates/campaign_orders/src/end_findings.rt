@@ -1,4 +1,4 @@
-//! Gathers the outcomes of the states in which a campaign can end.
+//! Collects the outcomes of the states in which a campaign can end. An outcome is the lieutenants' decisions.
 ghost use Rattle.std.specs.Prelude.{◌≡◌, IfOk, OnOk};
 ghost use Rattle.campaign_orders.specs.Gathering.{AreGathered, IsFound};
 
@@ -7,8 +7,9 @@ use crate::finding::DecisionGroup;
 use crate::state::State;
 use std::alloc::{AllocError, Global};
 
-/// Enters the outcome of a state among the findings. If it was found before, the state's number of beginnings is added
-/// to its count.
+/// Enters a state's outcome into `findings`. If an earlier state had the same outcome, the number of orders that lead
+/// to this state is added to its count. An order is a sequence of accesses. Fails with `AllocError` if it runs out of
+/// memory.
 fn find(alloc: Global, findings: &mut Vec<DecisionGroup>, state: &State) -> Result<(), AllocError>
     ensures { OnOk result (IsFound findings.old.items state.now findings.new.items) }
 {
@@ -23,7 +24,8 @@ fn find(alloc: Global, findings: &mut Vec<DecisionGroup>, state: &State) -> Resu
     }
 }
 
-/// Returns the outcomes of all states, with their counts and least examples.
+/// Returns the outcomes of all states. With each go the number of orders of accesses that lead to it, and the least of
+/// these orders. Fails with `AllocError` if it runs out of memory.
 pub(crate) fn gather(alloc: Global, states: &[State]) -> Result<Vec<DecisionGroup>, AllocError>
     ensures { IfOk result (λ findings. AreGathered states.now findings.items) }
 {

@@ -1,5 +1,5 @@
-//! Explores the orders of a campaign: all of them by layers of states, or the least ones by playing each from the
-//! start.
+//! Explores the orders in which a campaign's accesses can come. It follows all orders together, access by access, or
+//! plays the least ones separately.
 ghost use Rattle.std.specs.Prelude.{◌≡◌, ◌↔◌, IsTrue, ◌<◌, ◌+◌, ◌-◌, ◌^◌, ℕ, All, IfOk, OnOk, MatchOption, true, false, length, slice_index_or, option_map, bytes_eq};
 ghost use Rattle.campaign_orders.specs.Entering.{entered};
 ghost use Rattle.campaign_orders.specs.Exploring.{Finding as Found, IsExploration, counted_in};
@@ -22,13 +22,13 @@ use round::Scenario;
 use std::alloc::{AllocError, Global};
 use world::replay;
 
-/// How many orders are played one by one before they are explored layer by layer.
+/// How many orders `explore_all` plays one by one. If there are more, it follows all of them together instead.
 const FEW: u64 = 128;
 
 /// Returns the outcomes of all orders in which the traitors of an oral campaign can access the board, if there are at
-/// most `most` orders. Otherwise it returns the outcomes of the `most` least orders and says that there are more. If
+/// most `most` orders. Otherwise returns the outcomes of the `most` least orders, and says that there are more. If
 /// `most` is `u64::MAX`, all orders are counted, and counts stop at 2^64 - 1. Time and memory then grow with the number
-/// of worlds that are not alike.
+/// of different worlds that are reached.
 ///
 /// # Errors
 ///
@@ -42,14 +42,15 @@ pub fn explore(alloc: Global, scenario: &Scenario, most: u64) -> Result<Explorat
     explore_least(alloc, scenario, most)
 }
 
-/// Checks whether the count is the greatest number, 2^64 - 1.
+/// Returns whether the count is 2^64 - 1, the greatest that is counted.
 fn is_full(count: u64) -> bool
     ensures { IsTrue result ↔ (count ≡ 2 ^ 64 - 1) }
 {
     count == u64::MAX
 }
 
-/// Returns the outcomes of all orders. If there are few, they are played one by one, which is faster than by layers.
+/// Returns the outcomes of all orders. If there are at most 128, each is played separately, which is faster than
+/// following all of them together. Fails with `AllocError` if it runs out of memory.
 fn explore_all(alloc: Global, scenario: &Scenario) -> Result<Exploration, AllocError>
     ensures { IfOk result (λ exploration. IsExploration oral_kind oral_outcome scenario.now (2 ^ 64 - 1) exploration) }
 {
@@ -60,7 +61,8 @@ fn explore_all(alloc: Global, scenario: &Scenario) -> Result<Exploration, AllocE
     }
 }
 
-/// Returns the outcomes of all orders, found layer by layer.
+/// Returns the outcomes of all orders. It follows them together, access by access, and merges equal worlds. Fails with
+/// `AllocError` if it runs out of memory.
 fn explore_layers(alloc: Global, scenario: &Scenario) -> Result<Exploration, AllocError>
     ensures { IfOk result (λ exploration. IsExploration oral_kind oral_outcome scenario.now (2 ^ 64 - 1) exploration) }
 {
@@ -80,7 +82,7 @@ fn explore_layers(alloc: Global, scenario: &Scenario) -> Result<Exploration, All
     })
 }
 
-/// Returns how many orders were counted, where 2^64 - 1 means that number or more.
+/// Returns the sum of the counts of all outcomes, or 2^64 - 1 if it is at least that.
 fn most_counted(findings: &[DecisionGroup]) -> u64
     ensures { result ≡ kept (counted_in findings.now) }
 {
@@ -91,7 +93,8 @@ fn most_counted(findings: &[DecisionGroup]) -> u64
     count
 }
 
-/// Returns the outcomes of the `most` least orders. Each of these orders is played.
+/// Returns the outcomes of the `most` least orders, or of all if there are fewer. It plays each of these orders from
+/// the start. Fails with `AllocError` if it runs out of memory.
 fn explore_least(alloc: Global, scenario: &Scenario, most: u64) -> Result<Exploration, AllocError>
     requires { most < 2 ^ 64 - 1 }
     ensures { IfOk result (λ exploration. IsExploration oral_kind oral_outcome scenario.now most exploration) }
@@ -117,9 +120,9 @@ fn explore_least(alloc: Global, scenario: &Scenario, most: u64) -> Result<Explor
     })
 }
 
-/// Plays the campaign in which the generals in `names` make their accesses first in each round, and then the others in
-/// ascending order. Enters its outcome among the findings. Returns how the next order begins, or `None` after the last
-/// order.
+/// Plays a campaign, and enters its outcome into `findings`. In each round the generals in `names` make their accesses
+/// first, in the given order, and then the others, ascending. Returns how the next order of accesses begins, or `None`
+/// if this was the last order. Fails with `AllocError` if it runs out of memory.
 fn visit(
     alloc: Global,
     scenario: &Scenario,
@@ -142,7 +145,8 @@ fn visit(
     next_order(order)
 }
 
-/// Counts an order that leads to these decisions. If they are new, they are appended with the order as their example.
+/// Counts one more order of accesses that leads to these decisions. If no other order has led to them, it appends them
+/// to `findings` with this order as their example. Fails with `AllocError` if it runs out of memory.
 fn enter(
     alloc: Global,
     findings: &mut Vec<DecisionGroup>,
@@ -164,7 +168,7 @@ fn enter(
     }
 }
 
-/// Returns the index of the first finding with these decisions, if there is one.
+/// Returns the index of the first element of `findings` with these decisions, or `None` if there is none.
 pub(crate) fn place_of(findings: &[DecisionGroup], decisions: &[u32]) -> Option<usize>
     ensures { MatchOption result (IsNowhere findings.now decisions.now)
         (λ place. IsPlaceOf findings.now decisions.now place) }

@@ -1,4 +1,4 @@
-//! An outcome that an exploration finds, with its count and an example.
+//! Defines an outcome that an exploration finds, with its count of orders and an example.
 ghost use Rattle.std.specs.Prelude.{◌≡◌, ◌+◌, ◌<◌, ◌^◌, IfOk, OnOk};
 ghost use Rattle.campaign_orders.specs.Layers.{kept};
 ghost use Rattle.campaign_orders.specs.Least.{lesser};
@@ -8,8 +8,8 @@ use crate::order::{compared, copied};
 use std::alloc::{AllocError, Global};
 use std::marker::Model;
 
-/// A finding: the decisions of a campaign's lieutenants, how many orders of accesses lead to them, and the least of
-/// these orders.
+/// An outcome: the lieutenants' decisions, how many orders of accesses lead to them, and the least of these orders as
+/// an example.
 #[derive(Drop)]
 pub struct DecisionGroup {
     decisions: Vec<u32>,
@@ -27,7 +27,8 @@ impl Model for DecisionGroup {
 }
 
 impl DecisionGroup {
-    /// Returns the group of the orders that lead to `decisions`, with `order` as its only order and its example.
+    /// Returns the outcome with these decisions. `order` is the only order of accesses counted so far, and the example.
+    /// Fails with `AllocError` if it runs out of memory.
     pub(crate) fn first(
         alloc: Global,
         decisions: &[u32],
@@ -46,7 +47,8 @@ impl DecisionGroup {
         })
     }
 
-    /// Returns the group of the orders that lead to `decisions`, with `count` orders so far. `order` is its example.
+    /// Returns the outcome with these decisions and this count of orders. `order` is the example. Fails with
+    /// `AllocError` if it runs out of memory.
     pub(crate) fn of(
         alloc: Global,
         decisions: &[u32],
@@ -66,7 +68,8 @@ impl DecisionGroup {
         })
     }
 
-    /// Adds `ways` orders that lead to these decisions, of which the least is given. The count stops at 2^64 - 1.
+    /// Adds `ways` to the count of orders, which stops at 2^64 - 1. `order` is the least of the added orders, and
+    /// becomes the example if it is less than the example so far. Fails with `AllocError` if it runs out of memory.
     pub(crate) fn count_more(
         &mut self,
         alloc: Global,
@@ -85,7 +88,7 @@ impl DecisionGroup {
         Ok(())
     }
 
-    /// Adds one order to the count.
+    /// Adds one to the count of orders.
     pub(crate) fn count_again(&mut self)
         requires { self.old.count + 1 < 2 ^ 64 }
         ensures { self.new ≡ record self.old { count = self.old.count + 1 } }
@@ -93,21 +96,22 @@ impl DecisionGroup {
         self.count += 1;
     }
 
-    /// Returns the decisions of the lieutenants, in ascending order of the lieutenants.
+    /// Returns the order on which each lieutenant decides, ascending by lieutenant.
     pub fn decisions(&self) -> &[u32]
         ensures { result.now ≡ self.now.decisions }
     {
         self.decisions.as_slice()
     }
 
-    /// Returns how many orders lead to these decisions.
+    /// Returns how many orders of accesses lead to these decisions. A count of 2^64 - 1 means at least this number.
     pub fn count(&self) -> u64
         ensures { result ≡ self.now.count }
     {
         self.count
     }
 
-    /// Returns the example: for each round the generals who make the accesses, one after another.
+    /// Returns an order of accesses that leads to these decisions: for each round the generals who make the accesses,
+    /// in order.
     pub fn example(&self) -> &[Vec<u8>]
         ensures { lists_in result.now ≡ self.now.example }
     {

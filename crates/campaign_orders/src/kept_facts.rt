@@ -1,4 +1,4 @@
-//! A function that does nothing. Its contract gives the caller a fact that the type of its argument guarantees.
+//! Recalls for proofs what the type of a scenario guarantees.
 ghost use Rattle.std.specs.Prelude.{◌≡◌, ◌≤◌, ℕ, List, Some, length};
 ghost use Rattle.insn.specs.declared.insn.Insn.{Insn};
 ghost use Rattle.round.specs.Scenario.{program_of};

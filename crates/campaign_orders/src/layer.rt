@@ -1,4 +1,5 @@
-//! A layer of states, in which alike worlds are one state. States are found by their marks.
+//! Defines layers: lists of states in which alike worlds are merged. A state is found by its mark, which is a hash of
+//! its world.
 ghost use Rattle.std.specs.Prelude.{◌≡◌, ◌++◌, ◌∷◌, [], IfOk, IfSome, OnOk};
 ghost use Rattle.campaign_orders.specs.Layers.{IsAlikeAt, IsEntered};
 
@@ -7,12 +8,13 @@ use std::alloc::{AllocError, Global};
 use std::collections::HashMap;
 use std::marker::Model;
 
-/// A layer: states, in the order in which they were entered.
+/// A list of states, each with a world that is reached after the same number of accesses. They are in the order in
+/// which they were entered.
 #[derive(Drop)]
 pub(crate) struct Layer {
     states: Vec<State>,
-    /// For each mark the index of the state that was entered last with it. The search uses it only as a hint, and
-    /// nothing is promised of it.
+    /// For each mark (a hash of a world) the index of the state with this mark that was entered last. It only speeds up
+    /// the search, and nothing is proved of it.
     newest: HashMap<u64, usize>,
 }
 
@@ -36,7 +38,7 @@ impl Layer {
         }
     }
 
-    /// Returns the states of the layer.
+    /// Returns the states, in the order in which they were entered.
     pub(crate) fn into_states(self) -> Vec<State>
         ensures { result.items ≡ self }
     {
@@ -44,8 +46,8 @@ impl Layer {
         states
     }
 
-    /// Adds a state to the layer. If a state of the layer has an alike world, the two are merged. Otherwise the new
-    /// state is appended.
+    /// Adds a state. If the layer has a state whose world is alike, the two states are merged, otherwise the new one is
+    /// appended. Fails with `AllocError` if it runs out of memory.
     pub(crate) fn enter(&mut self, alloc: Global, state: State) -> Result<(), AllocError>
         ensures { OnOk result (IsEntered self.old state self.new) }
     {
@@ -58,7 +60,8 @@ impl Layer {
         }
     }
 
-    /// Returns the index of a state whose world is alike, if one is found.
+    /// Returns the index of a state in the layer whose world is alike to that of `state`, or `None` if none was found.
+    /// Fails with `AllocError` if it runs out of memory.
     fn place_of(&self, alloc: Global, state: &State) -> Result<Option<usize>, AllocError>
         ensures { IfOk result (λ found. IfSome found (λ place. IsAlikeAt self.now state.now place)) }
     {
@@ -82,7 +85,8 @@ impl Layer {
         Ok(None)
     }
 
-    /// Appends a state.
+    /// Appends a state to the layer, as the last one entered with its mark. Fails with `AllocError` if it runs out of
+    /// memory.
     fn push(&mut self, state: State) -> Result<(), AllocError>
         ensures { OnOk result (self.new ≡ self.old ++ state ∷ []) }
     {

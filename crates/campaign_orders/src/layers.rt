@@ -1,4 +1,5 @@
-//! Explores orders layer by layer. Each layer has one access more, and alike worlds of a layer are one state.
+//! Follows all orders of accesses together. A layer has the states after the same number of accesses of a round, and
+//! alike worlds are one state.
 ghost use Rattle.std.specs.Prelude.{◌≡◌, ◌<◌, ◌≤◌, ◌*◌, ◌||◌, ℕ, suc, IfOk, OnOk};
 ghost use Rattle.campaign_orders.specs.Ahead.{IsRunOn};
 ghost use Rattle.campaign_orders.specs.Layers.{AreLayers, AreStatesOf, IsAsked, IsExpanded, IsRoundOn, IsStep, reached};
@@ -13,7 +14,8 @@ use crate::state::State;
 use round::Scenario;
 use std::alloc::{AllocError, Global};
 
-/// Enters the state after a general has made his next access. Returns whether he has a next access in the open round.
+/// Enters into `next` the state after this general's next access. Returns whether he makes a further access in the open
+/// round. Fails with `AllocError` if it runs out of memory.
 fn ask(alloc: Global, state: &State, general: u8, next: &mut Layer) -> Result<bool, AllocError>
     requires { IsRunOn (reached (opening oral_kind state.now.world.scenario) state.now.rows state.now.names)
         state.now.world }
@@ -28,15 +30,16 @@ fn ask(alloc: Global, state: &State, general: u8, next: &mut Layer) -> Result<bo
     }
 }
 
-/// Checks whether at least one of two conditions is true.
+/// Returns whether at least one of two conditions is true.
 fn either(one: bool, other: bool) -> bool
     ensures { result ≡ (one || other) }
 {
     one || other
 }
 
-/// Enters the states that can follow a state. If some generals have accesses left, these are the states after the next
-/// access of each of them. Otherwise it is the state at the start of the next round, which is entered in `done`.
+/// Enters the states that can follow a state. For each general who makes a further access in the round, the state after
+/// it is entered into `next`. If there is no such general, the state at the start of the next round is entered into
+/// `done`. Fails with `AllocError` if it runs out of memory.
 fn expand(
     alloc: Global,
     scenario: &SharedScenario,
@@ -62,8 +65,9 @@ fn expand(
     Ok(())
 }
 
-/// Returns the layer after a layer. If nobody has accesses left in a state, the state at the start of the next round is
-/// entered in `done`.
+/// Returns the layer after one more access from each state in `layer`. For a state in which no general makes a further
+/// access in the round, the state at the start of the next round is entered into `done`. Fails with `AllocError` if it
+/// runs out of memory.
 fn step(
     alloc: Global,
     scenario: &SharedScenario,
@@ -82,7 +86,8 @@ fn step(
     Ok(next.into_states())
 }
 
-/// Returns the states after a round that begins in the states `first` and has at most `most` accesses.
+/// Returns the states after a round that begins in the states `first`. At most `most` accesses can be made in a round.
+/// Fails with `AllocError` if it runs out of memory.
 fn whole_round(
     alloc: Global,
     scenario: &SharedScenario,
@@ -104,8 +109,8 @@ fn whole_round(
     Ok(done.into_states())
 }
 
-/// Returns an upper bound of the accesses in a round: the number of generals times the number of instructions of all
-/// programs.
+/// Returns an upper bound on the number of accesses in a round: the number of generals times the number of instructions
+/// of all programs together.
 fn most_in_round(scenario: &Scenario) -> u32
     ensures { result ≡ most_in_round scenario.now }
 {
@@ -125,7 +130,7 @@ fn product(times: u32, number: u32) -> u32
     times * number
 }
 
-/// Returns how many instructions a general's program has, or 0 if he has none.
+/// Returns how many instructions a general's program has, or 0 if he is loyal.
 fn instructions_of(scenario: &Scenario, general: u8) -> u32
     requires { general < scenario.now.generals }
     ensures count { result ≡ instructions (program_of scenario.now general) }
@@ -137,7 +142,7 @@ fn instructions_of(scenario: &Scenario, general: u8) -> u32
     }
 }
 
-/// Returns the states in which a campaign can end.
+/// Returns the states in which the scenario's campaign can end. Fails with `AllocError` if it runs out of memory.
 pub(crate) fn last_states(alloc: Global, scenario: &Scenario) -> Result<Vec<State>, AllocError>
     ensures { IfOk result (λ states. AreLayers scenario.now (suc scenario.now.bound) states.items) }
 {

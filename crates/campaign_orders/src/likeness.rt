@@ -1,4 +1,4 @@
-//! Checks whether two worlds go on alike, so that their states can be merged.
+//! Checks whether two worlds are alike, so that the same can happen in both and they can be merged.
 ghost use Rattle.std.specs.Prelude.{◌≡◌, ◌↔◌, IsTrue, map};
 ghost use Rattle.std.specs.Arc.{arc_value};
 ghost use Rattle.campaign_orders.specs.Merging.{AreAlike, RoundsAlike, TellAlike};
@@ -8,7 +8,7 @@ use round::{Letter, Round};
 use std::sync::Arc;
 use world::{PlayableWorld, Progress, World};
 
-/// Checks whether two letters are of the same general and send the same.
+/// Returns whether two letters are from the same general and send the same orders.
 fn tells_alike(letter: &Letter, other: &Letter) -> bool
     ensures general { IsTrue result → letter.now.general ≡ other.now.general }
     ensures outbox { IsTrue result → letter.now.outbox ≡ other.now.outbox }
@@ -16,7 +16,8 @@ fn tells_alike(letter: &Letter, other: &Letter) -> bool
     letter.general == other.general && letter.outbox.same(&other.outbox)
 }
 
-/// Checks whether the letters of two lists are pairwise of the same general and send the same.
+/// Returns whether two lists have equally many letters, and letters at the same index are from the same general and
+/// send the same orders.
 fn tell_alike(letters: &[Letter], others: &[Letter]) -> bool
     ensures { IsTrue result → TellAlike letters.now others.now }
 {
@@ -31,7 +32,7 @@ fn tell_alike(letters: &[Letter], others: &[Letter]) -> bool
     true
 }
 
-/// Checks whether the letters of two lists of rounds are pairwise of the same general and send the same.
+/// Returns whether two lists have equally many rounds, and in each round the same generals send the same orders.
 pub(crate) fn rounds_alike(rounds: &[Round], others: &[Round]) -> bool
     ensures { IsTrue result → RoundsAlike rounds.now others.now }
 {
@@ -46,7 +47,7 @@ pub(crate) fn rounds_alike(rounds: &[Round], others: &[Round]) -> bool
     true
 }
 
-/// Checks whether two parts in the open round are the same.
+/// Returns whether two generals' parts are the same: the same activation, or both have posted, or neither has.
 fn same_part(part: &Progress, other: &Progress) -> bool
     ensures { IsTrue result ↔ (part.now ≡ other.now) }
 {
@@ -66,7 +67,7 @@ fn same_part(part: &Progress, other: &Progress) -> bool
     }
 }
 
-/// Checks whether two lists of parts in the open round are the same.
+/// Returns whether two lists of generals' parts in the open round are the same.
 fn same_parts(parts: &[Progress], others: &[Progress]) -> bool
     ensures { IsTrue result ↔ (parts.now ≡ others.now) }
 {
@@ -81,7 +82,7 @@ fn same_parts(parts: &[Progress], others: &[Progress]) -> bool
     true
 }
 
-/// Checks whether two lists of shared parts are the same.
+/// Returns whether two lists of generals' parts, which may be shared between states, are the same.
 pub(crate) fn same_shared(parts: &[Arc<MarkedPart>], others: &[Arc<MarkedPart>]) -> bool
     ensures { IsTrue result → map arc_value parts.now ≡ map arc_value others.now }
 {
@@ -96,22 +97,23 @@ pub(crate) fn same_shared(parts: &[Arc<MarkedPart>], others: &[Arc<MarkedPart>])
     true
 }
 
-/// Checks whether two parts are the same. Only parts with the same mark are compared.
+/// Returns whether two generals' parts are the same. Parts whose marks (hashes) differ are different, so they are not
+/// compared.
 fn same_marked(part: &MarkedPart, other: &MarkedPart) -> bool
     ensures { IsTrue result → part.now ≡ other.now }
 {
     part.mark() == other.mark() && same_part(part.progress(), other.progress())
 }
 
-/// Checks whether the words of two boards are the same.
+/// Returns whether two boards have the same words.
 pub(crate) fn same_words(words: &[u64; 64], others: &[u64; 64]) -> bool
     ensures { IsTrue result ↔ (words.now ≡ others.now) }
 {
     words.as_slice() == others.as_slice()
 }
 
-/// Checks whether two worlds of one scenario have the same words and the same parts, and whether the letters of their
-/// closed rounds send the same.
+/// Returns whether two worlds of one scenario are alike: the board's words and the generals' parts are the same, and
+/// the letters of the closed rounds send the same orders.
 pub(crate) fn are_alike(world: &World, other: &World) -> bool
     ensures { IsTrue result → world.now.scenario ≡ other.now.scenario → AreAlike world.now other.now }
 {

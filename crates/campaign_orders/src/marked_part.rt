@@ -1,4 +1,4 @@
-//! A general's part in the open round, with its mark.
+//! Defines a general's part in the open round together with its mark, which is a hash of it.
 ghost use Rattle.std.specs.Prelude.{◌≡◌, IfOk, Some};
 ghost use Rattle.campaign_orders.specs.OpenRounds.{IsPartAfter};
 
@@ -9,7 +9,7 @@ use std::alloc::{AllocError, Global};
 use std::marker::Model;
 use world::Progress;
 
-/// A general's part in the open round, with its mark, which is computed once. Contracts see it as the part.
+/// A general's part in the open round, and its mark (a hash), which is computed only once. Contracts see only the part.
 #[derive(Drop)]
 pub(crate) struct MarkedPart {
     progress: Progress,
@@ -25,7 +25,7 @@ impl Model for MarkedPart {
 }
 
 impl MarkedPart {
-    /// Returns a part with its mark.
+    /// Returns this part with its mark, which is computed from it.
     pub(crate) fn new(progress: Progress) -> MarkedPart
         ensures { result ≡ progress }
     {
@@ -33,7 +33,7 @@ impl MarkedPart {
         MarkedPart { progress, mark }
     }
 
-    /// Returns a copy of a part with its mark. Fails with `AllocError` if it runs out of memory.
+    /// Returns a copy of a part, with its mark. Fails with `AllocError` if it runs out of memory.
     pub(crate) fn copied(alloc: Global, progress: &Progress) -> Result<MarkedPart, AllocError>
         ensures { IfOk result (λ part. part ≡ progress.now) }
     {
@@ -47,20 +47,21 @@ impl MarkedPart {
         }
     }
 
-    /// Returns a reference to the part.
+    /// Returns the general's part in the open round.
     pub(crate) fn progress(&self) -> &Progress
         ensures { result.now ≡ self.now }
     {
         &self.progress
     }
 
-    /// Returns the mark.
+    /// Returns the mark of the part.
     pub(crate) fn mark(&self) -> u64 {
         self.mark
     }
 
-    /// Lets the general make his next access to a board with these words, and returns what it leaves. Returns `None` if
-    /// he makes no further access. The part itself stays as it is.
+    /// Returns the general's activation after his next access, to a board with these words, and the board's words after
+    /// it. Returns `None` if he makes no further access. This part stays unchanged. Fails with `AllocError` if it runs
+    /// out of memory.
     pub(crate) fn next_access(
         &self,
         alloc: Global,

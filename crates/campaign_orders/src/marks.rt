@@ -1,5 +1,5 @@
-//! Marks, which are hashes by which alike worlds are found. Alike worlds have the same mark, and other worlds seldom do.
-//! Nothing is proved of marks, since worlds with the same mark are compared before their states are merged.
+//! Computes marks: hashes of worlds, by which alike worlds are found. Alike worlds have the same mark, and other worlds
+//! rarely do. Nothing is proved of marks, since worlds with the same mark are compared before they are merged.
 
 use insn::Reg;
 use machine::Machine;
@@ -8,13 +8,14 @@ use round::{Round, Running};
 use semantics::{Region, Value};
 use world::{PlayableWorld, Progress, World};
 
-/// Returns the mark that results from mixing a number into `mark`.
+/// Returns the hash `mark` with a number mixed into it.
 pub(crate) fn mixed(mark: u64, number: u64) -> u64 {
     let product = (mark ^ number).wrapping_mul(0x9E37_79B9_7F4A_7C15);
     product ^ (product >> 32)
 }
 
-/// Returns the mark of a world: of its closed rounds, its board and its generals' parts in the open round.
+/// Returns the mark of a world: a hash of its closed rounds, its board's words and its generals' parts in the open
+/// round.
 pub(crate) fn world_mark(world: &World) -> u64 {
     let mut mark = board_mark(rounds_mark(world.closed_rounds()), world.words());
     for part in world.open_parts() {
@@ -23,7 +24,7 @@ pub(crate) fn world_mark(world: &World) -> u64 {
     mark
 }
 
-/// Mixes the words of a board into a mark.
+/// Returns the hash `mark` with the words of a board mixed into it.
 pub(crate) fn board_mark(mark: u64, words: &[u64; 64]) -> u64 {
     let mut mark = mark;
     for word in words.as_slice() {
@@ -32,7 +33,7 @@ pub(crate) fn board_mark(mark: u64, words: &[u64; 64]) -> u64 {
     mark
 }
 
-/// Returns the mark of what the letters of closed rounds send.
+/// Returns a hash of the orders that the letters of these rounds send.
 pub(crate) fn rounds_mark(rounds: &[Round]) -> u64 {
     let mut mark = 0;
     for round in rounds {
@@ -43,7 +44,7 @@ pub(crate) fn rounds_mark(rounds: &[Round]) -> u64 {
     mark
 }
 
-/// Returns the mark of a general's part in the open round.
+/// Returns a hash of a general's part in the open round.
 pub(crate) fn part_mark(part: &Progress) -> u64 {
     match part {
         Progress::Acting(running) => running_mark(running),
@@ -52,15 +53,15 @@ pub(crate) fn part_mark(part: &Progress) -> u64 {
     }
 }
 
-/// Returns the mark of an activation: of its machine, its outbox, and whether its program has exited. The context is
-/// left out, since it depends only on the closed rounds.
+/// Returns a hash of an activation: its machine, its outbox, and whether its program has exited. The context is left
+/// out, since it depends only on the closed rounds.
 fn running_mark(running: &Running) -> u64 {
     let mark = mixed(3, u64::from(running.has_exited()));
     outbox_mark(machine_mark(mark, running.activation()), running.outbox())
 }
 
-/// Mixes the next instruction, the steps and the registers of a machine into a mark. Its stack cannot be read here and
-/// is left out.
+/// Returns the hash `mark` with the state of a machine mixed into it: its next instruction, its steps and its
+/// registers. The machine's stack cannot be read here and is left out.
 fn machine_mark(mark: u64, machine: &Machine) -> u64 {
     let mut mark = mixed(
         mixed(mark, machine.unit() as u64),
@@ -74,7 +75,7 @@ fn machine_mark(mark: u64, machine: &Machine) -> u64 {
     mark
 }
 
-/// Mixes what a register holds into a mark.
+/// Returns the hash `mark` with the value of a register mixed into it.
 fn value_mark(mark: u64, value: Value) -> u64 {
     match value {
         Value::Unset => mixed(mark, 1),
@@ -88,7 +89,8 @@ fn value_mark(mark: u64, value: Value) -> u64 {
     }
 }
 
-/// Mixes the orders of an outbox into a mark, receiver by receiver, so that it does not matter how they are stored.
+/// Returns the hash `mark` with the orders of an outbox mixed into it, one for each label and receiver. The result does
+/// not depend on how the outbox stores them.
 fn outbox_mark(mark: u64, outbox: &Outbox) -> u64 {
     let mut mark = mark;
     for rank in 0..outbox.labels() {
@@ -100,7 +102,7 @@ fn outbox_mark(mark: u64, outbox: &Outbox) -> u64 {
     mark
 }
 
-/// Mixes one order of `times` receivers into a mark.
+/// Returns the hash `mark` with one order mixed into it `times` times.
 fn alike_mark(mark: u64, order: Option<u32>, times: u32) -> u64 {
     let mut mark = mark;
     for receiver in 0..times {
@@ -110,7 +112,7 @@ fn alike_mark(mark: u64, order: Option<u32>, times: u32) -> u64 {
     mark
 }
 
-/// Mixes the orders of receivers into a mark.
+/// Returns the hash `mark` with the orders of a label's receivers mixed into it, one by one.
 fn orders_mark(mark: u64, orders: &[Option<u32>]) -> u64 {
     let mut mark = mark;
     for order in orders {
@@ -119,7 +121,7 @@ fn orders_mark(mark: u64, orders: &[Option<u32>]) -> u64 {
     mark
 }
 
-/// Returns a number for an order: 0 if there is none, and otherwise one more than the order.
+/// Returns a number for an order: 0 if there is none, otherwise the order plus 1.
 fn order_number(order: Option<u32>) -> u64 {
     match order {
         Some(order) => u64::from(order) + 1,

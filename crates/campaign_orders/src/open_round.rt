@@ -1,4 +1,4 @@
-//! An open round in parts that states share.
+//! Defines an open round, of which copies share the parts that stay the same.
 ghost use Rattle.std.specs.Prelude.{◌≡◌, IfOk, IsTrue, map, slice_get, slice_set};
 ghost use Rattle.std.specs.Arc.{arc_value};
 ghost use Rattle.round.specs.Letters.{messages};
@@ -17,16 +17,17 @@ use std::marker::Model;
 use std::sync::Arc;
 use world::{PlayableWorld, Progress, World};
 
-/// An open round: all that the further accesses depend on. A copy shares the parts of the generals.
+/// An open round: everything on which its further accesses depend. Copies share the generals' parts, so they need
+/// little memory.
 #[derive(Drop)]
 pub(crate) struct OpenRound {
     /// The world at the start of the round.
     start: Arc<World>,
-    /// The mark of the closed rounds.
+    /// A hash of the orders sent in the closed rounds.
     told: u64,
-    /// The board's words now.
+    /// The board's current words.
     words: [u64; 64],
-    /// The parts of the generals now, by general.
+    /// The generals' current parts in the round, ascending by general.
     parts: Vec<Arc<MarkedPart>>,
 }
 
@@ -45,8 +46,7 @@ impl Model for OpenRound {
 }
 
 impl OpenRound {
-    /// Returns the round that is open in a world, before its first access. Fails with `AllocError` if it runs out of
-    /// memory.
+    /// Returns the open round of a world in which it has just begun. Fails with `AllocError` if it runs out of memory.
     pub(crate) fn begin(alloc: Global, world: World) -> Result<OpenRound, AllocError>
         ensures { IfOk result (λ round. round ≡ record { start = world; words = world.words; parts = world.parts }) }
     {
@@ -62,8 +62,8 @@ impl OpenRound {
         })
     }
 
-    /// Returns the round after a general has made his next access, or `None` if he makes no further access in it. Only
-    /// his own part is copied. Fails with `AllocError` if it runs out of memory.
+    /// Returns the round after this general's next access, or `None` if he makes no further access in it. Only his own
+    /// part is copied. Fails with `AllocError` if it runs out of memory.
     pub(crate) fn after(&self, alloc: Global, general: u8) -> Result<Option<OpenRound>, AllocError>
         ensures { IfOk result (λ next. IsRoundAfter self.now general next) }
     {
@@ -84,8 +84,8 @@ impl OpenRound {
         }
     }
 
-    /// Makes the next access of a general on a copy of his activation, and returns what it leaves. Returns `None` if he
-    /// makes no further access in the round.
+    /// Returns a copy of the general's activation after his next access, and the board's words after it. Returns `None`
+    /// if he makes no further access in the round. Fails with `AllocError` if it runs out of memory.
     fn next_access(&self, alloc: Global, general: u8) -> Result<Option<Accessed>, AllocError>
         ensures { IfOk result (λ made. IsPartAfter general self.now.words (slice_get self.now.parts general) made) }
     {
@@ -95,8 +95,8 @@ impl OpenRound {
         }
     }
 
-    /// Checks whether two open rounds have the same words and the same parts, and whether the letters of their closed
-    /// rounds send the same.
+    /// Returns whether two open rounds are alike: the board's words and the generals' parts are the same, and the
+    /// letters of the closed rounds send the same orders.
     pub(crate) fn is_like(&self, other: &OpenRound) -> bool
         ensures words { IsTrue result → self.now.words ≡ other.now.words }
         ensures parts { IsTrue result → self.now.parts ≡ other.now.parts }
@@ -111,7 +111,7 @@ impl OpenRound {
         rounds_alike(self.start().closed_rounds(), other.start().closed_rounds())
     }
 
-    /// Returns the mark of the round.
+    /// Returns the mark of the round: a hash of the closed rounds, the board's words and the generals' parts.
     pub(crate) fn mark(&self) -> u64 {
         let mut mark = board_mark(self.told, &self.words);
         for part in self.parts.as_slice() {
@@ -120,21 +120,22 @@ impl OpenRound {
         mark
     }
 
-    /// Returns what the lieutenants decide from the messages of the closed rounds.
+    /// Returns the order on which each lieutenant would decide from the messages of the closed rounds, ascending by
+    /// lieutenant.
     pub(crate) fn decisions(&self) -> ArrayVec<u32, 12>
         ensures { result.items ≡ decisions self.now.start.scenario (messages self.now.start.closed) }
     {
         self.start().decisions()
     }
 
-    /// Does nothing. Its contract says that the scenario is within its limits.
+    /// Does nothing. Its contract says that the scenario's numbers are within their limits.
     pub(crate) fn recall(&self)
         ensures { IsScenario self.now.start.scenario }
     {
         self.start().campaign().recall();
     }
 
-    /// Returns a reference to the world at the start of the round.
+    /// Returns the world at the start of the round.
     fn start(&self) -> &World
         ensures { result.now ≡ self.now.start }
     {
@@ -142,7 +143,7 @@ impl OpenRound {
     }
 }
 
-/// Returns copies of parts, each with its mark. Fails with `AllocError` if it runs out of memory.
+/// Returns copies of these parts, each with its mark. Fails with `AllocError` if it runs out of memory.
 fn marked(alloc: Global, parts: &[Progress]) -> Result<Vec<Arc<MarkedPart>>, AllocError>
     ensures { IfOk result (λ copies. map arc_value copies.items ≡ parts.now) }
 {
@@ -153,8 +154,8 @@ fn marked(alloc: Global, parts: &[Progress]) -> Result<Vec<Arc<MarkedPart>>, All
     Ok(copies)
 }
 
-/// Returns these parts, which are shared, with another part at an index. Fails with `AllocError` if it runs out of
-/// memory.
+/// Returns these parts, but with `part` at index `index`. The other parts are shared with the originals. Fails with
+/// `AllocError` if it runs out of memory.
 fn replaced(
     alloc: Global,
     parts: &[Arc<MarkedPart>],
@@ -171,7 +172,8 @@ fn replaced(
     Ok(copies)
 }
 
-/// Returns further owners of these parts. Fails with `AllocError` if it runs out of memory.
+/// Returns a list of the same parts, which shares them with the original list. Fails with `AllocError` if it runs out
+/// of memory.
 fn shared(alloc: Global, parts: &[Arc<MarkedPart>]) -> Result<Vec<Arc<MarkedPart>>, AllocError>
     ensures { IfOk result (λ copies. map arc_value copies.items ≡ map arc_value parts.now) }
 {

@@ -1,4 +1,4 @@
-//! Orders of accesses: for each round the generals who make them, one after another.
+//! Defines orders of accesses: for each round the generals who make the accesses, in order.
 ghost use Rattle.std.specs.Prelude.{◌≡◌, ◌==◌, ◌<◌, All, IfOk, map, filter};
 ghost use Rattle.campaign_orders.specs.Least.{order_cmp};
 ghost use Rattle.world.specs.KindLists.{names_in};
@@ -8,8 +8,7 @@ use board::Access;
 use std::alloc::{AllocError, Global};
 use std::cmp::Ordering;
 
-/// Returns the generals who made the accesses of the first `rounds` rounds. They are listed by round, and within a
-/// round in the ledger's order.
+/// Returns for each of the first `rounds` rounds the generals who made its accesses, in the ledger's order.
 ///
 /// # Errors
 ///
@@ -25,7 +24,8 @@ pub fn order_in(alloc: Global, accesses: &[Access], rounds: u8) -> Result<Vec<Ve
     Ok(order)
 }
 
-/// Returns the generals who made the accesses of a round, in the ledger's order.
+/// Returns the generals who made the accesses of this round, in the ledger's order. Fails with `AllocError` if it runs
+/// out of memory.
 fn names_of(alloc: Global, accesses: &[Access], round: u32) -> Result<Vec<u8>, AllocError>
     requires { All (λ a. a.general < 256) accesses.now }
     ensures { IfOk result (λ names. names.items ≡ map (λ a. a.general) (filter (λ a. a.round == round) accesses.now)) }
@@ -39,14 +39,15 @@ fn names_of(alloc: Global, accesses: &[Access], round: u32) -> Result<Vec<u8>, A
     Ok(names)
 }
 
-/// Compares two orders. The lesser one has the lesser general at the first access in which they differ.
+/// Compares two orders of accesses. At the first access in which they differ, the lesser order has the general with the
+/// lower number.
 pub(crate) fn compared(order: &[Vec<u8>], other: &[Vec<u8>]) -> Ordering
     ensures { result ≡ order_cmp (lists_in order.now) (lists_in other.now) }
 {
     order.cmp(&other)
 }
 
-/// Returns a copy of an order.
+/// Returns a copy of an order of accesses. Fails with `AllocError` if it runs out of memory.
 pub(crate) fn copied(alloc: Global, order: &[Vec<u8>]) -> Result<Vec<Vec<u8>>, AllocError>
     ensures { IfOk result (λ copy. lists_in copy.items ≡ lists_in order.now) }
 {

@@ -1,4 +1,4 @@
-//! Prints an exploration: the number of orders, the outcomes, and the schedules of the examples.
+//! Prints an exploration: the number of orders, the outcomes, and a schedule for each outcome's example.
 ghost use Rattle.std.specs.Prelude.{◌≡◌, ◌≢◌, ◌≤◌, ◌<◌, ◌+◌, ◌^◌, ◌++◌, All, IfOk, OnOk, codes, decimal, flat_map, map, string_bytes};
 ghost use Rattle.campaign_orders.specs.declared.exploration.Reach.TheVariants.{Whole, Beyond, InPart};
 ghost use Rattle.campaign_orders.specs.Exploring.{Exploration as Explored, IsExploration, counted_in};
@@ -22,7 +22,7 @@ use std::alloc::{AllocError, Global};
 use world::judgement::{alike, loyal_decisions, obeyed};
 use world::{Repeat, Schedule, ScheduleLine};
 
-/// Writes a number after a space.
+/// Writes a space and a number in decimal. Fails with `AllocError` if it runs out of memory.
 fn put_further(out: &mut String, number: u64) -> Result<(), AllocError>
     ensures { OnOk result (string_bytes out.new ≡ string_bytes out.old ++ further number) }
 {
@@ -32,7 +32,8 @@ fn put_further(out: &mut String, number: u64) -> Result<(), AllocError>
     Ok(())
 }
 
-/// Writes an entry of a schedule.
+/// Writes an entry of a schedule, such as `2*14`: general 2, 14 times. Fails with `AllocError` if it runs out of
+/// memory.
 fn put_repeat(out: &mut String, repeat: Repeat) -> Result<(), AllocError>
     ensures { OnOk result (string_bytes out.new ≡ string_bytes out.old ++ decimal repeat.general ++ codes "*"
         ++ decimal repeat.times) }
@@ -44,7 +45,7 @@ fn put_repeat(out: &mut String, repeat: Repeat) -> Result<(), AllocError>
     Ok(())
 }
 
-/// Writes an entry of a schedule after a space.
+/// Writes a space and an entry of a schedule, such as ` 2*14`. Fails with `AllocError` if it runs out of memory.
 fn put_entry(out: &mut String, repeat: Repeat) -> Result<(), AllocError>
     ensures { OnOk result (string_bytes out.new ≡ string_bytes out.old ++ entry_text repeat) }
 {
@@ -52,7 +53,8 @@ fn put_entry(out: &mut String, repeat: Repeat) -> Result<(), AllocError>
     put_repeat(out, repeat)
 }
 
-/// Writes entries of a schedule, each after a space.
+/// Writes entries of a schedule, each with a space before it, such as ` 2*14 3*9`. Fails with `AllocError` if it runs
+/// out of memory.
 fn put_entries(out: &mut String, repeats: &[Repeat]) -> Result<(), AllocError>
     ensures { OnOk result (string_bytes out.new ≡ string_bytes out.old ++ flat_map entry_text repeats.now) }
 {
@@ -62,7 +64,7 @@ fn put_entries(out: &mut String, repeats: &[Repeat]) -> Result<(), AllocError>
     Ok(())
 }
 
-/// Writes a line of a schedule's text.
+/// Writes a line of a schedule's text, such as `2*14 3*9`, and an LF. Fails with `AllocError` if it runs out of memory.
 fn put_line(out: &mut String, repeats: &[Repeat]) -> Result<(), AllocError>
     ensures { OnOk result (string_bytes out.new ≡ string_bytes out.old ++ line_text repeats.now) }
 {
@@ -74,7 +76,7 @@ fn put_line(out: &mut String, repeats: &[Repeat]) -> Result<(), AllocError>
     Ok(())
 }
 
-/// Returns the text of a schedule, with a line for each round.
+/// Returns the text of a schedule, which has one line for each round.
 ///
 /// # Errors
 ///
@@ -89,7 +91,8 @@ pub fn schedule_text(alloc: Global, schedule: &Schedule) -> Result<String, Alloc
     Ok(out)
 }
 
-/// Writes the line of a round: its number and its entries.
+/// Writes a line with the number of a round and its schedule entries, such as `round 1 2*14 3*9`. Fails with
+/// `AllocError` if it runs out of memory.
 fn put_round(out: &mut String, round: u64, repeats: &[Repeat]) -> Result<(), AllocError>
     ensures { OnOk result (string_bytes out.new ≡ string_bytes out.old ++ round_text round repeats.now) }
 {
@@ -100,7 +103,8 @@ fn put_round(out: &mut String, round: u64, repeats: &[Repeat]) -> Result<(), All
     Ok(())
 }
 
-/// Writes the lines of a schedule. The first line is that of round 1.
+/// Writes the lines of a schedule, each with the number of its round. The first line is for round 1. Fails with
+/// `AllocError` if it runs out of memory.
 fn put_rounds(out: &mut String, lines: &[ScheduleLine]) -> Result<(), AllocError>
     ensures { OnOk result (string_bytes out.new ≡ string_bytes out.old ++ rounds_text 1 lines.now) }
 {
@@ -110,7 +114,7 @@ fn put_rounds(out: &mut String, lines: &[ScheduleLine]) -> Result<(), AllocError
     Ok(())
 }
 
-/// Writes numbers, each after a space.
+/// Writes numbers in decimal, each with a space before it. Fails with `AllocError` if it runs out of memory.
 fn put_numbers(out: &mut String, numbers: &[u32]) -> Result<(), AllocError>
     ensures { OnOk result (string_bytes out.new ≡ string_bytes out.old ++ flat_map further numbers.now) }
 {
@@ -120,7 +124,7 @@ fn put_numbers(out: &mut String, numbers: &[u32]) -> Result<(), AllocError>
     Ok(())
 }
 
-/// Writes `yes` or `no`, or a hyphen if there is no answer.
+/// Writes `yes` or `no`, or `-` if `answer` is `None`. Fails with `AllocError` if it runs out of memory.
 fn put_answer(out: &mut String, answer: Option<bool>) -> Result<(), AllocError>
     ensures { OnOk result (string_bytes out.new ≡ string_bytes out.old ++ yes_no_none answer) }
 {
@@ -132,8 +136,8 @@ fn put_answer(out: &mut String, answer: Option<bool>) -> Result<(), AllocError>
     Ok(())
 }
 
-/// Writes after a space how many orders lead to an outcome. A count of 2^64 - 1 is written as more than
-/// 18446744073709551614.
+/// Writes a space and how many orders of accesses lead to an outcome. For a count of 2^64 - 1 it writes
+/// `more than 18446744073709551614`. Fails with `AllocError` if it runs out of memory.
 #[tactic(auto, unfolding(crate::specs::Text::count_text))]
 fn put_ways(out: &mut String, count: u64) -> Result<(), AllocError>
     ensures { OnOk result (string_bytes out.new ≡ string_bytes out.old ++ count_text count) }
@@ -145,7 +149,8 @@ fn put_ways(out: &mut String, count: u64) -> Result<(), AllocError>
     Ok(())
 }
 
-/// Writes the line of an outcome up to its decisions.
+/// Writes the beginning of an outcome's line: its count of orders, and whether IC1 and IC2 hold, such as
+/// `outcome 12 alike yes obeyed -`. Fails with `AllocError` if it runs out of memory.
 fn put_verdict(
     out: &mut String,
     count: u64,
@@ -163,7 +168,8 @@ fn put_verdict(
     put_answer(out, obeyed)
 }
 
-/// Writes the line of an outcome.
+/// Writes the line of an outcome: its count of orders, whether IC1 and IC2 hold, and the decisions. Fails with
+/// `AllocError` if it runs out of memory.
 fn put_outcome(
     out: &mut String,
     scenario: &Scenario,
@@ -183,7 +189,8 @@ fn put_outcome(
     Ok(())
 }
 
-/// Writes the lines of a finding: its outcome, and the schedule of its example.
+/// Writes the line of an outcome, and then the lines of the schedule for its example. Fails with `AllocError` if it
+/// runs out of memory.
 fn put_finding(
     alloc: Global,
     out: &mut String,
@@ -201,7 +208,7 @@ fn put_finding(
     }
 }
 
-/// Returns how many orders were counted.
+/// Returns the sum of the counts of all outcomes. It must be below 2^64.
 fn counted(findings: &[DecisionGroup]) -> u64
     requires { counted_in findings.now < 2 ^ 64 }
     ensures { result ≡ counted_in findings.now }
@@ -209,7 +216,8 @@ fn counted(findings: &[DecisionGroup]) -> u64
     findings.iter().map(|finding| finding.count()).sum()
 }
 
-/// Writes how many orders were counted, and ends the line.
+/// Writes a space, the sum of the counts of all outcomes, and an LF. The sum must be below 2^64. Fails with
+/// `AllocError` if it runs out of memory.
 fn put_count(out: &mut String, findings: &[DecisionGroup]) -> Result<(), AllocError>
     requires { counted_in findings.now < 2 ^ 64 }
     ensures { OnOk result (string_bytes out.new ≡ string_bytes out.old ++ further (counted_in findings.now)
@@ -220,7 +228,8 @@ fn put_count(out: &mut String, findings: &[DecisionGroup]) -> Result<(), AllocEr
     Ok(())
 }
 
-/// Writes the first line, which says how many orders there are.
+/// Writes the first line of an exploration's text, which says how many orders of accesses there are. Fails with
+/// `AllocError` if it runs out of memory.
 fn put_head(out: &mut String, reach: Reach, findings: &[DecisionGroup]) -> Result<(), AllocError>
     requires { reach ≢ Beyond → counted_in findings.now < 2 ^ 64 }
     ensures { OnOk result (string_bytes out.new ≡ string_bytes out.old ++ head_text reach (counted_in findings.now)) }
@@ -241,7 +250,8 @@ fn put_head(out: &mut String, reach: Reach, findings: &[DecisionGroup]) -> Resul
     }
 }
 
-/// Writes the lines of all findings.
+/// Writes for each outcome its line, and the lines of the schedule for its example. Fails with `AllocError` if it runs
+/// out of memory.
 fn put_findings(
     alloc: Global,
     out: &mut String,
@@ -258,7 +268,8 @@ fn put_findings(
     Ok(())
 }
 
-/// Returns the text of an exploration.
+/// Returns the text of an exploration: the number of orders, then each outcome with the schedule for its example. Fails
+/// with `AllocError` if it runs out of memory.
 fn exploration_text(
     alloc: Global,
     scenario: &Scenario,
@@ -274,7 +285,8 @@ fn exploration_text(
     Ok(out)
 }
 
-/// Returns the text of the schedule of a finding's example.
+/// Returns the text of a schedule that leads to this outcome, by the order of accesses that is its example. Fails with
+/// `AllocError` if it runs out of memory.
 fn example_text(
     alloc: Global,
     scenario: &Scenario,
@@ -289,7 +301,8 @@ fn example_text(
     }
 }
 
-/// Returns the texts of the schedules of the findings' examples.
+/// Returns for each outcome the text of a schedule that leads to it, by the order of accesses that is its example.
+/// Fails with `AllocError` if it runs out of memory.
 fn example_texts(
     alloc: Global,
     scenario: &Scenario,
@@ -307,9 +320,8 @@ fn example_texts(
     Ok(texts)
 }
 
-/// Returns the text of an exploration, as [`explored`] does, and the text of a schedule for each outcome, in the same
-/// order. By its schedule the campaign reaches the outcome. No such text has more than 1,048,576 bytes, the limit for
-/// schedules.
+/// Returns the text that [`explored`] returns, and for each outcome in it the text of a schedule that leads to this
+/// outcome. No schedule's text has more than 1,048,576 bytes, the limit for schedules.
 ///
 /// # Errors
 ///
@@ -329,8 +341,9 @@ pub fn explored_with_schedules(
     Ok((text, schedules))
 }
 
-/// Returns the text of an exploration of all orders of an oral campaign, or of the `most` least orders if there are
-/// more. If `most` is `u64::MAX`, all orders are explored.
+/// Explores all orders of accesses of an oral campaign, or the `most` least ones if there are more. Returns a text with
+/// the number of orders, and each outcome with a schedule that leads to it. If `most` is `u64::MAX`, all orders are
+/// explored.
 ///
 /// # Errors
 ///

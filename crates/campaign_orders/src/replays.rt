@@ -1,4 +1,4 @@
-//! Plays a campaign again, from its start.
+//! Plays a campaign from its start up to some access.
 ghost use Rattle.std.specs.Prelude.{◌≡◌, IfOk};
 ghost use Rattle.campaign_orders.specs.Layers.{reached};
 ghost use Rattle.campaign_orders.specs.OpenRounds.{world_in};
@@ -13,8 +13,9 @@ use round::Scenario;
 use std::alloc::{AllocError, Global};
 use world::{World, named_round, play_names};
 
-/// Plays a campaign from its start and returns its world after these accesses. `rows` lists the generals who made the
-/// accesses of the closed rounds, and `names` those of the open round.
+/// Plays a campaign from its start and returns its world after these accesses. `rows` lists for each closed round the
+/// generals who made its accesses, and `names` lists those for the open round. Fails with `AllocError` if it runs out
+/// of memory.
 pub(crate) fn played(
     alloc: Global,
     scenario: &Scenario,
@@ -32,7 +33,9 @@ pub(crate) fn played(
     Ok(world)
 }
 
-/// Plays a campaign from its start and returns the round that is open after these accesses.
+/// Plays a campaign from its start and returns the open round after these accesses. `rows` lists for each closed round
+/// the generals who made its accesses, and `names` lists those for the open round. Fails with `AllocError` if it runs
+/// out of memory.
 pub(crate) fn played_round(
     alloc: Global,
     scenario: &Scenario,
@@ -47,8 +50,9 @@ pub(crate) fn played_round(
     Ok(round)
 }
 
-/// Returns the same stage with its round opened, after the accesses of these closed rounds and of the open round. Fails
-/// with `AllocError` if it runs out of memory.
+/// Returns the stage with its world as an open round. If the stage has no world, this plays the campaign from its
+/// start. `rows` lists for each closed round the generals who made its accesses, and `names` lists those for the open
+/// round. Fails with `AllocError` if it runs out of memory.
 pub(crate) fn opened_stage(
     alloc: Global,
     stage: Stage,

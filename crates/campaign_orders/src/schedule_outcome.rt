@@ -1,20 +1,20 @@
-//! The result of making a schedule from names: the schedule, or the access that cannot be made.
+//! Defines the result of making a schedule for an order of accesses: the schedule, or an access that cannot be made.
 use world::{Schedule, ScheduleLine};
 
-/// The schedule entries of a round, or why there are none.
+/// A schedule's line for one round, or why it cannot be made.
 #[derive(Drop)]
 pub enum Line {
-    /// One entry for each access.
+    /// The line, which has one entry for each access.
     Made(ScheduleLine),
-    /// The general at this index makes no access then. Indices are counted from 0.
+    /// The general at this index of the round's list makes no further access. The index is counted from 0.
     Stuck(usize),
 }
 
-/// A schedule, or why there is none.
+/// A schedule for an order of accesses, or why it cannot be made.
 #[derive(Drop)]
 pub enum Scheduled {
-    /// The schedule by which the accesses come in this order.
+    /// A schedule under which the accesses come in this order.
     By(Schedule),
-    /// The round and the index of a general who makes no access then. Both are counted from 0.
+    /// In this round, the general at this index of the round's list makes no further access. Both are counted from 0.
     Never(usize, usize),
 }

@@ -10,7 +10,8 @@ use round::Scenario;
 use std::alloc::{AllocError, Global};
 use world::{PlayableWorld, Progress, Repeat, Schedule, ScheduleLine, World, parts, wind_up};
 
-/// Returns how many instructions the program of an acting general has, 1 to 4,096. Returns `None` if he is not acting.
+/// Returns how many instructions the program of a traitor has, 1 to 4,096. Returns `None` for any other general.
+/// `standing` has each general's part in the open round.
 pub(crate) fn instructions(standing: &[Progress], general: u8) -> Option<u16>
     ensures same { result ≡ program_length (slice_get standing.now general) }
     ensures few { IfSome result (λ most. most ≤ 4096) }
@@ -23,8 +24,8 @@ pub(crate) fn instructions(standing: &[Progress], general: u8) -> Option<u16>
     }
 }
 
-/// Takes the steps of a general until he has made one more access, and returns how many they are. Returns `None` if he
-/// makes no further access in the open round.
+/// Takes ticks of a traitor's activation until he has made one more access, and returns their number. Returns `None` if
+/// he makes no further access in the open round. Fails with `AllocError` if it runs out of memory.
 pub(crate) fn steps_to_access<W: PlayableWorld>(
     world: &mut W,
     general: u8,
@@ -43,8 +44,9 @@ pub(crate) fn steps_to_access<W: PlayableWorld>(
     Ok(Some(ahead as u16 + 1))
 }
 
-/// Returns the schedule entries of a round in which these generals make their accesses in this order. The world is left
-/// after these accesses.
+/// Plays the open round until the generals in `names` have made their accesses in this order. Returns the schedule's
+/// line for this, or the index of the first general in `names` who makes no further access. Fails with `AllocError` if
+/// it runs out of memory.
 fn line_of<W: PlayableWorld>(world: &mut W, alloc: Global, names: &[u8]) -> Result<Line, AllocError>
     ensures { IfOk result (λ line. IsLineOf W.kind (W.seen world.old) names.now (W.seen world.new) line) }
 {
@@ -61,9 +63,9 @@ fn line_of<W: PlayableWorld>(world: &mut W, alloc: Global, names: &[u8]) -> Resu
     Ok(Line::Made(ScheduleLine { repeats }))
 }
 
-/// Returns the schedule by which these generals make their accesses in this order, from a world in which a round
-/// begins. `names` lists the generals by round. The schedule has one entry for each access. If some general makes no
-/// access then, the first such round and index are returned.
+/// Returns a schedule under which the generals make their accesses in this order. `names` lists the generals by round,
+/// from the round that has just begun in `world`. The schedule has one entry for each access. If a general makes no
+/// further access in his round, returns that round and his index instead.
 ///
 /// # Errors
 ///
@@ -88,9 +90,9 @@ pub fn schedule_from<W: PlayableWorld + Drop>(
     Ok(Scheduled::By(Schedule { lines }))
 }
 
-/// Returns the schedule by which these generals make their accesses in this order in an oral campaign, before all
-/// others. `names` lists the generals by round. If they are the generals who made the accesses of a complete run of
-/// this scenario, the schedule repeats that run.
+/// Returns a schedule for an oral campaign under which the generals in `names`, by round, make their accesses in this
+/// order, before any other accesses. For the order of accesses of a complete run, the schedule repeats that run. If a
+/// general makes no further access in his round, returns that round and his index instead.
 ///
 /// # Errors
 ///

@@ -1,4 +1,4 @@
-//! A scenario that states share.
+//! Defines a scenario that many states share.
 ghost use Rattle.std.specs.Prelude.{◌≡◌, IfOk};
 ghost use Rattle.round.specs.Scenario.{IsScenario};
 
@@ -7,7 +7,7 @@ use std::alloc::{AllocError, Global};
 use std::marker::Model;
 use std::sync::Arc;
 
-/// A scenario that states share. Contracts see it as the scenario.
+/// A scenario that many states share without copying it. Contracts see the scenario.
 #[derive(Drop)]
 pub(crate) struct SharedScenario {
     scenario: Arc<Scenario>,
@@ -23,7 +23,7 @@ impl Model for SharedScenario {
 }
 
 impl SharedScenario {
-    /// Returns a copy of a scenario that can be shared. Fails with `AllocError` if it runs out of memory.
+    /// Returns a copy of this scenario that can be shared. Fails with `AllocError` if it runs out of memory.
     pub(crate) fn new(alloc: Global, scenario: &Scenario) -> Result<SharedScenario, AllocError>
         ensures { IfOk result (λ shared. shared ≡ scenario.now) }
     {
@@ -31,7 +31,8 @@ impl SharedScenario {
         Ok(SharedScenario { scenario })
     }
 
-    /// Returns a further owner of the scenario. Fails with `AllocError` if there are too many.
+    /// Returns another reference to the same scenario. Fails with `AllocError` if the reference count cannot be
+    /// increased.
     pub(crate) fn share(&self) -> Result<SharedScenario, AllocError>
         ensures { IfOk result (λ shared. shared ≡ self.now) }
     {
@@ -40,21 +41,21 @@ impl SharedScenario {
         })
     }
 
-    /// Returns a reference to the scenario.
+    /// Returns the scenario.
     pub(crate) fn scenario(&self) -> &Scenario
         ensures { result.now ≡ self.now }
     {
         &self.scenario
     }
 
-    /// Does nothing. Its contract says that the scenario is within its limits.
+    /// Does nothing. Its contract says that the scenario's numbers are within their limits.
     pub(crate) fn recall(&self)
         ensures { IsScenario self.now }
     {
         self.scenario().recall();
     }
 
-    /// Returns how many generals there are, 2 to 13.
+    /// Returns the number of generals, 2 to 13.
     pub(crate) fn generals(&self) -> u8
         ensures { result ≡ self.now.generals }
     {

@@ -1,4 +1,4 @@
-//! States of an exploration: a world with the beginnings of orders that lead to it.
+//! Defines the states of an exploration. A state is a world, with the accesses that lead to it.
 ghost use Rattle.std.specs.Prelude.{◌≡◌, ◌++◌, ◌∷◌, [], IfOk, IsTrue};
 ghost use Rattle.std.specs.Ordering.{is_lt};
 ghost use Rattle.campaign_orders.specs.Ahead.{IsRunOn};
@@ -23,20 +23,21 @@ use std::alloc::{AllocError, Global};
 use std::marker::Model;
 use world::World;
 
-/// A state: a world, how many beginnings of orders lead to it or to an alike world, and the least of these beginnings.
+/// A state: a world, the number of ways in which accesses lead to it or to an alike world, and the least of these ways.
 #[derive(Drop)]
 pub(crate) struct State {
-    /// How many beginnings of orders lead here, at most 2^64 - 1. Further ones are not counted.
+    /// In how many ways accesses lead to this world. It stops at 2^64 - 1.
     pub(crate) ways: u64,
-    /// The generals who made the accesses of the closed rounds, by round.
+    /// For each closed round, the generals who made its accesses, in order. Together with `names` this is the least way
+    /// to the world.
     pub(crate) rows: Vec<Vec<u8>>,
-    /// The generals who made the accesses of the open round.
+    /// The generals who made the accesses of the open round, in order.
     pub(crate) names: Vec<u8>,
-    /// The world. In an open round each activation may have been run on to its next request or its end.
+    /// The world. Each activation in an open round may already have run on to its next request or its end.
     stage: Stage,
-    /// The mark of the world.
+    /// A hash of the world. Alike worlds have the same one.
     pub(crate) mark: u64,
-    /// In a layer, the index of the state with the same mark that was entered last before this one.
+    /// The index in its layer of the last earlier state with the same mark, or `None` if there is none.
     pub(crate) before: Option<usize>,
 }
 
@@ -56,7 +57,8 @@ impl Model for State {
 }
 
 impl State {
-    /// Returns the state at the start of the round that follows these closed rounds.
+    /// Returns the state at the start of a round. `rows` lists for each closed round the generals who made its
+    /// accesses, and `ways` is in how many ways accesses lead here. Fails with `AllocError` if it runs out of memory.
     fn begun(
         alloc: Global,
         scenario: SharedScenario,
@@ -88,7 +90,8 @@ impl State {
         })
     }
 
-    /// Returns the state in an open round after these closed rounds and accesses.
+    /// Returns the state with this open round. `rows` lists for each closed round the generals who made its accesses,
+    /// `names` lists those for the open round, and `ways` is in how many ways accesses lead here.
     fn within(round: OpenRound, ways: u64, rows: Vec<Vec<u8>>, names: Vec<u8>) -> State
         ensures { result ≡ record {
           world = world_in (lists_in rows.items) names.items round;
@@ -108,7 +111,7 @@ impl State {
         }
     }
 
-    /// Returns the one state before the first access.
+    /// Returns the state before the first access of the campaign. Fails with `AllocError` if it runs out of memory.
     pub(crate) fn opening(alloc: Global, scenario: &SharedScenario) -> Result<State, AllocError>
         ensures { IfOk result (λ state. state ≡ record {
           world = opening oral_kind scenario.now;
@@ -121,7 +124,7 @@ impl State {
         Ok(state)
     }
 
-    /// Returns the same state with another index in the field `before`.
+    /// Returns the same state, where `before` is the index of the last earlier state with the same mark.
     pub(crate) fn behind(self, before: Option<usize>) -> State
         ensures { result ≡ self }
     {
@@ -130,7 +133,8 @@ impl State {
         state
     }
 
-    /// Returns the same state with its round opened, so that successors share what they have in common.
+    /// Returns the same state, with its world stored as an open round. The states after the next accesses then share
+    /// most of its memory. Fails with `AllocError` if it runs out of memory.
     pub(crate) fn opened(self, alloc: Global) -> Result<State, AllocError>
         ensures { IfOk result (λ state. state ≡ self) }
     {
@@ -153,7 +157,8 @@ impl State {
         })
     }
 
-    /// Returns the state at the start of the next round, if no general has accesses left in the open round.
+    /// Returns the state at the start of the next round, after this one is finished. It is used when no general makes a
+    /// further access in this round. Fails with `AllocError` if it runs out of memory.
     pub(crate) fn closed(
         self,
         alloc: Global,
@@ -178,8 +183,8 @@ impl State {
         Ok(next)
     }
 
-    /// Returns the state after a general has made his next access. Returns `None` if he makes no further access in the
-    /// open round.
+    /// Returns the state after this general's next access. Returns `None` if he makes no further access in the open
+    /// round. Fails with `AllocError` if it runs out of memory.
     pub(crate) fn after(&self, alloc: Global, general: u8) -> Result<Option<State>, AllocError>
         requires { IsRunOn (reached (opening oral_kind self.now.world.scenario) self.now.rows self.now.names)
             self.now.world }
@@ -199,8 +204,8 @@ impl State {
         }
     }
 
-    /// Returns the state after a general has made his next access in this state's open round, which is given. Returns
-    /// `None` if he makes no further access in it.
+    /// Returns the state after this general's next access, where `round` is this state's open round. Returns `None` if
+    /// he makes no further access in it. Fails with `AllocError` if it runs out of memory.
     fn after_in(
         &self,
         alloc: Global,
@@ -224,7 +229,8 @@ impl State {
         }
     }
 
-    /// Returns what the lieutenants decide from the messages of the closed rounds.
+    /// Returns the order on which each lieutenant decides from the messages of the closed rounds, ascending by
+    /// lieutenant. Fails with `AllocError` if it runs out of memory.
     pub(crate) fn outcome(&self, alloc: Global) -> Result<ArrayVec<u32, 12>, AllocError>
         ensures { IfOk result (λ decisions. decisions.items ≡ oral_outcome self.now.world) }
     {
@@ -237,7 +243,8 @@ impl State {
         }
     }
 
-    /// Plays the campaign of a scenario from its start and returns its world after this state's beginning.
+    /// Plays the scenario's campaign from its start up to this state, and returns the world. Fails with `AllocError` if
+    /// it runs out of memory.
     fn replayed(&self, alloc: Global, scenario: &SharedScenario) -> Result<World, AllocError>
         ensures { IfOk result (λ world. world ≡ reached (opening oral_kind scenario.now) self.now.rows self.now.names) }
     {
@@ -250,8 +257,8 @@ impl State {
         Ok(world)
     }
 
-    /// Merges another state, whose world is alike, into this one. The result counts the beginnings of both. It has the
-    /// world and the beginning of the state whose beginning is less.
+    /// Merges another state, whose world is alike, into this one. The ways of both are added, up to 2^64 - 1. The
+    /// merged state keeps the lesser of the two least ways, with its world.
     pub(crate) fn join(&mut self, other: State)
         ensures { self.new ≡ joined self.old other }
     {
@@ -264,7 +271,8 @@ impl State {
     }
 }
 
-/// Checks whether the beginning of a state is less than that of another state.
+/// Returns whether the least way to `state` is less than the least way to `other`. At the first access in which they
+/// differ, the lesser way has the general with the lower number.
 fn begins_before(state: &State, other: &State) -> bool
     ensures { result ≡ is_lt (begins_cmp state.now other.now) }
 {
@@ -272,7 +280,8 @@ fn begins_before(state: &State, other: &State) -> bool
     rounds.then(state.names.cmp(&other.names)).is_lt()
 }
 
-/// Checks whether the worlds of two states are found to be alike.
+/// Returns whether the worlds of two states are alike. It may return false for alike worlds, but never true for others.
+/// Fails with `AllocError` if it runs out of memory.
 pub(crate) fn is_like(alloc: Global, state: &State, other: &State) -> Result<bool, AllocError>
     ensures { IfOk result (λ like. IsTrue like → state.now.world.scenario ≡ other.now.world.scenario →
         AreAlike state.now.world other.now.world) }

@@ -1,12 +1,12 @@
-//! The order of accesses that comes next in the list of a campaign's orders.
+//! Finds the order of accesses that comes next in the ascending list of a campaign's orders.
 ghost use Rattle.std.specs.Prelude.{◌≡◌, IfOk, option_map};
 ghost use Rattle.campaign_orders.specs.Succession.{least_above, nearer, next_names, next_order};
 ghost use Rattle.world.specs.Playing.{lists_in};
 
 use std::alloc::AllocError;
 
-/// Returns the lesser of `least` and `other` if `other` is greater than `general`, and otherwise `least`. `None` is
-/// greater than every general.
+/// Returns the lesser of `least` and `other` if `other` is greater than `general`, otherwise `least`. Here `None`
+/// counts as greater than every general.
 fn nearer(general: u8, other: u8, least: Option<u8>) -> Option<u8>
     ensures { result ≡ nearer general other least }
 {
@@ -19,7 +19,7 @@ fn nearer(general: u8, other: u8, least: Option<u8>) -> Option<u8>
     }
 }
 
-/// Returns the least of the names that is greater than `general`, if there is one.
+/// Returns the least element of `names` that is greater than `general`, or `None` if there is no such element.
 fn least_above(general: u8, names: &[u8]) -> Option<u8>
     ensures { result ≡ least_above general names.now }
 {
@@ -32,8 +32,9 @@ fn least_above(general: u8, names: &[u8]) -> Option<u8>
     least
 }
 
-/// Returns how the next order of a round begins. It is the same up to the last index at which a greater name still
-/// follows. At that index it has the least such name. Returns `None` if there is no such index.
+/// Returns how the next order of a round's accesses begins. It keeps `names` up to the last index that has a greater
+/// name somewhere after it, and there has the least such name. For example, after `1 3 2` it is `2`. Returns `None` if
+/// no index has a greater name after it.
 fn next_names(mut names: Vec<u8>) -> Option<Vec<u8>>
     ensures { option_map (λ next. next.items) result ≡ next_names names.items }
 {
@@ -49,7 +50,8 @@ fn next_names(mut names: Vec<u8>) -> Option<Vec<u8>>
     None
 }
 
-/// Returns how the order after this one begins, by round, or `None` if this order is the last.
+/// Returns for each round how the next order of accesses after this one begins, or `None` if this is the last order.
+/// Fails with `AllocError` if it runs out of memory.
 pub(crate) fn next_order(mut order: Vec<Vec<u8>>) -> Result<Option<Vec<Vec<u8>>>, AllocError>
     ensures { IfOk result (λ next. option_map (λ names. lists_in names.items) next
         ≡ next_order (lists_in order.items)) }

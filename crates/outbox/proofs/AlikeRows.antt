@@ -1,4 +1,4 @@
--- Rows in which all have one order, and rows that are set apart.
+-- Uniform rows, in which all receivers have one order, and mixed rows.
 use Rattle.std.proofs.Common.{ℕ, zero, suc, ◌+◌, ◌<◌, ◌≤◌, ◌≡◌, ◌≢◌, Bool, true, false, ◌||◌, List, [], ◌∷◌, ◌++◌, map, length, get_or, set, replicate, refl, sym, ap, ◌∙◌, arith, Some, None, Option, length-set}
 use Rattle.std.specs.Prelude.{◌==◌, if◌then◌else◌}
 use Rattle.std.proofs.lemmas.List.{length-replicate}
@@ -26,7 +26,7 @@ alike_order o (n ∷ ns) r = one (n == r) (on ns r) o (order_in r (alike_row o n
     one true b o rest e = refl
     one false b o rest e = e
 
--- what is seen of them
+-- The receivers of a uniform row.
 pub names_seen : (o : Option ℕ) (ns : List ℕ) (now : RowOrders) → alike_row o ns ≡ now → ns ≡ receivers_in now
 names_seen o ns now seen = sym (alike_names o ns) ∙ ap receivers_in seen
 
@@ -46,19 +46,19 @@ one_more o k = let e : k + 1 ≡ suc k = omega arith in behind o k ∙ ap (λ (i
     behind o zero = refl
     behind o (suc k) = ap (λ xs. o ∷ xs) (behind o k)
 
--- with orders of their own
+-- A mixed row that has the orders of a uniform one.
 pub apart_some : (o : Option ℕ) (v : ℕ) (ns : List ℕ) (row new now : RowOrders) → o ≡ Some v → row ≡ empty_row ns → new ≡ all_put v row → alike_row o ns ≡ now → new ≡ now
 apart_some o v ns row new now is fresh put seen = put ∙ (ap (all_put v) fresh ∙ (sym (alike_put None v ns) ∙ (ap (λ (x : Option ℕ). alike_row x ns) (sym is) ∙ seen)))
 
 pub apart_none : (o : Option ℕ) (ns : List ℕ) (row now : RowOrders) → o ≡ None → row ≡ empty_row ns → alike_row o ns ≡ now → row ≡ now
 apart_none o ns row now is fresh seen = fresh ∙ (ap (λ (x : Option ℕ). alike_row x ns) (sym is) ∙ seen)
 
--- what the receivers of a row were told
+-- The orders for the receivers of a row.
 pub row_told : (os : List (Option ℕ)) (ns : List ℕ) → orders_in (row_of os ns) ≡ map (λ n. get_or os n None) ns
 row_told os [] = refl
 row_told os (n ∷ ns) = ap (λ xs. get_or os n None ∷ xs) (row_told os ns)
 
--- rows of the same number are all set apart
+-- If there are as many mixed rows as there were rows, the outbox has the mixed rows.
 pub seen_all : (alike apart new : List RowOrders) → length new ≡ length (rows_seen alike apart) → rows_seen alike new ≡ new
 seen_all alike apart (row ∷ new) e = refl
 seen_all [] [] [] e = refl
@@ -76,7 +76,7 @@ pub seen_apart : (alike apart now : List RowOrders) → length apart ≢ 0 → r
 seen_apart alike [] now some seen = absurd (some refl)
 seen_apart alike (row ∷ apart) now some seen = seen
 
--- one of them
+-- The row at a rank.
 pub one_at : (cur now : List RowOrders) (rank : ℕ) (row : RowOrders) → cur ≡ now → rank < length now → row ≡ get_or cur rank row → row ≡ get_or now rank []
 one_at cur now rank row same l at = at ∙ (ap (λ xs. get_or xs rank row) same ∙ same_default now rank row [] l)
 

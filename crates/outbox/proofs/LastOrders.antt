@@ -1,4 +1,4 @@
--- What a place gives after a choice.
+-- The order at a place after a call has put orders.
 use Rattle.std.proofs.Common.{ℕ, zero, suc, ◌+◌, ◌≡◌, true, false, List, [], ◌∷◌, map, length, get_or, refl, ap, ◌∙◌, Option, Some}
 use Rattle.std.specs.Prelude.{◌==◌, if◌then◌else◌, zip}
 use Rattle.label.specs.declared.shape.Shape.{Shape}
@@ -16,7 +16,7 @@ use Rattle.outbox.proofs.Whole.{Stand, stand_parts}
 abbrev rows_after : Choice → List (List Place) → Outbox → Outbox
 rows_after choice ps os = map (λ row. row_written choice row.0 row.1) (zip ps os)
 
--- a row of what was written is its row, written
+-- Each row after the call is the row before it with the call's orders put.
 row_after : (choice : Choice) (ps : List (List Place)) (os : Outbox) (i : ℕ) → map length os ≡ map length ps → get_or (rows_after choice ps os) i [] ≡ row_written choice (get_or ps i []) (get_or os i [])
 row_after choice [] os i e = refl
 row_after choice (p ∷ ps) [] i e = cc
@@ -45,7 +45,7 @@ gives relay choice outbox label receiver e =
     ap (order_among receiver (get_or (places relay) label [])) (row_after choice (places relay) outbox label e)
     ∙ one_after choice receiver (get_or (places relay) label []) (get_or outbox label []) (row_long (places relay) outbox label e)
 
--- the rows keep their lengths
+-- A call does not change the lengths of rows.
 long_after : (choice : Choice) (ps : List Place) (os : List (Option ℕ)) → length os ≡ length ps → length (row_written choice ps os) ≡ length ps
 long_after choice [] os e = refl
 long_after choice (p ∷ ps) [] e = cc
@@ -62,7 +62,7 @@ stay choice (p ∷ ps) (o ∷ os) e =
 pub stays : (relay : Relay) (choice : Choice) (outbox : Outbox) → HasPlaces relay outbox → HasPlaces relay (written relay choice outbox)
 stays relay choice outbox e = stay choice (places relay) outbox e
 
--- rows that stand have their places
+-- A row has as many orders as places.
 names_long : (k b : ℕ) (row : RowOrders) → length (orders_in row) ≡ length (row_from k b (receivers_in row))
 names_long k b [] = refl
 names_long k b (p ∷ row) = ap suc (names_long k (b + 1) row)

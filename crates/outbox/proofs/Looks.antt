@@ -1,4 +1,4 @@
--- The order at a place, and the outbox in which nothing is put.
+-- The order at a place, and the empty outbox.
 use Rattle.std.proofs.Common.{Some, Bool, true, ◌||◌, inl, inr, set, get_or-set_same, length-set, ℕ, zero, suc, ◌+◌, ◌<◌, ◌≤◌, ◌≡◌, List, [], ◌∷◌, map, length, get_or, refl, sym, ap, ◌∙◌, arith, None, Option, subst}
 use Rattle.std.specs.Prelude.{◌==◌, if◌then◌else◌}
 use Rattle.std.proofs.lemmas.List.{length-map, get_or_past}
@@ -53,7 +53,7 @@ order_found now relay entries rows label r row o seen a l at is =
     ∙ (ap (λ ps. order_among r ps (orders_in (get_or rows label []))) (sym (get_places relay.shape 0 label rows (relayed relay) a.names l))
     ∙ ap (order_among r (get_or (places relay) label [])) (sym (get_orders rows label))))))
 
--- what was put is found
+-- An order that was put for a receiver is then found.
 put_found : (r v : ℕ) (row : RowOrders) → on (receivers_in row) r ≡ true → Some v ≡ order_in r (put_in_row r v row)
 put_found r v [] h = absurd (false≢true h)
 put_found r v (p ∷ row) h =
@@ -69,7 +69,7 @@ found_after relay rows label r v row new there a l at is t yes_there =
     let inside : label < length (set rows label new) = rw (length-set rows label new) l in
     sym (order_found (contents_of relay [] (set rows label new)) relay [] (set rows label new) label r new (Some v) refl stands inside (sym (get_or-set_same rows label new new l)) (put_found r v row (sym t ∙ yes_there) ∙ ap (order_in r) (sym is)))
 
--- nothing is put
+-- In an empty row no order is put.
 empty_names_in : (ns : List ℕ) → receivers_in (empty_row ns) ≡ ns
 empty_names_in [] = refl
 empty_names_in (n ∷ ns) = ap (λ xs. n ∷ xs) (empty_names_in ns)

@@ -1,4 +1,4 @@
--- One bit of a mask more or less, and the orders beside it.
+-- Adding or removing one bit of a mask, and the orders that are stored with the mask.
 use Rattle.std.proofs.Common.{ℕ, zero, suc, ◌+◌, ◌%◌, ◌^◌, ◌*◌, ◌<◌, ◌≤◌, ◌≡◌, Bool, true, false, not, ◌||◌, ◌&&◌, List, [], ◌∷◌, length, get_or, set, refl, sym, ap, ◌∙◌, arith, inl, inr, Some, None, Option, bit_and, bit_or, w16}
 use Rattle.std.specs.Prelude.{◌==◌, if◌then◌else◌}
 use Rattle.std.specs.Int.{bit_at, bit_not}
@@ -22,7 +22,7 @@ without_one mask k l n m =
       | inr apart ↦ rw apart.0 (ap (λ (b : ℕ). b == 1) (bit_at_clear_other w16 mask k l n m apart.1))
     ]
 
--- the orders beside a mask
+-- Orders stored with a mask.
 pub kept_long : (mask a : ℕ) (os : List ℕ) → length (kept_from mask a os) ≡ length os
 kept_long mask a [] = refl
 kept_long mask a (o ∷ os) = ap suc (kept_long mask (a + 1) os)
@@ -51,7 +51,7 @@ at_past mask os now i seen l =
     let long : length (kept_from mask 0 os) ≡ length os = kept_long mask 0 os in
     sym (ap (λ xs. get_or xs i None) (sym seen) ∙ get_or_past (kept_from mask 0 os) i None (omega arith))
 
--- masks that agree from a place on
+-- Masks that agree from a number on keep the same orders.
 kept_same : (mask mask' a : ℕ) (os : List ℕ) → ((n : ℕ) → a ≤ n → has_bit mask' n ≡ has_bit mask n) → kept_from mask' a os ≡ kept_from mask a os
 kept_same mask mask' a [] h = refl
 kept_same mask mask' a (o ∷ os) h =

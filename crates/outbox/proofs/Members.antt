@@ -1,4 +1,4 @@
--- The numbers of a set of bits, ascending.
+-- The numbers in a set of bits, ascending.
 use Rattle.std.proofs.Common.{ℕ, zero, suc, ◌+◌, ◌-◌, ◌*◌, ◌%◌, ◌^◌, ◌<◌, ◌≤◌, ◌≡◌, Bool, true, false, not, cond, ◌||◌, ◌&&◌, List, [], ◌∷◌, ◌++◌, length, refl, sym, ap, ◌∙◌, arith, inl, inr, zero-add, add-zero, add-one, length-append, bit_and}
 use Rattle.std.specs.Prelude.{◌==◌, filter, nat_lt, count_ones}
 use Rattle.std.specs.Int.{bit_at}
@@ -19,7 +19,7 @@ use Rattle.outbox.specs.Masks.{has_bit, members}
 use Rattle.outbox.specs.Receivers.{struck}
 use Rattle.outbox.proofs.RowLemmas.{all_below}
 
--- those below a number that pass, one by one
+-- The numbers below `k` + 1 that pass a test are those below `k`, and `k` if it passes.
 picked : (p : ℕ → Bool) (k : ℕ) → filter p (generals (suc k)) ≡ filter p (generals k) ++ cond (p k) (k ∷ []) []
 picked p k =
     ap (filter p) (range_push 0 k ∙ ap (λ x. range_with_len 0 k ++ x ∷ []) (zero-add k))
@@ -41,7 +41,7 @@ pub all_picked : (mask k : ℕ) → k ≡ 13 → filter (has_bit mask) (generals
 unfolding members
 all_picked mask k e = ap (λ i. filter (has_bit mask) (generals i)) e
 
--- by tests that agree
+-- Two tests that agree keep the same numbers.
 picked_alike : (p q : ℕ → Bool) (k : ℕ) → ((n : ℕ) → n < k → p n ≡ q n) → filter p (generals k) ≡ filter q (generals k)
 picked_alike p q zero h = refl
 picked_alike p q (suc k) h =
@@ -50,7 +50,7 @@ picked_alike p q (suc k) h =
     picked p k
     ∙ (ap (λ xs. xs ++ cond (p k) (k ∷ []) []) rest ∙ (ap (λ (b : Bool). filter q (generals k) ++ cond b (k ∷ []) []) here ∙ sym (picked q k)))
 
--- those that are below a number, too
+-- A test that also requires a number to be below `m` keeps only those below `m`.
 below_too : (p : ℕ → Bool) (m d : ℕ) → filter (λ n. nat_lt n m && p n) (generals (m + d)) ≡ filter p (generals m)
 below_too p m zero =
     ap (λ k. filter (λ n. nat_lt n m && p n) (generals k)) (add-zero m)
@@ -68,7 +68,7 @@ members_others mask m w l h =
     picked_alike (has_bit mask) (λ n. nat_lt n m && not (on w n)) 13 (λ n less. h n)
     ∙ (ap (λ k. filter (λ n. nat_lt n m && not (on w n)) (generals k)) e ∙ below_too (λ n. not (on w n)) m (13 - m))
 
--- one less
+-- One number is removed.
 less_one : (a : Bool) (j x : ℕ) (ys zs : List ℕ) → struck j ys ≡ zs → struck j (cond a (x ∷ ys) ys) ≡ cond (a && not (x == j)) (x ∷ zs) zs
 less_one true j x ys zs e = ap (λ (t : List ℕ). cond (not (x == j)) (x ∷ t) t) e
 less_one false j x ys zs e = e
@@ -83,7 +83,7 @@ members_struck mask mask' g h =
     picked_alike (has_bit mask') (λ x. has_bit mask x && not (x == g)) 13 (λ n l. h n (omega arith) ∙ and_comm (not (n == g)) (has_bit mask n))
     ∙ sym (struck_picked g (has_bit mask) (generals 13))
 
--- who is among them
+-- Which numbers are among those that pass a test.
 on_one : (p : ℕ → Bool) (k g : ℕ) (xs : List ℕ) → on xs g ≡ (nat_lt g k && p g) → on (xs ++ cond (p k) (k ∷ []) []) g ≡ (nat_lt g (suc k) && p g)
 on_one p k g xs ih = elim (cases_Bool (p k)) [
   | inl yes_k ↦ ap (λ (b : Bool). on (xs ++ cond b (k ∷ []) []) g) yes_k ∙ (on-push xs k g ∙ elim (eqb_tells k g) [
@@ -130,7 +130,7 @@ on_members mask g = on_picked (has_bit mask) 13 g
 pub on_within : (mask g : ℕ) → g < 13 → has_bit mask g ≡ on (members mask) g
 on_within mask g l = sym (on_members mask g ∙ ap (λ (b : Bool). b && has_bit mask g) (lt-ltb g 13 l))
 
--- they are few, below 13, and different
+-- The numbers are few, below 13, and different.
 picked_few : (p : ℕ → Bool) (k : ℕ) → length (filter p (generals k)) ≤ k
 picked_few p zero = omega arith
 picked_few p (suc k) =
@@ -167,7 +167,7 @@ pub members_distinct : (mask : ℕ) → is_distinct (members mask) ≡ true
 unfolding members
 members_distinct mask = picked_distinct (has_bit mask) 13
 
--- how many they are
+-- How many numbers there are, counted by bits.
 bit_told : (b : ℕ) → b < 2 → b ≡ cond (not (b == 1)) 0 1
 bit_told zero l = refl
 bit_told (suc zero) l = refl

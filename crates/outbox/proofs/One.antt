@@ -1,4 +1,4 @@
--- What a choice of one label writes.
+-- What a call writes that puts orders at one label only.
 use Rattle.std.proofs.Common.{ℕ, zero, suc, ◌+◌, ◌<◌, ◌≤◌, ◌≡◌, ◌≢◌, List, [], ◌∷◌, map, length, get_or, set, refl, ap, arith, None}
 use Rattle.std.specs.Prelude.{is_some}
 use Rattle.label.specs.declared.shape.Shape.{Shape}
@@ -9,7 +9,7 @@ use Rattle.outbox.specs.Rows.{RowOrders, receivers_in, orders_in}
 use Rattle.outbox.proofs.Writing.{row_written, row_none_written}
 use Rattle.outbox.proofs.Whole.{Stand, rows_written, stand_parts}
 
--- the choice sets nothing but at the label
+-- States that the call puts orders only at this label.
 abbrev pub OnlyAt : Choice → ℕ → Type 0
 OnlyAt choice label = (k b n : ℕ) → k ≢ label → choice (record { rank = k; number = b; receiver = n }) ≡ None
 
@@ -19,7 +19,7 @@ here_none choice s label only a row w e ne = rw (← e) (row_none_written choice
 here_unset : (choice : Choice) (s : Shape) (label : ℕ) → OnlyAt choice label → (a : ℕ) (w : List ℕ) → a ≢ label → sets choice (row_from a 0 (receivers s w)) ≡ 0
 here_unset choice s label only a w ne = row_none choice a (λ b n. ap is_some (only a b n ne)) 0 (receivers s w)
 
--- where the label is none of these
+-- If the label is none of those of these rows, nothing is written.
 pub kept_written : (choice : Choice) (s : Shape) (label : ℕ) → OnlyAt choice label → (a : ℕ) (rows : List RowOrders) (ws : List (List ℕ)) → Stand s rows ws → ((k : ℕ) → a ≤ k → k < a + length rows → k ≢ label) → rows_written choice s a ws (map orders_in rows) ≡ map orders_in rows
 kept_written choice s label only a [] [] e out = refl
 kept_written choice s label only a [] (w ∷ ws) e out = cc
@@ -40,7 +40,7 @@ kept_unset choice s label only a (row ∷ rows) (w ∷ ws) e out =
     let rest : sets_in choice (rows_from s (a + 1) ws) ≡ 0 = kept_unset choice s label only (a + 1) rows ws parts.1 (λ k l h. out k (omega arith) (omega arith)) in
     rw (sets_in-cons choice (row_from a 0 (receivers s w)) (rows_from s (a + 1) ws), here_unset choice s label only a w ne, rest) refl
 
--- where it is the one at a place of these
+-- If the label is the one of row `i`, only this row is written.
 pub one_written : (choice : Choice) (s : Shape) (label : ℕ) → OnlyAt choice label → (a i : ℕ) (rows : List RowOrders) (ws : List (List ℕ)) (new : RowOrders) → Stand s rows ws → label ≡ a + i → i < length rows
     → row_written choice (row_from label 0 (receivers_in (get_or rows i []))) (orders_in (get_or rows i [])) ≡ orders_in new → rows_written choice s a ws (map orders_in rows) ≡ map orders_in (set rows i new)
 one_written choice s label only a i [] ws new e at l here = absurd (omega arith)
@@ -73,7 +73,7 @@ one_set choice s label only a (suc i) (row ∷ rows) (w ∷ ws) e at l =
     let rest : sets_in choice (rows_from s (a + 1) ws) ≡ sets choice (row_from label 0 (receivers_in (get_or rows i []))) = one_set choice s label only (a + 1) i rows ws parts.1 (omega arith) (omega arith) in
     rw (sets_in-cons choice (row_from a 0 (receivers s w)) (rows_from s (a + 1) ws), here_unset choice s label only a w ne, rest) (omega arith)
 
--- the names stay
+-- The receivers of the rows stay the same.
 pub set_stands : (s : Shape) (i : ℕ) (rows : List RowOrders) (ws : List (List ℕ)) (new : RowOrders) → Stand s rows ws → (i < length rows → receivers_in new ≡ receivers_in (get_or rows i [])) → Stand s (set rows i new) ws
 set_stands s i [] ws new e same = e
 set_stands s zero (row ∷ rows) ws new e same =

@@ -1,4 +1,4 @@
--- One row: orders kept by the receiver's number.
+-- One row, whose orders are stored by the receivers' numbers.
 use Rattle.std.proofs.Common.{ℕ, zero, suc, ◌+◌, ◌<◌, ◌≤◌, ◌≡◌, ◌≢◌, Bool, true, false, not, cond, ◌||◌, List, [], ◌∷◌, length, take, get_or, set, refl, sym, ap, ◌∙◌, arith, inl, inr, Some, None, Option, get_or-set_same, get_or-set_other, min}
 use Rattle.std.specs.Prelude.{◌==◌, if◌then◌else◌}
 use Rattle.std.proofs.lemmas.Bool.{or_parts, or_cases, and_parts, not-true, eqb-true, false≢true}
@@ -8,7 +8,7 @@ use Rattle.label.specs.Oral.{AllBelow}
 use Rattle.label.proofs.Bounds.{others_length_more, on-get_or}
 use Rattle.outbox.specs.Rows.{RowOrders, receivers_in, row_of, put_in_row, filled, order_in}
 
--- the receivers of a row
+-- The receivers of a row.
 pub names_in : (os : List (Option ℕ)) (ns : List ℕ) → receivers_in (row_of os ns) ≡ ns
 names_in os [] = refl
 names_in os (n ∷ ns) = ap (λ xs. n ∷ xs) (names_in os ns)
@@ -21,7 +21,7 @@ on-below m (n ∷ ns) r b h =
       | inr there ↦ on-below m ns r b.1 there
     ]
 
--- one order in place of an earlier one
+-- An order is put in place of an earlier one.
 put_at : (os : List (Option ℕ)) (n r v : ℕ) → r < length os → get_or (set os r (Some v)) n None ≡ (if n == r then Some v else get_or os n None)
 put_at os n r v l =
     elim (eqb_tells n r) [
@@ -44,7 +44,7 @@ row_kept (p ∷ row) r v a =
     let rest : row ≡ put_in_row r v row = row_kept row r v parts.1 in
     rw (here, ← rest) refl
 
--- the order of one receiver
+-- The order for one receiver.
 pub order_there : (os : List (Option ℕ)) (ns : List ℕ) (r : ℕ) → on ns r ≡ true → get_or os r None ≡ order_in r (row_of os ns)
 order_there os [] r h = absurd (false≢true h)
 order_there os (n ∷ ns) r h =
@@ -59,7 +59,7 @@ order_absent (p ∷ row) r a =
     let parts = or_parts (p.0 == r) (on (receivers_in row) r) a in
     rw parts.0 (order_absent row r parts.1)
 
--- orders for the first receivers, one more
+-- Orders are put for the first receivers, one more at a time.
 set_absent : (os : List (Option ℕ)) (ns : List ℕ) (m : ℕ) (x : Option ℕ) → on ns m ≡ false → row_of (set os m x) ns ≡ row_of os ns
 set_absent os [] m x a = refl
 set_absent os (n ∷ ns) m x a =
@@ -110,7 +110,7 @@ filled_all (v ∷ vs) [] (suc m) e = absurd (omega arith)
 filled_all (v ∷ vs) (p ∷ row) zero e = absurd (omega arith)
 filled_all (v ∷ vs) (p ∷ row) (suc m) e = ap (λ xs. (p.0, Some v) ∷ xs) (filled_all vs row m (omega arith))
 
--- few, and below a bound
+-- The receivers are few, and their numbers are below a bound.
 pub others-few : (n : ℕ) (w : List ℕ) → length (others n w) ≤ n
 others-few zero w = omega arith
 others-few (suc n) w =

@@ -1,4 +1,4 @@
--- One label's row, as the owner sees it.
+-- One label's row, as contracts see it.
 use Rattle.std.proofs.Common.{ℕ, zero, suc, ◌+◌, ◌-◌, ◌<◌, ◌≤◌, ◌≡◌, Bool, true, false, cond, List, [], ◌∷◌, ◌++◌, map, length, get_or, set, refl, sym, ap, ◌∙◌, arith, Some, None, min, subst}
 use Rattle.std.specs.Prelude.{◌==◌, ◌&&◌, if◌then◌else◌, slice_get, IsTrue}
 use Rattle.std.proofs.lemmas.Bool.{ne_eqb, eq-eqb, false≢true}
@@ -16,7 +16,7 @@ use Rattle.outbox.proofs.Whole.{Stand, stand_parts}
 use Rattle.outbox.proofs.One.{OnlyAt, kept_written, kept_unset, one_written, one_set, set_stands}
 use Rattle.label.proofs.Counting.{others-distinct}
 
--- an element that is there
+-- The element at an index within a list does not depend on the default.
 pub same_default : {A : Type 0} (xs : List A) (i : ℕ) (d e : A) → i < length xs → get_or xs i d ≡ get_or xs i e
 same_default [] i d e l = absurd (omega arith)
 same_default (x ∷ xs) zero d e l = refl
@@ -28,7 +28,7 @@ stand_distinct s i (row ∷ rows) [] d e l = cc
 stand_distinct s zero (row ∷ rows) (w ∷ ws) d e l = rw (stand_parts s row rows w ws e).0 (others-distinct s.generals (w ++ s.general ∷ []))
 stand_distinct s (suc i) (row ∷ rows) (w ∷ ws) d e l = stand_distinct s i rows ws d (stand_parts s row rows w ws e).1 (omega arith)
 
--- no such label
+-- If there is no such label, nothing is written.
 pub absent_written : (choice : Choice) (now : Contents) (relay : Relay) (entries : List Entry) (rows : List RowOrders) (label : ℕ) → OnlyAt choice label → contents_of relay entries rows ≡ now → IsOutbox relay rows → length rows ≤ label → now.rows ≡ written now.relay choice now.rows
 absent_written choice now relay entries rows label only seen a l =
     subst (λ (k : Contents). k.rows ≡ written k.relay choice k.rows) seen (sym (kept_written choice relay.shape label only 0 rows (relayed relay) a.names (λ k m h. λ q. omega arith)))
@@ -37,7 +37,7 @@ pub absent_count : (choice : Choice) (now : Contents) (relay : Relay) (entries :
 absent_count choice now relay entries rows label only seen a l =
     subst (λ (k : Contents). places_set k.relay choice ≡ 0) seen (kept_unset choice relay.shape label only 0 rows (relayed relay) a.names (λ k m h. λ q. omega arith))
 
--- the label's row
+-- The row of the label is written.
 pub single_written : (choice : Choice) (now : Contents) (relay : Relay) (entries : List Entry) (rows : List RowOrders) (label : ℕ) (row new : RowOrders) → OnlyAt choice label → contents_of relay entries rows ≡ now → IsOutbox relay rows → label < length rows → row ≡ get_or rows label row
     → row_written choice (row_from label 0 (receivers_in row)) (orders_in row) ≡ orders_in new → map orders_in (set rows label new) ≡ written now.relay choice now.rows
 single_written choice now relay entries rows label row new only seen a l at here =
@@ -56,7 +56,7 @@ pub single_stands : (relay : Relay) (rows : List RowOrders) (label : ℕ) (row n
 single_stands relay rows label row new a l at same =
     record { within = a.within; names = set_stands relay.shape label rows (relayed relay) new a.names (λ h. same ∙ ap receivers_in (at ∙ same_default rows label row [] l)) }
 
--- one place
+-- A call that puts one order does so at one label only.
 pub only_place : (label r v : ℕ) → OnlyAt (at_place label r v) label
 only_place label r v k b n ne = ap (λ t. if t && (n == r) then Some v else None) (ne_eqb k label ne)
 
@@ -83,7 +83,7 @@ pub place_absent : (now : Contents) (relay : Relay) (entries : List Entry) (rows
     → (IsTrue false → 0 < places_set now.relay (at_place label r v)) × (0 < places_set now.relay (at_place label r v) → IsTrue false)
 place_absent now relay entries rows label r v seen a l = there_iff false (places_set now.relay (at_place label r v)) (absent_count (at_place label r v) now relay entries rows label (only_place label r v) seen a l)
 
--- along a row
+-- A call that puts orders along a row does so at one label only.
 pub only_row : (label : ℕ) (orders : List ℕ) → OnlyAt (along_row label orders) label
 only_row label orders k b n ne = ap (λ t. if t then slice_get orders b else None) (ne_eqb k label ne)
 

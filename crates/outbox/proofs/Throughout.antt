@@ -1,4 +1,4 @@
--- One order for all receivers of a row, row by row.
+-- One order is put for all receivers of a row, row by row.
 use Rattle.std.proofs.Common.{ℕ, zero, suc, ◌+◌, ◌<◌, ◌≡◌, Bool, true, List, [], ◌∷◌, map, length, get_or, set, replicate, refl, sym, ap, subst, ◌∙◌, arith, Some, None, Option, add-one, add-zero, zero-add, inl, inr}
 use Rattle.std.specs.Prelude.{◌==◌, if◌then◌else◌}
 use Rattle.std.proofs.lemmas.Bool.{eq-eqb, or_left, or_right, cases_lt}
@@ -17,7 +17,7 @@ use Rattle.outbox.proofs.Masking.{kept_at}
 use Rattle.outbox.proofs.RowLemmas.{on-below}
 use Rattle.outbox.proofs.Whole.{Stand, stand_parts}
 
--- thirteen places alike
+-- An array with the same order for all thirteen numbers.
 long_alike : (m order : ℕ) → length (replicate m order) ≡ m
 long_alike zero order = refl
 long_alike (suc m) order = ap suc (long_alike m order)
@@ -29,7 +29,7 @@ kept_alike mask order n lt =
     kept_at mask 0 n (replicate 13 order) (omega arith) ∙ (ap (λ k. if has_bit mask k then Some (get_or (replicate 13 order) n 0) else None) e
     ∙ ap (λ v. if has_bit mask n then Some v else None) (get_or-replicate 13 n order 0 lt))
 
--- a row of them
+-- A row in which all receivers have this order.
 pub row_all : (os new : List (Option ℕ)) (ns : List ℕ) (order : ℕ) → ((n : ℕ) → on ns n ≡ true → get_or new n None ≡ Some order) → row_of new ns ≡ all_put order (row_of os ns)
 row_all os new [] order h = refl
 row_all os new (n ∷ ns) order h =
@@ -54,7 +54,8 @@ row_to_all os new ns mask order row long each bits = record {
   ];
 }
 
--- an order for all in each of the first rows, by the row's rank
+-- Returns the rows after an order is put for all receivers of each of the first `m` rows. The order depends on the
+-- row's rank.
 abbrev pub all_first : (ℕ → ℕ) → ℕ → ℕ → List RowOrders → List RowOrders
 all_first f a zero rows = rows
 all_first f a (suc m) [] = []
@@ -86,7 +87,7 @@ all_more f a (suc m) (row ∷ rows) d l =
     let e : a + suc m ≡ a + 1 + m = omega arith in
     rw e (ap (λ xs. all_put (f a) row ∷ xs) (all_more f (a + 1) m rows d (omega arith)))
 
--- one row more
+-- The order is put in one more row.
 pub all_step : (f : ℕ → ℕ) (m : ℕ) (rows cur : List RowOrders) (row new : RowOrders) → cur ≡ all_first f 0 m rows → m < length rows → row ≡ get_or cur m row → new ≡ all_put (f m) row → set cur m new ≡ all_first f 0 (m + 1) rows
 all_step f m rows cur row new e l at is =
     let was : row ≡ get_or rows m row = at ∙ (ap (λ xs. get_or xs m row) e ∙ all_next f 0 m rows row l) in
@@ -98,7 +99,7 @@ all_stand relay other f m rows cur a same e =
     let here : IsOutbox relay cur = record { within = a.within; names = ap (map receivers_in) e ∙ (all_names f 0 m rows ∙ a.names) } in
     subst (λ (k : Relay). IsOutbox k cur) (sym same) here
 
--- all rows
+-- The orders are put in all rows.
 row_done : (f : ℕ → ℕ) (k b : ℕ) (row : RowOrders) → orders_in (all_put (f k) row) ≡ map (λ place. Some (f place.rank)) (row_from k b (receivers_in row))
 row_done f k b [] = refl
 row_done f k b (p ∷ row) = ap (λ xs. Some (f k) ∷ xs) (row_done f k (b + 1) row)

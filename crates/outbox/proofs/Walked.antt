@@ -1,4 +1,4 @@
--- The labels of a length, walked from the commander's on.
+-- All labels of a length, found by extending the commander's label one general at a time.
 use Rattle.std.proofs.Common.{ℕ, zero, suc, ◌+◌, ◌-◌, ◌<◌, ◌≤◌, ◌≡◌, ◌≢◌, Bool, true, false, not, cond, ◌||◌, ◌&&◌, List, [], ◌∷◌, ◌++◌, map, length, take, get_or, append_assoc, refl, sym, ap, ◌∙◌, arith}
 use Rattle.std.specs.Prelude.{◌==◌, filter, flat_map}
 use Rattle.std.proofs.lemmas.List.{append-nil, take_all, take_more}
@@ -16,7 +16,7 @@ use Rattle.label.proofs.Places.{first_label}
 use Rattle.outbox.specs.Rows.{RowOrders, row_for}
 use Rattle.outbox.specs.Receivers.{struck, rows_under}
 
--- a general who stands twice
+-- Excluding a general twice is the same as excluding him once.
 pub others_twice : (n p : ℕ) → others n (p ∷ p ∷ []) ≡ others n (p ∷ [])
 others_twice n p = filter_agree (λ x. not (on (p ∷ p ∷ []) x)) (λ x. not (on (p ∷ []) x)) (λ x. ap not (twice (p == x))) (generals n)
   where
@@ -24,7 +24,7 @@ others_twice n p = filter_agree (λ x. not (on (p ∷ p ∷ []) x)) (λ x. not (
     twice true = refl
     twice false = refl
 
--- one general more on the label
+-- The label is extended by one general.
 both : (a b c : Bool) → not ((a || b) || c) ≡ (not (a || c) && not b)
 both true b c = refl
 both false true true = refl
@@ -45,7 +45,7 @@ struck_more w j p (x ∷ xs) =
     tests true j x ys = refl
     tests false j x ys = refl
 
--- the rows of the labels that begin with these and have so many generals more
+-- Returns the rows of the labels that extend these labels by `k` generals.
 abbrev deep : Shape → ℕ → List (List ℕ) → List RowOrders
 deep s k ws = flat_map (λ w. rows_under k (receivers s w)) ws
 
@@ -75,7 +75,7 @@ deep_all s (suc m) k =
     ∙ (sym (deep_next s k (labels s.generals s.commander s.general (suc m)))
     ∙ (deep_all s m (suc k) ∙ ap (λ i. deep s i (labels s.generals s.commander s.general 1)) e))
 
--- all of them
+-- The labels found in this way are all labels of the length.
 pub walked : (s : Shape) (m : ℕ) → s.general ≢ s.commander → rows_under m (others s.generals (s.commander ∷ s.general ∷ [])) ≡ map (row_for s) (labels s.generals s.commander s.general (suc m))
 walked s m ne =
     let e : m + 0 ≡ m = omega arith in
@@ -85,7 +85,7 @@ walked s m ne =
     ∙ (ap (deep s m) (first_label s.generals s.commander s.general ne)
     ∙ append-nil (rows_under m (others s.generals (s.commander ∷ s.general ∷ [])))))))
 
--- one general more
+-- Labels are extended by one general, and then by the others.
 under_more : (more : ℕ) (names : List ℕ) → more ≢ 0 → flat_map (λ j. rows_under (more - 1) (struck j names)) names ≡ rows_under more names
 under_more zero names ne = absurd (ne refl)
 under_more (suc m) names ne = let e : suc m - 1 ≡ m = omega arith in ap (λ (k : ℕ). flat_map (λ j. rows_under k (struck j names)) names) e

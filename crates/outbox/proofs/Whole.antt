@@ -1,4 +1,4 @@
--- What a choice writes into all rows.
+-- What a call writes into all rows.
 use Rattle.std.proofs.Common.{ℕ, zero, suc, ◌+◌, ◌<◌, ◌≤◌, ◌≡◌, Bool, true, false, cond, List, [], ◌∷◌, ◌++◌, map, length, get_or, set, refl, ap, arith, Some, None, add-zero}
 use Rattle.std.specs.Prelude.{◌==◌, if◌then◌else◌, zip}
 use Rattle.label.specs.declared.shape.Shape.{Shape}
@@ -11,11 +11,11 @@ use Rattle.outbox.specs.Rows.{RowOrders, receivers_in, orders_in, put_in_row, pu
 use Rattle.outbox.proofs.Writing.{row_written, row_one_written, sets_one}
 use Rattle.label.proofs.Counting.{others-distinct}
 
--- rows of which each is its label's
+-- States that each row has the receivers of its label.
 abbrev pub Stand : Shape → List RowOrders → List (List ℕ) → Type 0
 Stand s rows ws = map receivers_in rows ≡ map (receivers s) ws
 
--- the rows from a rank on after a choice
+-- Returns the rows from rank `a` on after a call has put orders.
 abbrev pub rows_written : Choice → Shape → ℕ → List (List ℕ) → Outbox → Outbox
 rows_written choice s a ws outbox = map (λ row. row_written choice row.0 row.1) (zip (rows_from s a ws) outbox)
 
@@ -33,7 +33,7 @@ first_long r f a zero rows = refl
 first_long r f a (suc m) [] = refl
 first_long r f a (suc m) (row ∷ rows) = ap suc (first_long r f (a + 1) m rows)
 
--- the next row
+-- The next row is still as it was.
 pub first_next : (r : ℕ) (f : ℕ → ℕ) (a m : ℕ) (rows : List RowOrders) (d : RowOrders) → m < length rows → get_or (put_first r f a m rows) m d ≡ get_or rows m d
 first_next r f a m [] d l = absurd (omega arith)
 first_next r f a zero (row ∷ rows) d l = refl
@@ -65,11 +65,11 @@ found_few r (suc m) (row ∷ rows) =
     at_most true = omega arith
     at_most false = omega arith
 
--- what stands, part by part
+-- If each row has the receivers of its label, so do the first row and the others.
 pub stand_parts : (s : Shape) (row : RowOrders) (rows : List RowOrders) (w : List ℕ) (ws : List (List ℕ)) → Stand s (row ∷ rows) (w ∷ ws) → (receivers_in row ≡ receivers s w) × Stand s rows ws
 stand_parts s row rows w ws e = (cc, cc)
 
--- a choice that goes by the receiver
+-- A call that puts an order for one receiver at every label.
 pub all_written : (choice : Choice) (s : Shape) (r : ℕ) (f : ℕ → ℕ) → ((k b n : ℕ) → choice (record { rank = k; number = b; receiver = n }) ≡ (if n == r then Some (f k) else None)) → (a : ℕ) (rows : List RowOrders) (ws : List (List ℕ)) → Stand s rows ws → rows_written choice s a ws (map orders_in rows) ≡ map orders_in (put_first r f a (length rows) rows)
 all_written choice s r f goes a [] [] e = refl
 all_written choice s r f goes a [] (w ∷ ws) e = cc

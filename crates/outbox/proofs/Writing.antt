@@ -1,4 +1,4 @@
--- What one choice writes: row by row.
+-- What a call writes into one row.
 use Rattle.std.proofs.Common.{ℕ, zero, suc, ◌+◌, ◌-◌, ◌≡◌, Bool, true, false, not, cond, ◌||◌, List, [], ◌∷◌, map, length, refl, sym, ap, ◌∙◌, arith, inl, inr, Some, None, Option, min}
 use Rattle.std.specs.Prelude.{◌==◌, if◌then◌else◌, zip, is_some, slice_get}
 use Rattle.std.proofs.lemmas.Bool.{and_parts, not-true}
@@ -8,7 +8,7 @@ use Rattle.semantics.specs.Outbox.{Place, Choice, newer}
 use Rattle.semantics.proofs.PlacesLaws.{row_from, sets, sets-cons}
 use Rattle.outbox.specs.Rows.{RowOrders, receivers_in, orders_in, put_in_row, filled}
 
--- a row after a choice
+-- Returns the orders of a row after a call has put its orders there.
 abbrev pub row_written : Choice → List Place → List (Option ℕ) → List (Option ℕ)
 row_written choice places orders = map (λ p. newer (choice p.0) p.1) (zip places orders)
 
@@ -16,18 +16,18 @@ newer_if : (t : Bool) (v : ℕ) (o : Option ℕ) → newer (if t then Some v els
 newer_if true v o = refl
 newer_if false v o = refl
 
--- by the receiver
+-- A call that puts an order for one receiver.
 pub row_one_written : (choice : Choice) (r v k : ℕ) → ((b n : ℕ) → choice (record { rank = k; number = b; receiver = n }) ≡ (if n == r then Some v else None)) → (b : ℕ) (row : RowOrders) → row_written choice (row_from k b (receivers_in row)) (orders_in row) ≡ orders_in (put_in_row r v row)
 row_one_written choice r v k goes b [] = refl
 row_one_written choice r v k goes b (p ∷ row) =
     rw (goes b p.0, newer_if (p.0 == r) v p.1, row_one_written choice r v k goes (b + 1) row) refl
 
--- nothing
+-- A call that puts nothing in this row.
 pub row_none_written : (choice : Choice) (k : ℕ) → ((b n : ℕ) → choice (record { rank = k; number = b; receiver = n }) ≡ None) → (b : ℕ) (row : RowOrders) → row_written choice (row_from k b (receivers_in row)) (orders_in row) ≡ orders_in row
 row_none_written choice k none b [] = refl
 row_none_written choice k none b (p ∷ row) = rw (none b p.0, row_none_written choice k none (b + 1) row) refl
 
--- along the row
+-- A call that puts orders for the first receivers of the row.
 pub row_along_written : (choice : Choice) (k : ℕ) (all : List ℕ) → ((b n : ℕ) → choice (record { rank = k; number = b; receiver = n }) ≡ slice_get all b) → (b : ℕ) (vs : List ℕ) → ((j : ℕ) → slice_get all (b + j) ≡ slice_get vs j) → (row : RowOrders) → row_written choice (row_from k b (receivers_in row)) (orders_in row) ≡ orders_in (filled vs row)
 row_along_written choice k all goes b [] at [] = refl
 row_along_written choice k all goes b (v ∷ vs) at [] = refl
@@ -50,7 +50,7 @@ row_along_written choice k all goes b (v ∷ vs) at (p ∷ row) =
     at_next : (all : List ℕ) (b j : ℕ) → slice_get all (b + 1 + j) ≡ slice_get all (b + suc j)
     at_next all b j = let e : b + 1 + j ≡ b + suc j = omega arith in ap (slice_get all) e
 
--- how many it sets: of a receiver the one place that he has
+-- How many orders a call for one receiver puts: at most one in a row.
 is_some_if : (t : Bool) (v : ℕ) → is_some (if t then Some v else None) ≡ t
 is_some_if true v = refl
 is_some_if false v = refl
@@ -72,7 +72,7 @@ sets_one choice r v k goes b (n ∷ ns) d =
     rw (sets-cons choice (record { rank = k; number = b; receiver = n }) (row_from k (b + 1) ns), goes b n, is_some_if (n == r) v, sets_one choice r v k goes (b + 1) ns both.1)
     (one_or_none (n == r) (on ns r) single)
 
--- along a row as many as there are both
+-- How many orders a call along a row puts: as many as there are both receivers and orders.
 pub sets_along : (choice : Choice) (k : ℕ) (all : List ℕ) → ((b n : ℕ) → choice (record { rank = k; number = b; receiver = n }) ≡ slice_get all b) → (b : ℕ) (ns : List ℕ) → sets choice (row_from k b ns) ≡ min (length ns) (length all - b)
 sets_along choice k all goes b [] = omega arith
 sets_along choice k all goes b (n ∷ ns) =

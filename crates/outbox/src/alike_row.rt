@@ -1,4 +1,4 @@
-//! A label's row in which all receivers have the same order, or none.
+//! Defines the row of a label whose receivers are all sent the same order, or all nothing.
 ghost use Rattle.std.specs.Prelude.{◌≡◌, ◌≤◌, length};
 ghost use Rattle.outbox.specs.Rows.{empty_row, orders_in, receivers_in, all_put, order_in};
 ghost use Rattle.outbox.specs.Told.{orders_told};
@@ -9,11 +9,11 @@ use crate::told_orders::ReceiverOrders;
 use arrayvec::ArrayVec;
 use std::marker::Model;
 
-/// A uniform row: the places of one label while all its receivers have one order, or none. It takes 12 bytes.
+/// A uniform row: the receivers of one label, and the one order that all of them are sent, if any. It takes 12 bytes.
 #[derive(Drop)]
 pub struct UniformRow {
     receivers: Receivers,
-    /// The order of every receiver, if one was put.
+    /// The order for every receiver, or `None` if none was put.
     order: Option<u32>,
 }
 
@@ -26,7 +26,7 @@ impl Model for UniformRow {
 }
 
 impl UniformRow {
-    /// Creates a row for these receivers in which no order is put.
+    /// Returns a row for these receivers, none of whom is sent an order yet.
     pub(crate) fn new(receivers: Receivers) -> UniformRow
         ensures { result ≡ empty_row receivers }
     {
@@ -36,14 +36,14 @@ impl UniformRow {
         }
     }
 
-    /// Puts one order for all receivers.
+    /// Puts this order for every receiver, in place of an earlier one.
     pub(crate) fn put_all(&mut self, order: u32)
         ensures { self.new ≡ all_put order self.old }
     {
         self.order = Some(order);
     }
 
-    /// Returns the receiver's order, if there is one.
+    /// Returns the order for this receiver, or `None` if he has none or is not a receiver of the row's label.
     pub(crate) fn order(&self, receiver: u32) -> Option<u32>
         ensures { result ≡ order_in receiver self.now }
     {
@@ -61,7 +61,7 @@ impl UniformRow {
         self.receivers.list()
     }
 
-    /// Returns the order of each receiver, in ascending order of receivers.
+    /// Returns the order for each receiver, ascending by receiver. It is `None` for a receiver who has none.
     pub(crate) fn told(&self) -> ArrayVec<Option<u32>, 13>
         ensures { result.items ≡ orders_in self.now }
     {
@@ -74,7 +74,7 @@ impl UniformRow {
         told
     }
 
-    /// Returns the orders of all receivers as one order and the number of receivers.
+    /// Returns the orders for all receivers in short form: the one order, and the number of receivers.
     pub(crate) fn told_at_once(&self) -> ReceiverOrders
         ensures orders { orders_told result ≡ orders_in self.now }
         ensures few { length (orders_told result) ≤ 13 }
@@ -85,7 +85,7 @@ impl UniformRow {
         }
     }
 
-    /// Converts to a row with the same orders that stores an order for each receiver.
+    /// Returns a mixed row with the same orders, in which an order can be put for a single receiver.
     pub(crate) fn apart(&self) -> MixedRow
         ensures { result ≡ self.now }
     {

@@ -1,8 +1,8 @@
-//! Laws of the outbox. Each function does nothing, and its contract is the law.
+//! States laws of the outbox. Each function does nothing, and its contract is the law.
 ghost use Rattle.outbox.specs.Laws.{LastOrdersAreGiven};
 
-/// Does nothing. Its contract says that after `put`, `put_row`, `sway` and `honest`, [`crate::Outbox::get`] returns the
-/// last order put at each place. A place where none was put keeps its order.
+/// States that [`crate::Outbox::get`] returns for each label and receiver the last order that `put`, `put_row`, `sway`
+/// or `honest` has put there.
 pub fn last_orders_are_given()
     ensures { LastOrdersAreGiven }
 {}

@@ -1,4 +1,5 @@
-//! The outbox of a general in a round: the orders that he sends, with a place for each label relayed and each receiver.
+//! Defines the outbox of a general in a round. It has a place for each label that he relays and each receiver of that
+//! label, and there the order that he sends.
 #![tactic(auto)]
 
 mod alike_row;

@@ -1,8 +1,8 @@
-//! Sets of numbers below 16 as bit masks.
+//! Stores sets of numbers below 16 as bit masks: bit n is set if n is in the set.
 ghost use Rattle.std.specs.Prelude.{◌≡◌, ◌<◌, ◌==◌, ◌||◌, ◌&&◌, not, ℕ};
 ghost use Rattle.outbox.specs.Masks.{has_bit};
 
-/// Checks whether a number is in a set. `mask` has bit n set exactly if n is in the set.
+/// Returns whether a number below 16 is in the set `mask`.
 pub(crate) fn has_bit(mask: u16, number: u32) -> bool
     requires { number < 16 }
     ensures { result ≡ has_bit mask number }
@@ -10,7 +10,7 @@ pub(crate) fn has_bit(mask: u16, number: u32) -> bool
     (mask >> number) & 1 == 1
 }
 
-/// Returns the bit mask of a set with the number added to the set.
+/// Returns the set `mask` with a number below 16 added.
 pub(crate) fn with_bit(mask: u16, number: u32) -> u16
     requires { number < 16 }
     ensures { (n : ℕ) → has_bit result n ≡ (number == n || has_bit mask n) }
@@ -18,7 +18,7 @@ pub(crate) fn with_bit(mask: u16, number: u32) -> u16
     mask | (1 << number)
 }
 
-/// Returns the bit mask of a set with the number removed from the set.
+/// Returns the set `mask` with a number below 16 removed.
 pub(crate) fn without_bit(mask: u16, number: u32) -> u16
     requires { number < 16 }
     ensures { (n : ℕ) → n < 16 → has_bit result n ≡ (not (n == number) && has_bit mask n) }

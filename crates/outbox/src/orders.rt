@@ -1,4 +1,4 @@
-//! A borrowed view of one label's orders, however the outbox stores them.
+//! Defines a borrowed view of the orders for one label's receivers, which is the same however the outbox stores them.
 ghost use Rattle.std.specs.Prelude.{◌≡◌, ◌≤◌, length};
 ghost use Rattle.outbox.specs.Orders.{orders_seen};
 ghost use Rattle.outbox.specs.Rows.{orders_in, order_in, receivers_in};
@@ -9,19 +9,19 @@ use crate::row::MixedRow;
 use crate::told_orders::ReceiverOrders;
 use arrayvec::ArrayVec;
 
-/// The orders of one label, borrowed: its receivers, each with the order put for him.
+/// The orders for one label's receivers, borrowed from an outbox.
 #[derive(Clone, Copy)]
 pub enum Orders<'a> {
-    /// All receivers have one order, or none.
+    /// All receivers have the same order, or none has an order.
     Alike(&'a UniformRow),
-    /// Each receiver has his own order, or none.
+    /// Each receiver has his own order or none.
     Apart(&'a MixedRow),
-    /// The label has no receivers. This is used for a letter that is missing.
+    /// There are no receivers. This is used in place of a missing letter.
     Nobody,
 }
 
 impl Orders<'_> {
-    /// Returns the receiver's order, if there is one.
+    /// Returns the order for this receiver, or `None` if he has none or is not a receiver of the label.
     pub fn order(&self, receiver: u32) -> Option<u32>
         ensures { result ≡ order_in receiver (orders_seen self.now) }
     {
@@ -43,7 +43,7 @@ impl Orders<'_> {
         }
     }
 
-    /// Returns the order of each receiver, in ascending order of receivers.
+    /// Returns the order for each receiver, ascending by receiver. It is `None` for a receiver who has none.
     pub(crate) fn told(&self) -> ArrayVec<Option<u32>, 13>
         ensures { result.items ≡ orders_in (orders_seen self.now) }
     {
@@ -54,8 +54,8 @@ impl Orders<'_> {
         }
     }
 
-    /// Returns the order of each receiver. Orders that are stored as one are returned as one order and the number of
-    /// receivers.
+    /// Returns the order for each receiver, ascending by receiver. If the outbox stores one order for all of them, it
+    /// is returned once, with the number of receivers.
     pub(crate) fn told_at_once(&self) -> ReceiverOrders
         ensures orders { orders_told result ≡ orders_in (orders_seen self.now) }
         ensures few { length (orders_told result) ≤ 13 }

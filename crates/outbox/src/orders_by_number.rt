@@ -1,16 +1,16 @@
-//! An array of orders by general, with a bit mask of the generals that have one.
+//! Stores orders by the numbers of generals (0 to 12), with a bit mask of the numbers that have one.
 ghost use Rattle.std.specs.Prelude.{◌≡◌, ◌<◌, if◌then◌else◌, ℕ, None, Some, length, replicate, slice_set, slice_index_or};
 ghost use Rattle.outbox.specs.Masks.{has_bit as is_in};
 
 use crate::mask::{has_bit, with_bit};
 use std::marker::Model;
 
-/// An order, or nothing, for each of the numbers 0 to 12.
+/// An order, or nothing, for each number from 0 to 12.
 #[derive(Drop)]
 pub(crate) struct OrdersByNumber {
-    /// The order for each number. It has no meaning if none was put for the number.
+    /// The order for each number. It has no meaning for a number whose bit in `put` is not set.
     orders: [u32; 13],
-    /// The numbers for which an order was put, a bit for each.
+    /// The numbers that have an order: bit n is set for number n.
     put: u16,
 }
 
@@ -26,7 +26,7 @@ impl Model for OrdersByNumber {
 }
 
 impl OrdersByNumber {
-    /// Creates an array without any order.
+    /// Returns an array in which no number has an order.
     pub fn nothing() -> OrdersByNumber
         ensures { result ≡ replicate 13 None }
     {
@@ -36,7 +36,8 @@ impl OrdersByNumber {
         }
     }
 
-    /// Creates an array with one order for each number of the set `places`.
+    /// Returns an array in which each number of the set `places` has this order, and no other number has one. Bit n of
+    /// `places` means number n.
     pub fn alike(order: u32, places: u16) -> OrdersByNumber
         ensures long { length result ≡ 13 }
         ensures each { (n : ℕ) → n < 13 → slice_index_or result n None ≡ (if is_in places n then Some order else None) }
@@ -47,7 +48,7 @@ impl OrdersByNumber {
         }
     }
 
-    /// Returns the order for a number, if there is one.
+    /// Returns the order for number `place`, or `None` if it has none.
     pub fn at(&self, place: u32) -> Option<u32>
         ensures { result ≡ slice_index_or self.now place None }
     {
@@ -58,7 +59,7 @@ impl OrdersByNumber {
         }
     }
 
-    /// Puts an order for a number, in place of an earlier one.
+    /// Puts an order for number `place` (0 to 12), in place of an earlier one.
     pub fn put(&mut self, place: u32, order: u32)
         requires { place < 13 }
         ensures { self.new ≡ slice_set self.old place (Some order) }
@@ -67,7 +68,7 @@ impl OrdersByNumber {
         self.put = with_bit(self.put, place);
     }
 
-    /// Returns a copy of the orders.
+    /// Returns a copy of the array.
     pub fn copy(&self) -> OrdersByNumber
         ensures { result ≡ self.now }
     {

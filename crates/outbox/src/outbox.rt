@@ -1,4 +1,4 @@
-//! The outbox: what a program's helper calls put or enter in a round, and how the result is read.
+//! Defines the outbox, into which a traitor's program puts orders by its calls, and from which they are read.
 ghost use Rattle.std.specs.Prelude.{◌≡◌, ◌<◌, ◌≤◌, ◌↔◌, ℕ, IfOk, IsNone, IsTrue, Some, None, [], map, length, slice_get, slice_index_or};
 ghost use Rattle.label.specs.Relay.{IsShape, receivers};
 ghost use Rattle.semantics.specs.Relay.{oral, signed, relayed};
@@ -20,13 +20,14 @@ use semantics::Entry;
 use std::alloc::{AllocError, Global};
 use std::marker::Model;
 
-/// The outbox of a general in a round. It holds, for each label that he relays, by rank, an order or nothing for each
-/// receiver. Where orders are signed, it holds the entries that he makes instead.
+/// The outbox of a general in a round. In an oral campaign it has a place for each label that he relays and each
+/// receiver of this label, with an order or nothing. In a signed campaign it has entries instead, each of which signs
+/// an order or passes on a chain.
 #[derive(Drop)]
 pub struct Outbox {
     shape: Shape,
     rows: Rows,
-    /// The chains held and the entries, where orders are signed. It is `None` where they are oral.
+    /// The chains that the general holds, and his entries, in a signed campaign. It is `None` in an oral campaign.
     signing: Option<Signing>,
 }
 
@@ -41,7 +42,7 @@ impl Model for Outbox {
 }
 
 impl Outbox {
-    /// Creates an empty outbox for oral messages. Orders that are put later need no further memory.
+    /// Returns an empty outbox for an oral campaign. Putting orders into it later allocates no memory.
     ///
     /// # Errors
     ///
@@ -59,9 +60,8 @@ impl Outbox {
         })
     }
 
-    /// Creates an empty outbox for a campaign with signed messages. `shape` is the general's relay. `held` has an entry
-    /// for each chain that the general holds, with bit g set if general g has signed the chain. The outbox has no
-    /// places for oral orders, and entering a signed order needs no further memory.
+    /// Returns an empty outbox for a signed campaign. For each chain that the general holds, `held` has the set of its
+    /// signers, in which bit g means general g. Making entries later allocates no memory.
     ///
     /// # Errors
     ///
@@ -79,8 +79,8 @@ impl Outbox {
         })
     }
 
-    /// Enters an order, signed by the general, for these receivers (bit g for general g). Returns whether it was
-    /// entered: orders must be signed, the general must be the commander, and there must be room for the entry.
+    /// Adds an entry that signs a new order and sends it to these receivers (bit g for general g). Returns false, and
+    /// adds nothing, if the campaign is oral, the general is not the commander, or there are 8 entries already.
     pub fn sign(&mut self, order: u32, receivers: u16) -> bool
         ensures relay { self.new.relay ≡ self.old.relay }
         ensures rows { self.new.rows ≡ self.old.rows }
@@ -90,8 +90,9 @@ impl Outbox {
         self.enter(Entry::Sign { order, receivers })
     }
 
-    /// Enters the chain held at this place, with the general's signature, for these receivers (bit g for general g).
-    /// Returns whether it was entered: there must be such a chain, which he has not signed, and room for the entry.
+    /// Adds an entry that signs the chain at index `held` of those that the general holds, and passes it on to these
+    /// receivers (bit g for general g). Returns false, and adds nothing, if there is no such chain, he has signed it
+    /// already, or there are 8 entries already.
     pub fn pass(&mut self, held: u16, receivers: u16) -> bool
         ensures relay { self.new.relay ≡ self.old.relay }
         ensures rows { self.new.rows ≡ self.old.rows }
@@ -101,8 +102,8 @@ impl Outbox {
         self.enter(Entry::Pass { held, receivers })
     }
 
-    /// Adds an entry if orders are signed, the general can send its chain, and there is room. Returns whether it was
-    /// added.
+    /// Adds an entry if the campaign is signed, the general may sign the entry's chain, and there are fewer than 8
+    /// entries. Returns whether it was added.
     fn enter(&mut self, entry: Entry) -> bool
         ensures relay { self.new.relay ≡ self.old.relay }
         ensures rows { self.new.rows ≡ self.old.rows }
@@ -116,7 +117,7 @@ impl Outbox {
         }
     }
 
-    /// Returns the entries in the order in which they were made. There are at most 8, and none if orders are oral.
+    /// Returns the entries, at most 8, in the order in which they were added. An oral campaign has none.
     pub fn entries(&self) -> &[Entry]
         ensures same { result.now ≡ self.now.entries }
         ensures few { length self.now.entries ≤ 8 }
@@ -127,8 +128,8 @@ impl Outbox {
         }
     }
 
-    /// Puts an order for a receiver of the label with this rank, in place of an earlier one. Returns whether there is
-    /// such a place.
+    /// Puts an order for a receiver of the label of this rank, in place of an earlier one. Returns false, and puts
+    /// nothing, if there is no such label or he is not its receiver.
     pub fn put(&mut self, rank: u32, receiver: u32, order: u32) -> bool
         ensures relay { self.new.relay ≡ self.old.relay }
         ensures entries { self.new.entries ≡ self.old.entries }
@@ -143,8 +144,9 @@ impl Outbox {
         self.rows.put(rank, receiver, order)
     }
 
-    /// Puts orders for the receivers of the label with this rank, in ascending order of receivers. Returns how many
-    /// were put, which is 0 if there is no such label. Surplus orders are ignored.
+    /// Puts the first order for the lowest receiver of the label of this rank, the second for the next one, and so on,
+    /// in place of earlier ones. Orders beyond the last receiver are ignored. Returns how many orders were put, which
+    /// is 0 if there is no such label.
     pub fn put_row(&mut self, rank: u32, orders: &[u32]) -> u32
         ensures relay { self.new.relay ≡ self.old.relay }
         ensures entries { self.new.entries ≡ self.old.entries }
@@ -158,7 +160,8 @@ impl Outbox {
         self.rows.fill(rank, orders)
     }
 
-    /// Puts one order for a receiver at every label that has him as a receiver. Returns how many orders were put.
+    /// Puts an order for this receiver at every label that has him as a receiver, in place of earlier ones. Returns how
+    /// many orders were put.
     pub fn sway(&mut self, receiver: u32, order: u32) -> u32
         ensures relay { self.new.relay ≡ self.old.relay }
         ensures entries { self.new.entries ≡ self.old.entries }
@@ -168,8 +171,8 @@ impl Outbox {
         self.rows.put_in_each(receiver, |_| order)
     }
 
-    /// Puts, at every label that has this receiver, the value that the general took for the label. Returns how many
-    /// orders were put.
+    /// Puts for this receiver, at every label that has him as a receiver, the order that the general took for the
+    /// label. The orders taken are in `context`, which has 4,096 bytes. Returns how many orders were put.
     pub fn honest(&mut self, context: &[u8], receiver: u32) -> u32
         requires { length context.now ≡ 4096 }
         ensures relay { self.new.relay ≡ self.old.relay }
@@ -181,7 +184,8 @@ impl Outbox {
             .put_in_each(receiver, |rank| taken_value(context, rank))
     }
 
-    /// Puts, at every label and for each of its receivers, the value that the general took for the label.
+    /// Puts for each receiver of every label the order that the general took for the label. The orders taken are in
+    /// `context`, which has 4,096 bytes.
     pub fn honest_to_all(&mut self, context: &[u8])
         requires { length context.now ≡ 4096 }
         ensures relay { self.new.relay ≡ self.old.relay }
@@ -195,8 +199,8 @@ impl Outbox {
         }
     }
 
-    /// Returns the order for a receiver of the label with this rank. Returns `None` if there is no such place, or no
-    /// order was put there.
+    /// Returns the order for a receiver of the label of this rank. Returns `None` if there is no such label, he is not
+    /// its receiver, or he has no order.
     pub fn get(&self, rank: u32, receiver: u32) -> Option<u32>
         ensures { result ≡ order_at self.now.relay self.now.rows rank receiver }
     {
@@ -207,7 +211,7 @@ impl Outbox {
         self.rows.at(rank).order(receiver)
     }
 
-    /// Returns the orders of the label with this rank, if there is such a label.
+    /// Returns the orders for the receivers of the label of this rank, or `None` if there is no such label.
     pub fn orders(&self, rank: u32) -> Option<Orders<'_>>
         ensures none { IsNone result ↔ (length self.now.rows ≤ rank) }
         ensures orders { (receiver : ℕ) →
@@ -220,8 +224,8 @@ impl Outbox {
         Some(self.rows.at(rank))
     }
 
-    /// Returns the number of labels relayed, each of which has a row. There are at most 11 * 10 * 9 = 990, for 13
-    /// generals in round 5.
+    /// Returns the number of labels that the general relays. It is at most 990, for 13 generals in round 5 (11 * 10 *
+    /// 9).
     pub fn labels(&self) -> u32
         ensures rows { result ≡ length self.now.rows }
         ensures relayed { result ≡ length (relayed self.now.relay) }
@@ -231,7 +235,7 @@ impl Outbox {
         self.rows.len() as u32
     }
 
-    /// Returns the receivers of the label with this rank, ascending.
+    /// Returns the receivers of the label of this rank, ascending. There must be such a label.
     pub fn receivers(&self, rank: u32) -> ArrayVec<u8, 13>
         requires { rank < length self.now.rows }
         ensures row { slice_get (map (receivers self.now.relay.shape) (relayed self.now.relay)) rank
@@ -241,8 +245,8 @@ impl Outbox {
         self.rows.at(rank as usize).receivers()
     }
 
-    /// Returns the order of each receiver of the label with this rank, in ascending order of receivers. Returns no
-    /// orders if there is no such label.
+    /// Returns the order for each receiver of the label of this rank, ascending by receiver. If there is no such label,
+    /// there are no receivers.
     pub fn told(&self, rank: u32) -> ReceiverOrders
         ensures orders { orders_told result ≡ slice_index_or self.now.rows rank [] }
         ensures few { length (orders_told result) ≤ 13 }
@@ -272,7 +276,8 @@ impl Outbox {
         })
     }
 
-    /// Checks whether two outboxes have the same relay, the same order at each place, and the same entries.
+    /// Returns whether two outboxes have the same labels and receivers, the same order for each of them, and the same
+    /// entries.
     pub fn same(&self, other: &Outbox) -> bool
         ensures { IsTrue result ↔ (self.now ≡ other.now) }
     {
@@ -281,7 +286,8 @@ impl Outbox {
             && self.rows.has_orders_of(&other.rows)
     }
 
-    /// Returns the shape of the relay: its general, the commander, the number of generals and the round.
+    /// Returns for which relay the outbox is: the relaying general, the commander, the number of generals and the
+    /// round.
     pub fn shape(&self) -> Shape
         ensures same { result ≡ self.now.relay.shape }
         ensures within { IsShape result }

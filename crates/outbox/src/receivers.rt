@@ -1,4 +1,4 @@
-//! The set of generals who receive the relay of a label.
+//! Defines the set of generals to whom a label is relayed.
 ghost use Rattle.std.specs.Prelude.{◌≡◌, ◌<◌, ◌≤◌, ◌∷◌, [], ℕ, true, IsTrue, length};
 ghost use Rattle.label.specs.Labels.{on, others, is_distinct};
 ghost use Rattle.label.specs.Oral.{AllBelow};
@@ -9,10 +9,10 @@ use crate::mask::{has_bit, with_bit, without_bit};
 use arrayvec::ArrayVec;
 use std::marker::Model;
 
-/// The receivers of a label: distinct generals with numbers below 13. Contracts see them as an ascending list.
+/// The receivers of a label: different generals with numbers below 13. Contracts see an ascending list.
 #[derive(Drop)]
 pub(crate) struct Receivers {
-    /// The set of receivers, a bit for each.
+    /// The set of receivers: bit g is set for general g.
     mask: u16,
 }
 
@@ -26,7 +26,7 @@ impl Model for Receivers {
 }
 
 impl Receivers {
-    /// Returns all generals except `first` and `second`, which may be the same.
+    /// Returns the generals below `generals` (at most 13) except `first` and `second`, which may be the same general.
     pub fn others(generals: u8, first: u8, second: u8) -> Receivers
         requires { generals ≤ 13 }
         ensures { result ≡ others generals (first ∷ second ∷ []) }
@@ -40,7 +40,7 @@ impl Receivers {
         Receivers { mask }
     }
 
-    /// Returns the receivers without this general.
+    /// Returns the set with this general removed.
     pub fn without(&self, general: u8) -> Receivers
         requires { general < 13 }
         ensures { result ≡ struck general self.now }
@@ -50,7 +50,7 @@ impl Receivers {
         }
     }
 
-    /// Checks whether the general is a receiver.
+    /// Returns whether this general is a receiver.
     pub fn has(&self, general: u32) -> bool
         ensures among { result ≡ on self.now general }
         ensures below { IsTrue result → general < 13 }
@@ -58,7 +58,7 @@ impl Receivers {
         general < 13 && has_bit(self.mask, general)
     }
 
-    /// Returns the receivers as a bit mask, bit g for general g.
+    /// Returns the set as a bit mask: bit g is set if general g is a receiver.
     pub fn mask(&self) -> u16
         ensures { (g : ℕ) → g < 13 → is_in result g ≡ on self.now g }
     {
@@ -87,7 +87,7 @@ impl Receivers {
         list
     }
 
-    /// Does nothing. Its contract says that there are at most 13 receivers, all distinct and below 13.
+    /// Does nothing. Its contract says that there are at most 13 receivers, all different and below 13.
     pub fn recall(&self)
         ensures few { length self.now ≤ 13 }
         ensures below { AllBelow 13 self.now }

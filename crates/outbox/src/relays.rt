@@ -1,4 +1,4 @@
-//! Builds the empty rows of an outbox, one for each label that the general relays.
+//! Makes the empty rows of an outbox, one for each label that the general relays.
 ghost use Rattle.std.specs.Prelude.{◌≡◌, ◌≢◌, ◌-◌, ◌∷◌, ◌++◌, [], map, IfOk};
 ghost use Rattle.label.specs.Labels.{labels, others};
 ghost use Rattle.label.specs.Relay.{IsShape, relay};
@@ -10,8 +10,8 @@ use crate::receivers::Receivers;
 use label::{Shape, Space, count};
 use std::alloc::{AllocError, Global};
 
-/// Builds the empty rows of the labels that the general relays, in the order of the labels' ranks. Fails with
-/// `AllocError` if memory runs out.
+/// Returns an empty row for each label that the general relays in the round, by rank. Fails with `AllocError` if it
+/// runs out of memory.
 pub(crate) fn rows_of(alloc: Global, shape: Shape) -> Result<Vec<UniformRow>, AllocError>
     requires { IsShape shape }
     ensures { IfOk result (λ rows. rows.items ≡ map (row_for shape) (relay shape)) }
@@ -26,8 +26,8 @@ pub(crate) fn rows_of(alloc: Global, shape: Shape) -> Result<Vec<UniformRow>, Al
     Ok(rows)
 }
 
-/// Builds the empty rows of a lieutenant. He relays the labels of the previous round that do not contain him. Fails
-/// with `AllocError` if memory runs out.
+/// Returns an empty row for each label that a lieutenant relays, by rank. These are the labels as long as the number of
+/// the previous round that do not have him. Fails with `AllocError` if it runs out of memory.
 fn lieutenant_rows(alloc: Global, shape: Shape) -> Result<Vec<UniformRow>, AllocError>
     requires shape { IsShape shape }
     requires lieutenant { shape.general ≢ shape.commander }
@@ -48,7 +48,7 @@ fn lieutenant_rows(alloc: Global, shape: Shape) -> Result<Vec<UniformRow>, Alloc
     Ok(rows)
 }
 
-/// Returns the receivers of a relay of the commander's label: all generals except the commander and the relaying one.
+/// Returns the receivers of the label that consists of the commander: all generals except him and the relaying general.
 fn hearing(shape: Shape) -> Receivers
     requires { IsShape shape }
     ensures { result ≡ others shape.generals (shape.commander ∷ shape.general ∷ []) }
@@ -60,8 +60,8 @@ fn hearing(shape: Shape) -> Receivers
     )
 }
 
-/// Appends the empty rows of the labels that extend a label by `more` generals. `hearing` are the label's receivers.
-/// Fails with `AllocError` if memory runs out.
+/// Appends an empty row for each label that extends some label by `more` generals, by rank. `hearing` are the receivers
+/// of the shorter label. Fails with `AllocError` if it runs out of memory.
 fn push_rows(rows: &mut Vec<UniformRow>, hearing: Receivers, more: u32) -> Result<(), AllocError>
     ensures { IfOk result (λ _. rows.new.items ≡ rows.old.items ++ rows_under more hearing) }
 {

@@ -1,4 +1,4 @@
-//! A label's row in which each receiver has his own order, or none.
+//! Defines the row of a label whose receivers may be sent different orders.
 ghost use Rattle.std.specs.Prelude.{◌≡◌, ◌≤◌, length, min};
 ghost use Rattle.label.specs.Labels.{on};
 ghost use Rattle.outbox.specs.Rows.{empty_row, orders_in, receivers_in, put_in_row, all_put, filled, order_in, row_of, IsRow};
@@ -8,11 +8,11 @@ use crate::receivers::Receivers;
 use arrayvec::ArrayVec;
 use std::marker::Model;
 
-/// A mixed row: the places of one label, whose receivers each have their own order, or none.
+/// A mixed row: the receivers of one label, and for each the order that he is sent, if any.
 #[derive(Drop)]
 pub struct MixedRow {
     receivers: Receivers,
-    /// The order of each receiver, by his number. Other numbers have none.
+    /// The order for each receiver, by his number. A general who is not a receiver has none.
     orders: OrdersByNumber,
 }
 
@@ -27,7 +27,7 @@ impl Model for MixedRow {
 }
 
 impl MixedRow {
-    /// Creates a row for these receivers in which no order is put.
+    /// Returns a row for these receivers, none of whom is sent an order yet.
     pub(crate) fn new(receivers: Receivers) -> MixedRow
         ensures { result ≡ empty_row receivers }
     {
@@ -38,7 +38,8 @@ impl MixedRow {
         }
     }
 
-    /// Puts an order for a receiver. Returns whether he is among the row's receivers. If not, nothing changes.
+    /// Puts an order for a receiver, in place of an earlier one. Returns false, and puts nothing, if he is not a
+    /// receiver of the row's label.
     pub(crate) fn put(&mut self, receiver: u32, order: u32) -> bool
         ensures row { self.new ≡ put_in_row receiver order self.old }
         ensures there { result ≡ on (receivers_in self.old) receiver }
@@ -50,15 +51,15 @@ impl MixedRow {
         there
     }
 
-    /// Puts one order for all receivers.
+    /// Puts this order for every receiver, in place of earlier ones.
     pub(crate) fn put_all(&mut self, order: u32)
         ensures { self.new ≡ all_put order self.old }
     {
         self.orders = OrdersByNumber::alike(order, self.receivers.mask());
     }
 
-    /// Puts orders for the receivers in ascending order, until the orders or the receivers run out. Returns how many
-    /// were put.
+    /// Puts the first order for the lowest receiver, the second for the next one, and so on, until there are no more
+    /// orders or receivers. Returns how many were put.
     pub(crate) fn fill(&mut self, orders: &[u32]) -> u32
         ensures row { self.new ≡ filled orders.now self.old }
         ensures count { result ≡ min (length self.old) (length orders.now) }
@@ -67,7 +68,7 @@ impl MixedRow {
         fill(self.receivers.list().as_slice(), &mut self.orders, orders)
     }
 
-    /// Returns the receiver's order, if there is one.
+    /// Returns the order for this receiver, or `None` if he has none or is not a receiver of the row's label.
     pub(crate) fn order(&self, receiver: u32) -> Option<u32>
         ensures { result ≡ order_in receiver self.now }
     {
@@ -81,7 +82,7 @@ impl MixedRow {
         self.receivers.list()
     }
 
-    /// Returns the order of each receiver, in ascending order of receivers.
+    /// Returns the order for each receiver, ascending by receiver. It is `None` for a receiver who has none.
     pub(crate) fn told(&self) -> ArrayVec<Option<u32>, 13>
         ensures orders { result.items ≡ orders_in self.now }
         ensures few { length result.items ≤ 13 }
@@ -100,7 +101,7 @@ impl MixedRow {
     }
 }
 
-/// Returns the orders of `receivers`, which `kept` stores by number.
+/// Returns the order for each of `receivers`, in their order. `kept` stores the orders by general.
 fn told(receivers: &[u8], kept: &OrdersByNumber) -> ArrayVec<Option<u32>, 13>
     requires few { length receivers.now ≤ 13 }
     ensures orders { result.items ≡ orders_in (row_of kept.now receivers.now) }
@@ -113,8 +114,8 @@ fn told(receivers: &[u8], kept: &OrdersByNumber) -> ArrayVec<Option<u32>, 13>
     told
 }
 
-/// Puts orders for `receivers` into `kept`, which stores them by number, until the orders or the receivers run out.
-/// Returns how many were put.
+/// Puts the first order for the first of `receivers`, the second for the next one, and so on, until there are no more
+/// orders or receivers. `kept` stores the orders by general. Returns how many were put.
 fn fill(receivers: &[u8], kept: &mut OrdersByNumber, orders: &[u32]) -> u32
     requires row { IsRow kept.old receivers.now }
     requires few { length receivers.now ≤ 13 }

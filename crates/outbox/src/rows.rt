@@ -1,4 +1,4 @@
-//! The rows of an outbox, one for each label: reading, copying and comparing them, and putting orders in them.
+//! Defines the rows of an outbox, one for each label: puts orders into them, and reads, copies and compares them.
 ghost use Rattle.std.specs.Prelude.{◌≡◌, ◌<◌, ◌≤◌, ◌↔◌, [], ℕ, IfOk, IsTrue, length, map, min, slice_index_or, slice_set, vec_capacity};
 ghost use Rattle.label.specs.Labels.{on};
 ghost use Rattle.outbox.specs.Orders.{orders_seen};
@@ -10,13 +10,14 @@ use crate::row::MixedRow;
 use std::alloc::{AllocError, Global};
 use std::marker::Model;
 
-/// The rows of an outbox, by rank. Each row takes 12 bytes until some receiver is sent an order of his own. The memory
-/// for separate orders is allocated at the start, and written only then.
+/// The rows of an outbox, by rank. At first all are uniform rows of 12 bytes, with one order for all receivers of a
+/// label. Once an order is put for a single receiver, all become mixed rows. The memory for these is allocated at the
+/// start.
 #[derive(Drop)]
 pub(crate) struct Rows {
-    /// The uniform rows. They are in use while `apart` is empty.
+    /// The uniform rows, which are used as long as `apart` is empty.
     alike: Vec<UniformRow>,
-    /// The mixed rows, once the rows are set apart.
+    /// The mixed rows. They are empty until an order is put for a single receiver.
     apart: Vec<MixedRow>,
 }
 
@@ -32,7 +33,7 @@ impl Model for Rows {
 }
 
 impl Rows {
-    /// Creates the rows of an outbox from uniform rows, with room to set them apart.
+    /// Returns rows that are at first these uniform rows. They can become mixed rows without allocating memory.
     ///
     /// # Errors
     ///
@@ -44,7 +45,7 @@ impl Rows {
         Ok(Rows { alike, apart })
     }
 
-    /// Creates the rows of an outbox without labels.
+    /// Returns the rows of an outbox that has no labels.
     pub fn none(alloc: Global) -> Rows
         ensures { result ≡ [] }
     {
@@ -65,7 +66,7 @@ impl Rows {
         }
     }
 
-    /// Returns the row with this rank.
+    /// Returns the orders in the row of this rank. There must be such a row.
     pub fn at(&self, rank: usize) -> Orders<'_>
         requires { rank < length self.now }
         ensures { orders_seen result ≡ slice_index_or self.now rank [] }
@@ -77,7 +78,8 @@ impl Rows {
         }
     }
 
-    /// Puts a receiver's order in the row with this rank. Returns whether he is among its receivers.
+    /// Puts an order for a receiver into the row of this rank. Returns false, and puts nothing, if he is not a receiver
+    /// of the row's label.
     pub fn put(&mut self, rank: usize, receiver: u32, order: u32) -> bool
         requires { rank < length self.old }
         ensures rows { self.new ≡ slice_set self.old rank
@@ -88,8 +90,8 @@ impl Rows {
         self.apart[rank].put(receiver, order)
     }
 
-    /// Puts orders for the receivers of the row with this rank, until the orders or the receivers run out. Returns how
-    /// many were put.
+    /// Puts the first order for the lowest receiver in the row of this rank, the second for the next one, and so on,
+    /// until there are no more orders or receivers. Returns how many were put.
     pub fn fill(&mut self, rank: usize, orders: &[u32]) -> u32
         requires { rank < length self.old }
         ensures rows { self.new ≡ slice_set self.old rank (filled orders.now (slice_index_or self.old rank [])) }
@@ -99,7 +101,7 @@ impl Rows {
         self.apart[rank].fill(orders)
     }
 
-    /// Puts one order for all receivers of the row with this rank.
+    /// Puts one order for every receiver in the row of this rank.
     pub fn put_all(&mut self, rank: usize, order: u32)
         requires { rank < length self.old }
         ensures { self.new ≡ slice_set self.old rank (all_put order (slice_index_or self.old rank [])) }
@@ -111,8 +113,8 @@ impl Rows {
         }
     }
 
-    /// Puts an order for a receiver in each row that has him, where `order` maps a row's rank to the order. Returns how
-    /// many were put.
+    /// Puts an order for this receiver into each row that has him as a receiver. `order` returns the order for a row's
+    /// rank. Returns how many orders were put.
     pub fn put_in_each<F: Fn(usize) -> u32>(&mut self, receiver: u32, order: F) -> u32
         requires few { length self.old ≤ 990 }
         requires callable { (rank : ℕ) → rank < length self.old → F.pre order rank }
@@ -142,7 +144,7 @@ impl Rows {
         })
     }
 
-    /// Checks whether two outboxes have the same orders at every place.
+    /// Returns whether two outboxes have rows with the same orders, one by one.
     pub fn has_orders_of(&self, others: &Rows) -> bool
         ensures { IsTrue result ↔ (map orders_in self.now ≡ map orders_in others.now) }
     {
@@ -160,7 +162,8 @@ impl Rows {
     }
 }
 
-/// Sets the rows apart, unless they already are. There must be room for them.
+/// Fills `apart` with mixed rows that have the same orders as the uniform rows `alike`. If `apart` already has rows, it
+/// does nothing. There must be room for the mixed rows.
 fn set_apart(alike: &[UniformRow], apart: &mut Vec<MixedRow>)
     requires room { length apart.old.items ≡ 0 → length alike.now ≤ vec_capacity apart.old }
     ensures rows { apart.new.items ≡ rows_seen alike.now apart.old.items }
@@ -174,7 +177,7 @@ fn set_apart(alike: &[UniformRow], apart: &mut Vec<MixedRow>)
     }
 }
 
-/// Copies uniform rows. Fails with `AllocError` if memory runs out.
+/// Returns a copy of uniform rows. Fails with `AllocError` if it runs out of memory.
 fn copied_alike(alloc: Global, rows: &[UniformRow]) -> Result<Vec<UniformRow>, AllocError>
     ensures { IfOk result (λ copy. copy.items ≡ rows.now) }
 {
@@ -185,7 +188,7 @@ fn copied_alike(alloc: Global, rows: &[UniformRow]) -> Result<Vec<UniformRow>, A
     Ok(copy)
 }
 
-/// Copies mixed rows. Fails with `AllocError` if memory runs out.
+/// Returns a copy of mixed rows. Fails with `AllocError` if it runs out of memory.
 fn copied(alloc: Global, rows: &[MixedRow]) -> Result<Vec<MixedRow>, AllocError>
     ensures { IfOk result (λ copy. copy.items ≡ rows.now) }
 {
@@ -196,7 +199,7 @@ fn copied(alloc: Global, rows: &[MixedRow]) -> Result<Vec<MixedRow>, AllocError>
     Ok(copy)
 }
 
-/// Checks whether two lists of orders are equal.
+/// Returns whether two lists of orders are equal.
 fn are_same(told: &[Option<u32>], others: &[Option<u32>]) -> bool
     ensures { IsTrue result ↔ (told.now ≡ others.now) }
 {
@@ -211,8 +214,8 @@ fn are_same(told: &[Option<u32>], others: &[Option<u32>]) -> bool
     true
 }
 
-/// Puts an order for a receiver in each row that has him, where `order` maps a row's rank to the order. Returns how
-/// many were put.
+/// Puts an order for this receiver into each of these rows that has him as a receiver. `order` returns the order for a
+/// row's rank. Returns how many orders were put.
 fn put_in_each<F: Fn(usize) -> u32>(labels: &mut [MixedRow], receiver: u32, order: F) -> u32
     requires few { length labels.old ≤ 990 }
     requires callable { (rank : ℕ) → rank < length labels.old → F.pre order rank }

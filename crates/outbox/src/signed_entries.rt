@@ -1,4 +1,5 @@
-//! The entries of an outbox for signed messages: which ones are allowed, and how they are copied and compared.
+//! Defines the entries of an outbox in a signed campaign. An entry signs a new order, or passes on a chain that the
+//! general holds.
 ghost use Rattle.std.specs.Prelude.{◌≡◌, ◌≤◌, ◌↔◌, [], length, IfOk, IsTrue};
 ghost use Rattle.label.specs.Relay.{IsShape};
 ghost use Rattle.semantics.specs.Relay.{signed};
@@ -11,10 +12,11 @@ use semantics::Entry;
 use std::alloc::{AllocError, Global};
 use std::marker::Model;
 
-/// The state of an outbox for signed messages: the chains that the general holds, and at most 8 entries of the round.
+/// The contents of an outbox in a signed campaign: the signers of each chain that the general holds, and his entries of
+/// the round, at most 8.
 #[derive(Drop)]
 pub(crate) struct Signing {
-    /// The signers of each chain that the general holds: bit g is set if general g has signed.
+    /// The set of the signers of each chain that the general holds. Bit g is set if general g has signed.
     held: Vec<u16>,
     entries: ArrayVec<Entry, 8>,
 }
@@ -28,8 +30,8 @@ impl Model for Signing {
 }
 
 impl Signing {
-    /// Creates the state without entries, for a general who holds chains with these signers. Fails with `AllocError` if
-    /// memory runs out.
+    /// Returns the contents without entries, for a general who holds chains with these signers. Fails with `AllocError`
+    /// if it runs out of memory.
     pub fn new(alloc: Global, held: &[u16]) -> Result<Signing, AllocError>
         ensures { IfOk result (λ signing. signing ≡ record { held = held.now; entries = [] }) }
     {
@@ -39,7 +41,7 @@ impl Signing {
         })
     }
 
-    /// Returns the entries in the order in which they were made.
+    /// Returns the entries in the order in which they were added.
     pub fn entries(&self) -> &[Entry]
         ensures same { result.now ≡ self.now.entries }
         ensures few { length self.now.entries ≤ 8 }
@@ -47,7 +49,8 @@ impl Signing {
         self.entries.as_slice()
     }
 
-    /// Adds an entry if the general can send its chain and there is room. Returns whether it was added.
+    /// Adds an entry if the general may sign its chain and there are fewer than 8 entries. Returns whether it was
+    /// added.
     pub fn enter(&mut self, shape: Shape, entry: Entry) -> bool
         requires { IsShape shape }
         ensures held { self.new.held ≡ self.old.held }
@@ -61,8 +64,8 @@ impl Signing {
         true
     }
 
-    /// Checks whether the general can send the entry's chain. Only the commander signs orders. Any general who holds a
-    /// chain that he has not signed can pass it on.
+    /// Returns whether the general may sign the entry's chain. Only the commander may sign a new order. Any general may
+    /// sign a chain that he holds and has not signed yet.
     fn may_send(&self, shape: Shape, entry: Entry) -> bool
         requires { IsShape shape }
         ensures { result ≡ is_sendable (signed shape self.now.held) entry }
@@ -76,7 +79,7 @@ impl Signing {
         }
     }
 
-    /// Returns a copy of the state. Fails with `AllocError` if memory runs out.
+    /// Returns a copy. Fails with `AllocError` if it runs out of memory.
     fn copy(&self, alloc: Global) -> Result<Signing, AllocError>
         ensures { IfOk result (λ signing. signing ≡ self.now) }
     {
@@ -86,7 +89,7 @@ impl Signing {
         })
     }
 
-    /// Checks whether two states have the same signers of each chain and the same entries.
+    /// Returns whether both have the same signers of each chain and the same entries.
     fn same(&self, other: &Signing) -> bool
         ensures { IsTrue result ↔ (self.now ≡ other.now) }
     {
@@ -95,7 +98,7 @@ impl Signing {
     }
 }
 
-/// Returns a copy of the state, if there is one. Fails with `AllocError` if memory runs out.
+/// Returns a copy of the contents, or `None` if there are none. Fails with `AllocError` if it runs out of memory.
 pub(crate) fn copied_signing(
     alloc: Global,
     signing: &Option<Signing>,
@@ -108,7 +111,7 @@ pub(crate) fn copied_signing(
     }
 }
 
-/// Checks whether both states are absent, or both are there and equal.
+/// Returns whether both are `None`, or both have the same signers of each chain and the same entries.
 pub(crate) fn same_signing(one: &Option<Signing>, other: &Option<Signing>) -> bool
     ensures { IsTrue result ↔ (one.now ≡ other.now) }
 {
@@ -119,14 +122,14 @@ pub(crate) fn same_signing(one: &Option<Signing>, other: &Option<Signing>) -> bo
     }
 }
 
-/// Checks whether two lists of signers are equal.
+/// Returns whether two lists of signer sets are equal.
 fn same_signers(signers: &[u16], others: &[u16]) -> bool
     ensures { IsTrue result ↔ (signers.now ≡ others.now) }
 {
     signers == others
 }
 
-/// Checks whether two lists of entries are equal.
+/// Returns whether two lists of entries are equal.
 fn same_entries(entries: &[Entry], others: &[Entry]) -> bool
     ensures { IsTrue result ↔ (entries.now ≡ others.now) }
 {
@@ -141,7 +144,7 @@ fn same_entries(entries: &[Entry], others: &[Entry]) -> bool
     true
 }
 
-/// Checks whether two entries are equal.
+/// Returns whether two entries are equal.
 fn same_entry(entry: Entry, other: Entry) -> bool
     ensures { IsTrue result ↔ (entry ≡ other) }
 {
@@ -164,7 +167,7 @@ fn same_entry(entry: Entry, other: Entry) -> bool
     }
 }
 
-/// Returns a copy of the list of signers. Fails with `AllocError` if memory runs out.
+/// Returns a copy of a list of signer sets. Fails with `AllocError` if it runs out of memory.
 fn copied_signers(alloc: Global, signers: &[u16]) -> Result<Vec<u16>, AllocError>
     ensures { IfOk result (λ copy. copy.items ≡ signers.now) }
 {
@@ -175,7 +178,7 @@ fn copied_signers(alloc: Global, signers: &[u16]) -> Result<Vec<u16>, AllocError
     Ok(copy)
 }
 
-/// Returns a copy of the list of entries.
+/// Returns a copy of a list of at most 8 entries.
 fn copied_entries(entries: &[Entry]) -> ArrayVec<Entry, 8>
     requires { length entries.now ≤ 8 }
     ensures { result.items ≡ entries.now }

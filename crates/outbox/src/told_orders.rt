@@ -1,11 +1,11 @@
-//! The orders that a label's receivers were sent, stored as one order where it is the same for all.
+//! Defines the orders for a label's receivers. If all have the same one, it is stored once.
 use arrayvec::ArrayVec;
 
-/// The orders that the receivers of a label were sent, in ascending order of receivers.
+/// The order for each receiver of a label, ascending by receiver.
 #[derive(Drop)]
 pub enum ReceiverOrders {
-    /// The `times` receivers were all sent one order, or all nothing.
+    /// There are `times` receivers, and all have this order, or none has an order.
     Alike { order: Option<u32>, times: u32 },
-    /// Each receiver was sent his own order, or nothing.
+    /// Each receiver has his own order or none.
     Apart(ArrayVec<Option<u32>, 13>),
 }

@@ -1,4 +1,4 @@
--- A run with its accesses is the run of their replies.
+-- A run with its accesses is the run with their replies.
 use Rattle.std.proofs.Common.{◌≡◌, ℕ, zero, suc, ◌+◌, ◌-◌, List, [], ◌∷◌, ◌++◌, length, map, Bool, true, false, refl, sym, ap, subst, ◌∙◌, None, arith, append-nil, append_assoc}
 use Rattle.std.specs.Prelude.{◌||◌}
 use Rattle.insn.specs.declared.insn.Insn.{Insn}
@@ -19,7 +19,7 @@ use Rattle.round.specs.Laws.{RunsFollowAnswers}
 use Rattle.round.proofs.Stepping.{runs_steps}
 use Rattle.round.proofs.Going.{over_ended}
 
--- what has exited goes no further
+-- An activation that has exited stays so.
 stays_over : (k : ℕ) (a : Activation) (t : List Access) (end : Activation) → a.over ≡ true → Runs k a t end → end.over ≡ true
 stays_over zero a t end over h = ap (λ (b : Activation). b.over) (sym h.1) ∙ over
 stays_over (suc k) a t end over h = absurd (let A : Turn → Type 0 = λ o. Onward (Runs k) o t end in subst A (over_ended a (ap (λ (b : Bool). b || is_reached a.patience a.state.steps) over)) h)

@@ -1,4 +1,4 @@
--- An activation that has not taken a step may be told anything.
+-- The context of an activation that has not taken a step may be replaced.
 use Rattle.std.proofs.Common.{◌≡◌, List, [], ℕ, false, ap, sym, subst, ◌∙◌}
 use Rattle.semantics.specs.Outbox.{empty_outbox}
 use Rattle.semantics.specs.Reached.{Reached, at_entry}

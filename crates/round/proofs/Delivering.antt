@@ -1,4 +1,4 @@
--- The letters of one round fill one level.
+-- The letters of one round fill one level of a tree.
 use Rattle.std.proofs.Common.{◌≡◌, ◌≢◌, ℕ, zero, suc, ◌+◌, ◌<◌, ◌≤◌, List, [], ◌∷◌, length, drop, get_or, map, true, false, refl, sym, ap, subst, ◌∙◌, Some, Option, arith, ⊎_elim}
 use Rattle.std.specs.Prelude.{slice_get, ◌==◌}
 use Rattle.std.proofs.lemmas.Bool.{eq-eqb, ne_eqb}
@@ -25,7 +25,7 @@ levels-same n c p M N k zero h = refl
 levels-same n c p M N k (suc l) h =
     (λ i. same_map (λ w. M w p) (λ w. N w p) (labels n c p k) (λ j w at. h k j w (omega arith) at) i ∷ levels-same n c p M N (suc k) l (λ j m w le at. h j m w (omega arith) at) i)
 
--- the labels of that round
+-- The labels of that round.
 pub heard_here : (M : Messages) (row : List Letter) (w : List ℕ) (p : ℕ) → length w ≡ round_of row → heard_also M row w p ≡ told_now row w p
 unfolding heard_also
 heard_here M row w p e = rw (eq-eqb (length w) (round_of row) e) refl
@@ -34,7 +34,7 @@ pub heard_other : (M : Messages) (row : List Letter) (w : List ℕ) (p : ℕ) �
 unfolding heard_also
 heard_other M row w p ne = rw (ne_eqb (length w) (round_of row) ne) refl
 
--- without letters nothing is told
+-- Without letters nothing is entered.
 pub none_heard : (t : LieutenantTree) (row : List Letter) (M : Messages) → IsCampaign t → row ≡ [] → IsFilled t M → IsFilled t (heard_also M row)
 none_heard t row M c none filled =
     filled ∙ levels-same t.generals t.commander t.general M (heard_also M row) 1 (t.bound + 1) (λ j i w le at.
@@ -42,11 +42,11 @@ none_heard t row M c none filled =
     let zero_round : round_of row ≡ 0 = ap round_of none in
     sym (heard_other M row w t.general (λ e. absurd (omega arith))))
 
--- nothing is told yet
+-- Nothing is entered yet.
 pub told_none : (t : LieutenantTree) (row : List Letter) (k i : ℕ) → FillsFromTo t row k i i t
 told_none t row k i = record { same = record { generals = refl; bound = refl; commander = refl; general = refl }; partly = λ M p. p }
 
--- one after another
+-- Orders are entered one after another.
 pub told_on : (t : LieutenantTree) (row : List Letter) (k i j l : ℕ) (u v : LieutenantTree) → FillsFromTo t row k i j u → FillsFromTo u row k j l v → FillsFromTo t row k i l v
 told_on t row k i j l u v h g = record {
   same = record { generals = g.same.generals ∙ h.same.generals; bound = g.same.bound ∙ h.same.bound; commander = g.same.commander ∙ h.same.commander; general = g.same.general ∙ h.same.general };
@@ -56,7 +56,7 @@ told_on t row k i j l u v h g = record {
       (subst (λ (q : ℕ). IsPartly M row u.generals u.commander q k j u → IsPartly M row u.generals u.commander q k l v) h.same.general (g.partly M))) (h.partly M p);
 }
 
--- the values tell N: M, but at the labels of a length whose rank is below i what the letters tell of them
+-- States that `N` is `M` except at labels of length `k` and rank below `i`, where it has the orders of the letters.
 pub record IsToldUpTo (M : Messages) (row : List Letter) (n c p k i : ℕ) (N : Messages) : Type 0 where
   pub others : (w : List ℕ) → (length w ≡ k → ⊥) → N w p ≡ M w p
   pub done : (j : ℕ) (w : List ℕ) → j < i → slice_get (labels n c p k) j ≡ Some w → N w p ≡ told_now row w p
@@ -77,7 +77,7 @@ told_next M N row n c p k i w value inside within ne t at is =
           (eqb_tells j i);
     }
 
--- one label
+-- One label is entered.
 pub told_one : (t : LieutenantTree) (row : List Letter) (k i : ℕ) (v : LieutenantTree) (w : List ℕ) (value : Option ℕ) → IsCampaign t → SameCampaign t v →
     slice_get (labels t.generals t.commander t.general k) i ≡ Some w → value ≡ told_now row w t.general →
     ((M : Messages) (x : List ℕ) → IsFilled t M → slice_get (labels t.generals t.commander t.general k) i ≡ Some x → IsFilled v (told_also M x value)) → FillsFromTo t row k i (suc i) v
@@ -88,7 +88,7 @@ told_one t row k i v w value c same at is fill = record {
       record { N = told_also p.N w value; filled = fill p.N w p.filled at; others = next.others; done = next.done };
 }
 
--- a run of labels
+-- A run of labels is entered.
 told_run_up_to : (M N : Messages) (row : List Letter) (n c p k i : ℕ) (vs : List (Option ℕ)) → c < n → p < n → p ≢ c → IsToldUpTo M row n c p k i N →
     ((j : ℕ) (v : Option ℕ) (w : List ℕ) → slice_get vs j ≡ Some v → slice_get (labels n c p k) (i + j) ≡ Some w → v ≡ told_now row w p) → i + length vs ≤ length (labels n c p k) →
     IsToldUpTo M row n c p k (i + length vs) (told_run N (drop i (labels n c p k)) vs)
@@ -128,7 +128,7 @@ each_same t row k i u M c ek all p j m w le at =
     p.others w (λ e. q.1 (sym long ∙ e)) ∙ sym (heard_other M row w t.general (λ e. q.1 (sym long ∙ (e ∙ sym ek)))))
     (eqb_tells j k)
 
--- all labels of the length
+-- All labels of the length are entered.
 pub told_all : (t : LieutenantTree) (row : List Letter) (k i : ℕ) (u : LieutenantTree) → IsCampaign t → k ≡ round_of row → FillsFromTo t row k 0 i u → length (labels t.generals t.commander t.general k) ≤ i → (M : Messages) → IsFilled t M → IsFilled u (heard_also M row)
 told_all t row k i u c ek h all M filled =
     let p = h.partly M (record { N = M; filled = filled; others = λ w ne. refl; done = λ j w lt at. absurd (omega arith) }) in

@@ -1,4 +1,4 @@
--- From a label to its children, and from the commander's label to all of a length.
+-- From a label to the labels that extend it by one general, and from the commander's label to all labels of a length.
 use Rattle.std.proofs.Common.{◌≡◌, ◌≢◌, ℕ, suc, ◌+◌, ◌-◌, ◌*◌, ◌<◌, List, [], ◌∷◌, ◌++◌, length, false, refl, sym, ap, ◌∙◌, arith}
 use Rattle.std.specs.Prelude.{slice_index, ◌==◌}
 use Rattle.std.proofs.lemmas.Bool.{eq-eqb, ne_eqb, or_parts, true≢false}
@@ -20,7 +20,7 @@ use Rattle.round.proofs.Walking.{child_at, child_long, told_ends, level_long}
 apart-from : (p x : ℕ) (w : List ℕ) → on (p ∷ w) x ≡ false → p ≢ x
 apart-from p x w away = λ e. true≢false (sym (eq-eqb p x e) ∙ (or_parts (p == x) (on w x) away).0)
 
--- the child's part
+-- The ranks of the labels that begin with the extended label.
 child_rank_is : (t : LieutenantTree) (row : List Letter) (places : List ℕ) (k : ℕ) (f : LabelPrefix) (walk : IsWalk t row places k f) → IsCampaign t → (x place : ℕ) → x < t.generals → on (t.general ∷ walk.w) x ≡ false → place ≡ length (others x (t.general ∷ walk.w)) → (g : LabelPrefix) → IsFront t.generals t.commander (walk.w ++ x ∷ []) g →
     slice_index g.ranks t.general ≡ slice_index f.ranks t.general * (t.generals - (f.size + 1)) + place
 child_rank_is t row places k f walk c x place within away ep g child =

@@ -1,4 +1,4 @@
--- What is done to the trees of all lieutenants, one after another.
+-- The trees of all lieutenants are changed, one after another.
 use Rattle.std.proofs.Common.{◌≡◌, ◌≢◌, ℕ, zero, suc, ◌+◌, ◌<◌, ◌≤◌, List, [], ◌∷◌, length, get_or, set, true, false, refl, sym, ap, ◌∙◌, Some, arith, ⊎_elim}
 use Rattle.std.specs.Prelude.{slice_get, ◌==◌}
 use Rattle.std.proofs.lemmas.Bool.Decides.{eqb_tells}
@@ -8,7 +8,7 @@ use Rattle.tree.specs.LieutenantTree.{LieutenantTree, IsFilled, SameCampaign}
 use Rattle.round.specs.Delivery.{AreEach}
 use Rattle.round.proofs.Lists.{some_same, get_set, get_unset}
 
--- so many trees are as they are to be, the others as they were
+-- States that the first `i` trees are changed as required, and the others are as before.
 pub record AreDone (Are : LieutenantTree → LieutenantTree → Type 0) (old : List LieutenantTree) (i : ℕ) (trees : List LieutenantTree) : Type 0 where
   pub count : length trees ≡ length old
   pub done : (j : ℕ) (t u : LieutenantTree) → j < i → slice_get old j ≡ Some t → slice_get trees j ≡ Some u → Are t u
@@ -19,7 +19,7 @@ set_length [] i x = refl
 set_length (y ∷ xs) zero x = refl
 set_length (y ∷ xs) (suc i) x = ap suc (set_length xs i x)
 
--- one tree more, which is changed or is not
+-- One more tree is changed, or stays as it is.
 pub done_next : (Are : LieutenantTree → LieutenantTree → Type 0) (old : List LieutenantTree) (i : ℕ) (trees : List LieutenantTree) (t u : LieutenantTree) → AreDone Are old i trees → i < length trees → t ≡ get_or trees i t → Are t u → AreDone Are old (i + 1) (set trees i u)
 done_next Are old i trees t u h lt at is =
     let here : slice_get trees i ≡ Some t = slice_get_read trees (length trees) i t refl lt at in
@@ -51,15 +51,15 @@ done_same Are old i trees t h lt at is =
       rest = λ j le. h.rest j (omega arith);
     }
 
--- all of them
+-- All trees are changed.
 pub done_all : (Are : LieutenantTree → LieutenantTree → Type 0) (old : List LieutenantTree) (i : ℕ) (trees : List LieutenantTree) → AreDone Are old i trees → length trees ≤ i → AreEach Are old trees
 done_all Are old i trees h all = record { count = h.count; each = λ j t u was now. h.done j t u (let l = slice_get_within trees j u now in omega arith) was now }
 
--- a tree that is not done yet
+-- A tree that is not changed yet.
 pub not_done : (Are : LieutenantTree → LieutenantTree → Type 0) (old : List LieutenantTree) (i : ℕ) (trees : List LieutenantTree) (t : LieutenantTree) → AreDone Are old i trees → i < length trees → t ≡ get_or trees i t → slice_get old i ≡ Some t
 not_done Are old i trees t h lt at = sym (h.rest i (omega arith)) ∙ slice_get_read trees (length trees) i t refl lt at
 
--- each tree's values are changed so
+-- States that the messages of each of the first trees are changed by this function.
 abbrev pub AreChangedTo : List LieutenantTree → (Messages → Messages) → ℕ → List LieutenantTree → Type 0
 AreChangedTo old change i trees = AreDone (λ t u. SameCampaign t u × ((M : Messages) → IsFilled t M → IsFilled u (change M))) old i trees
 

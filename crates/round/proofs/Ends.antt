@@ -1,4 +1,4 @@
--- Where runs of a program end.
+-- Where the runs of a program end.
 use Rattle.std.proofs.Common.{◌≡◌, ℕ, zero, suc, ◌+◌, ◌≤◌, List, [], ◌∷◌, length, true, refl, sym, ap, subst, ◌∙◌, Option, None, arith}
 use Rattle.insn.specs.declared.insn.Insn.{Insn}
 use Rattle.semantics.specs.Relay.{Relay, IsRelay, IsContext}
@@ -15,7 +15,7 @@ use Rattle.round.proofs.Stepping.{runs_steps}
 use Rattle.round.proofs.Patience.{runs_under, runs_kept, within_none}
 use Rattle.round.proofs.Going.{IsGoing, TurnsTo, turn_safe, going_zero, over_ended}
 
--- one after the other, with the same accesses
+-- Two runs with the same accesses end in the same state.
 one_end : (o : Turn) (k : ℕ) (t : List Access) (u v : Activation)
     → ((a : Activation) (t' : List Access) → Runs k a t' u → Runs k a t' v → u ≡ v)
     → Onward (Runs k) o t u → Onward (Runs k) o t v → u ≡ v
@@ -28,7 +28,7 @@ pub same_end : (k : ℕ) (a : Activation) (t : List Access) (u v : Activation) �
 same_end zero a t u v h h' = sym h.1 ∙ h'.1
 same_end (suc k) a t u v h h' = one_end (turn a) k t u v (λ b t' r r'. same_end k b t' u v r r') h h'
 
--- from the start
+-- The same for runs from the start of the program.
 pub steps_taken : (p : Option ℕ) (program : List Insn) (context : List ℕ) (relay : Relay) (k : ℕ) (t : List Access) (end : Activation) → Runs k (started p program context relay) t end → end.state.steps ≡ k
 steps_taken p program context relay k t end h = (let e : end.state.steps ≡ 0 + k = runs_steps k (started p program context relay) t end h in omega arith)
 
@@ -44,7 +44,7 @@ proved_patience_is_kept = record {
       runs_under p k (started None program context relay) t end (subst A (sym (steps_taken None program context relay k t end h)) within) h);
 }
 
--- from what is safe for so many steps a run takes no more, and stands before no trap
+-- States that a run from an activation that is safe for `n` steps takes at most `n`, and its next step is no trap.
 pub record Left (n k : ℕ) (end : Activation) : Type 0 where
   pub fewer : k ≤ n
   pub left : ℕ

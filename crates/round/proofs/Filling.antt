@@ -1,4 +1,4 @@
--- The trees of all lieutenants, round by round.
+-- The trees of all lieutenants are filled round by round.
 use Rattle.std.proofs.Common.{◌≡◌, ◌≢◌, ℕ, zero, suc, ◌+◌, ◌-◌, ◌<◌, ◌≤◌, List, [], ◌∷◌, ◌++◌, length, take, get_or, Bool, true, false, refl, sym, ap, subst, ◌∙◌, Some, None, arith, ⊎_elim, ◌⊎◌, inl, inr, length-append}
 use Rattle.std.specs.Prelude.{slice_get, slice_index, ◌==◌, nat_lt, if◌then◌else◌}
 use Rattle.std.proofs.lemmas.Bool.{ltb-true, ltb-false}
@@ -36,12 +36,12 @@ unfolding messages
 messages-past before row w p some ne =
     ap (λ ls. told_by (letter_of ls (slice_index w (length w - 1))) (take (length w - 1) w) p) (get-other before row [] (length w - 1) (λ e. ne (omega arith)))
 
--- of a round that is not closed there is no message
+-- Of a round that is not closed there is no message.
 pub messages-none : (before : List (List Letter)) (w : List ℕ) (p : ℕ) → length before ≤ length w - 1 → messages before w p ≡ None
 unfolding messages
 messages-none before w p le = ap (λ ls. told_by (letter_of ls (slice_index w (length w - 1))) (take (length w - 1) w) p) (get_or_past before (length w - 1) [] le)
 
--- one round more
+-- One more round is delivered.
 heard_more : (before : List (List Letter)) (row : List Letter) (w : List ℕ) (p : ℕ) → 0 < length w → ((i : ℕ) (l : Letter) → slice_get row i ≡ Some l → l.round ≡ suc (length before)) → heard_also (messages before) row w p ≡ messages (before ++ row ∷ []) w p
 heard_more before [] w p some due = ⊎_elim
     (λ (q : (length w == suc (length before) ≡ true) × (length w ≡ suc (length before))).
@@ -58,7 +58,7 @@ heard_more before (l ∷ row) w p some due =
     heard_other (messages before) (l ∷ row) w p (λ e. q.1 (e ∙ round)) ∙ sym (messages-past before (l ∷ row) w p some q.1))
     (eqb_tells (length w) (suc (length before)))
 
--- one tree
+-- One tree after this round.
 tree_more : (s : Scenario) (before : List (List Letter)) (row : List Letter) (g : ℕ) (t u : LieutenantTree) → IsScenario s → IsTreeOf s before g t → AreLettersOf s (suc (length before)) row → SameCampaign t u → ((M : Messages) → IsFilled t M → IsFilled u (heard_also M row)) →
     IsTreeOf s (before ++ row ∷ []) g u
 tree_more s before row g t u is h due same fill = record {
@@ -80,7 +80,7 @@ round_is : (s : Scenario) (rounds : ℕ) (row : List Letter) → AreLettersOf s 
 round_is s rounds [] due i l at = cc
 round_is s rounds (x ∷ row) due i l at = (due 0 x refl).0
 
--- what a tree is due
+-- The letters of the round may be entered into a tree.
 pub tree_due : (s : Scenario) (before : List (List Letter)) (row : List Letter) (g rounds : ℕ) (t : LieutenantTree) → IsTreeOf s before g t → AreLettersOf s (suc rounds) row → rounds ≤ s.bound → AreDue t row
 tree_due s before row g rounds t h due left = record {
   round = at_most row due;
@@ -92,7 +92,7 @@ tree_due s before row g rounds t h due left = record {
     at_most [] due = omega arith
     at_most (x ∷ row) due = (let e = (due 0 x refl).0 in let b = h.bound in omega arith)
 
--- the letters
+-- The letters are of one round of the campaign.
 pub letters_due : (s : Scenario) (rounds : ℕ) (row : List Letter) → AreLettersOf s (suc rounds) row → AreOfCampaign s.generals s.commander row
 letters_due s rounds row due = λ i l at. (due i l at).1 ∙ (λ j. record { generals = s.generals; commander = s.commander; general = l.general; round = sym (round_is s rounds row due i l at) j })
 
@@ -111,7 +111,7 @@ told_more s before row h trees is told due filled =
           tree_more s before row (lieutenant_at s.commander j) (get_or h.trees j u) u is (told.trees j (get_or h.trees j u) was) due' both.same both.filled;
     }
 
--- nothing is told
+-- Before the first round there are no messages.
 none_said : (w : List ℕ) (p : ℕ) → silence w p ≡ messages [] w p
 none_said w p = sym (messages-none [] w p (omega arith))
 
@@ -126,7 +126,7 @@ tree_new s g t eg eb ec ep within ne filled = record {
   filled = filled ∙ levels-same t.generals t.commander t.general silence (messages []) 1 (t.bound + 1) (λ j i w le at. none_said w t.general);
 }
 
--- the trees of so many lieutenants, of which nothing is told
+-- States that these are the empty trees of the first `i` lieutenants.
 pub record AreSilent (s : Scenario) (i : ℕ) (all : List LieutenantTree) : Type 0 where
   pub count : length all ≡ i
   pub trees : (j : ℕ) (t : LieutenantTree) → slice_get all j ≡ Some t → IsTreeOf s [] (lieutenant_at s.commander j) t
@@ -153,7 +153,7 @@ silent_more s i g trees t h eg new = record {
 pub told_none : (s : Scenario) (i : ℕ) (trees : List LieutenantTree) → AreSilent s i trees → i + 1 ≡ s.generals → WasTold s [] (record { rounds = 0; trees = trees })
 told_none s i trees h e = record { rounds = refl; count = (let c = h.count in omega arith); trees = h.trees }
 
--- a lieutenant under a commander
+-- A lieutenant is not the commander.
 pub lieutenant_other : (c i : ℕ) → lieutenant_at c i ≢ c
 lieutenant_other c i = by (nat_lt i c) refl
   where
@@ -177,17 +177,17 @@ lieutenants_differ c i j same = by (nat_lt i c) refl (nat_lt j c) refl same
     by false ea true eb e = (let l = ltb-false i c ea in let m = ltb-true j c eb in omega arith)
     by false ea false eb e = omega arith
 
--- no two trees are of one lieutenant
+-- No two trees belong to the same lieutenant.
 pub trees_apart : (s : Scenario) (before : List (List Letter)) (h : ToldSeen) → WasTold s before h → AreApart h.trees
 trees_apart s before h told i j t u first last e =
     lieutenants_differ s.commander i j (sym (told.trees i t first).general ∙ (e ∙ (told.trees j u last).general))
 
--- the tree of a lieutenant
+-- The tree of a lieutenant.
 pub own_tree : (s : Scenario) (before : List (List Letter)) (h : ToldSeen) (i g : ℕ) (t : LieutenantTree) → WasTold s before h → i < length h.trees → t ≡ get_or h.trees i t → lieutenant_at s.commander i ≡ g → IsTreeOf s before g t
 own_tree s before h i g t told lt at is =
     subst (λ (k : ℕ). IsTreeOf s before k t) is (told.trees i t (slice_get_read h.trees (length h.trees) i t refl lt at))
 
--- a lieutenant's place lies within the trees
+-- A lieutenant's index is within the list of trees.
 pub place_within : (c i g n m : ℕ) → g < n → c < n → lieutenant_at c i ≡ g → m + 1 ≡ n → i < m
 place_within c i g n m within inside is count = by (nat_lt i c) refl is
   where
@@ -195,7 +195,7 @@ place_within c i g n m within inside is count = by (nat_lt i c) refl is
     by true e h = (let l = ltb-true i c e in omega arith)
     by false e h = omega arith
 
--- the letters are due to the trees
+-- The letters of the round may be entered into all trees.
 pub trees_due : (s : Scenario) (before : List (List Letter)) (row : List Letter) (h : ToldSeen) → IsScenario s → WasTold s before h → AreLettersOf s (suc h.rounds) row → h.rounds ≤ s.bound → AreDueIn s.generals s.commander row h.trees
 trees_due s before row h is told due left j t at =
     let o = told.trees j t at in
@@ -212,7 +212,7 @@ trees_due s before row h is told due left j t at =
       due = tree_due s before row (lieutenant_at s.commander j) h.rounds t o due left;
     }
 
--- as it is looked up
+-- The tree as the code finds it.
 pub looked_up : (s : Scenario) (before : List (List Letter)) (h now : ToldSeen) (commander place from g : ℕ) (t : LieutenantTree) → IsScenario s → WasTold s before now → h ≡ now → commander ≡ s.commander → lieutenant_at commander place ≡ g → g < s.generals → from ≡ place → t ≡ get_or h.trees from t →
     (lieutenant_at s.commander place ≡ g) × (place < length h.trees) × (t ≡ get_or h.trees place t)
 looked_up s before h now commander place from g t is told view ec there within ef at =

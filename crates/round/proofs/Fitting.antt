@@ -5,18 +5,18 @@ use Rattle.semantics.specs.Call.{fits}
 use Rattle.board.specs.Board.{Access}
 use Rattle.round.specs.Runs.{AreFitting}
 
--- one more
+-- One more access is appended.
 pub fitting_more : (t : List Access) (x : Access) → AreFitting t → fits x.request x.reply ≡ true → AreFitting (t ++ x ∷ [])
 fitting_more [] x h fit = (fit, tt)
 fitting_more (y ∷ t) x h fit = (h.0, fitting_more t x h.1 fit)
 
--- those from one on
+-- The accesses from an index on.
 pub fitting_from : (n : ℕ) (t : List Access) → AreFitting t → AreFitting (drop n t)
 fitting_from zero t h = h
 fitting_from (suc n) [] h = h
 fitting_from (suc n) (y ∷ t) h = fitting_from n t h.1
 
--- those that pass
+-- Those accesses that pass a test.
 pub fitting_among : (is : Access → Bool) (t : List Access) → AreFitting t → AreFitting (filter is t)
 fitting_among is [] h = tt
 fitting_among is (y ∷ t) h = by (is y) (fitting_among is t h.1)

@@ -1,4 +1,4 @@
--- The letters of the last round are taken back from the trees of all lieutenants.
+-- The letters of the last round are removed from the trees of all lieutenants.
 use Rattle.std.proofs.Common.{◌≡◌, ◌≢◌, ℕ, suc, ◌+◌, ◌-◌, ◌<◌, ◌≤◌, List, [], ◌∷◌, ◌++◌, length, get_or, true, false, sym, ap, ◌∙◌, Some, arith, ⊎_elim, length-append}
 use Rattle.std.specs.Prelude.{slice_get, ◌==◌}
 use Rattle.std.proofs.lemmas.Bool.Decides.{eqb_tells}
@@ -17,11 +17,11 @@ use Rattle.round.proofs.Filling.{messages-past, messages-none}
 length-more : (before : List (List Letter)) (row : List Letter) → length (before ++ row ∷ []) ≡ suc (length before)
 length-more before row = let l = length-append before (row ∷ []) in omega arith
 
--- there was a round
+-- At least one round was delivered.
 pub some_told : (s : Scenario) (before : List (List Letter)) (row : List Letter) (h : ToldSeen) → WasTold s (before ++ row ∷ []) h → h.rounds ≡ suc (length before)
 some_told s before row h told = told.rounds ∙ length-more before row
 
--- without the letters of the last round
+-- The messages without the letters of the last round.
 forgotten : (before : List (List Letter)) (row : List Letter) (k : ℕ) (w : List ℕ) (p : ℕ) → k ≡ suc (length before) → 0 < length w → blank (messages (before ++ row ∷ [])) k w p ≡ messages before w p
 forgotten before row k w p ek some = ⊎_elim
     (λ (q : (length w == k ≡ true) × (length w ≡ k)).
@@ -30,7 +30,7 @@ forgotten before row k w p ek some = ⊎_elim
     blank-other (messages (before ++ row ∷ [])) k w p q.1 ∙ messages-past before row w p some (λ e. q.1 (e ∙ sym ek)))
     (eqb_tells (length w) k)
 
--- one tree
+-- One tree without that round.
 tree_less : (s : Scenario) (before : List (List Letter)) (row : List Letter) (g k : ℕ) (t u : LieutenantTree) → IsScenario s → k ≡ suc (length before) → IsTreeOf s (before ++ row ∷ []) g t → SameCampaign t u → ((M : Messages) → IsFilled t M → IsFilled u (blank M k)) →
     IsTreeOf s before g u
 tree_less s before row g k t u is ek h same fill = record {
@@ -48,7 +48,7 @@ tree_less s before row g k t u is ek h same fill = record {
       forgotten before row k w u.general ek (omega arith));
 }
 
--- all trees
+-- All trees without that round.
 pub told_less : (s : Scenario) (before : List (List Letter)) (row : List Letter) (h : ToldSeen) (trees : List LieutenantTree) (i : ℕ) → IsScenario s → WasTold s (before ++ row ∷ []) h → AreChangedTo h.trees (λ M. blank M h.rounds) i trees → length trees ≤ i →
     WasTold s before (record { rounds = h.rounds - 1; trees = trees })
 told_less s before row h trees i is told changed all =

@@ -1,4 +1,4 @@
--- What the letters of closed rounds tell of a label, by its front and its last general.
+-- What the letters of closed rounds say about a label, which is split into its last general and the others.
 use Rattle.std.proofs.Common.{◌≡◌, ◌≢◌, ℕ, suc, ◌-◌, ◌<◌, ◌≤◌, List, [], ◌∷◌, ◌++◌, length, take, map, get_or, Bool, true, false, not, refl, sym, ap, ◌∙◌, Some, None, arith, length-append}
 use Rattle.std.specs.Prelude.{◌||◌, slice_get, slice_index, ◌==◌, ◌&&◌, bytes_eq}
 use Rattle.std.proofs.lemmas.Bool.{eq-eqb, ne_eqb, eqb-true, and_parts, true≢false, not-true}
@@ -31,11 +31,11 @@ front n c g x xs a =
     let d = and_parts (is_distinct (x ∷ xs)) (not (on (x ∷ xs) g)) (sym (is_distinct-push (x ∷ xs) g) ∙ a.distinct) in
     record { label = record { first = a.first; below = b.0; distinct = d.0 }; within = b.1; off = not-true (on (x ∷ xs) g) d.1 }
 
--- g is not the commander where he stands behind him
+-- A general who extends a label is not the commander.
 pub apart : (n c g x : ℕ) (xs : List ℕ) → IsLabel n c (x ∷ xs) → on (x ∷ xs) g ≡ false → g ≢ c
 apart n c g x xs a off e = true≢false (sym (let f : x ≡ g = a.first ∙ sym e in rw (eq-eqb x g f) refl) ∙ off)
 
--- the rest of a label stands in the relay of its last general
+-- A label without its last general is among those that this general relays.
 pub relay_stands : (s : Shape) (u : List ℕ) → s.commander < s.generals → s.round ≡ suc (length u) → IsLabel s.generals s.commander (u ++ s.general ∷ []) → (i : ℕ) × (slice_get (relay s) i ≡ Some u)
 relay_stands s [] inside r a = (0, rw (eq-eqb s.general s.commander a.first, eq-eqb s.round 1 r) refl)
 relay_stands s (x ∷ xs) inside r a =
@@ -44,7 +44,7 @@ relay_stands s (x ∷ xs) inside r a =
     let k : s.round - 1 ≡ length (x ∷ xs) = omega arith in
     rw (ne_eqb s.general s.commander ne, k) (label_stands s.generals s.commander s.general (x ∷ xs) inside f.within ne f.label f.off)
 
--- an outbox that tells values tells each receiver of a label its value
+-- An outbox that sends values sends each receiver of a label the label's value.
 pub tells-telling : (s : Shape) (F : List ℕ → ℕ) (u : List ℕ) (p : ℕ) → s.commander < s.generals → s.round ≡ suc (length u) → p < s.generals
     → IsLabel s.generals s.commander (u ++ s.general ∷ []) → on (u ++ s.general ∷ []) p ≡ false → tells (telling s F) u p ≡ Some (F u)
 tells-telling s F u p inside r within a off =
@@ -67,7 +67,7 @@ messages-push rounds u g p =
     let long : length (u ++ g ∷ []) - 1 ≡ length u = omega (arith, length-append u (g ∷ [])) in
     rw (long, last-push u g, front-push u g) refl
 
--- of labels of so many generals only so many rounds tell
+-- Messages about labels of a length depend only on as many rounds.
 pub messages-front : (rounds : List (List Letter)) (k : ℕ) (x : ℕ) (xs : List ℕ) (p : ℕ) → length (x ∷ xs) ≤ k → messages (take k rounds) (x ∷ xs) p ≡ messages rounds (x ∷ xs) p
 unfolding messages
 messages-front rounds k x xs p le =

@@ -1,4 +1,4 @@
--- Those off a label, one after another, each with its row.
+-- The generals off a label are listed, each with the label's row in his letter.
 use Rattle.std.proofs.Common.{◌≡◌, ◌≢◌, ℕ, ◌+◌, ◌<◌, ◌≤◌, List, [], ◌∷◌, ◌++◌, length, take, get_or, set, Bool, true, false, not, cond, refl, sym, ap, ◌∙◌, Some, None, Option, arith, ⊎_elim, add-one, length-set, get_or-set_same, get_or-set_other}
 use Rattle.std.specs.Prelude.{slice_get, slice_index, slice_index_or, unwrap_or, ◌==◌}
 use Rattle.std.proofs.lemmas.Bool.Decides.{eqb_tells}
@@ -15,7 +15,7 @@ use Rattle.round.specs.declared.front.LabelPrefix.{LabelPrefix}
 use Rattle.round.proofs.Lists.{some_same, get_set, get_unset}
 use Rattle.std.proofs.lemmas.Bool.{cases_Bool}
 
--- the row of a letter, or of nobody where there is none
+-- The row of a letter, or one without orders if there is no letter.
 pub or_nobody : (o : Option Orders) (p : ℕ) → order_in p (orders_seen (unwrap_or o Nobody)) ≡ order_of_row o p
 or_nobody None p = refl
 or_nobody (Some r) p = refl
@@ -29,7 +29,7 @@ none_gathered row n f t none long wide = record {
   rows = λ i p r lt there. absurd (omega arith);
 }
 
--- one more
+-- One more general is listed.
 pub one_gathered : (row : List Letter) (n : ℕ) (f : LabelPrefix) (x : ℕ) (t : Tellers) (o : Orders) → AreTellers row n f x t → x < n → n ≤ 13 → slice_index_or f.on x false ≡ false → ((p : ℕ) → order_in p (orders_seen o) ≡ order_in_letter (letter_of row x) (slice_index f.ranks x) p) →
     AreTellers row n f (x + 1) (record { count = t.count + 1; generals = set t.generals t.count x; rows = set t.rows t.count o })
 one_gathered row n f x t o h within small mark tells = record {
@@ -57,7 +57,7 @@ one_gathered row n f x t o h within small mark tells = record {
     room' : t.count < length t.rows
     room' = let a = h.few in let l = h.wide in omega arith
 
--- nobody more: what is written behind them means nothing
+-- A general on the label is not counted: what is written for him has no meaning.
 pub same_gathered : (row : List Letter) (n : ℕ) (f : LabelPrefix) (x : ℕ) (t : Tellers) (o : Orders) → AreTellers row n f x t → x < n → slice_index_or f.on x false ≡ true → AreTellers row n f (x + 1) (record { count = t.count; generals = set t.generals t.count x; rows = set t.rows t.count o })
 same_gathered row n f x t o h within mark = record {
   long = length-set t.generals t.count x ∙ h.long;
@@ -69,7 +69,7 @@ same_gathered row n f x t o h within mark = record {
       rw (get_or-set_other t.generals t.count i x 0 ne) (h.rows i p r lt (sym (get_unset t.rows t.count i o ne) ∙ there));
 }
 
--- the next, who is off the label or not
+-- The next general is considered, who may be off the label or on it.
 pub next_gathered : (row : List Letter) (n : ℕ) (f : LabelPrefix) (x count : ℕ) (t : Tellers) (o : Orders) → AreTellers row n f x t → x < n → n ≤ 13 → count ≡ t.count + cond {A = ℕ} (not (slice_index_or f.on x false)) 1 0 → ((p : ℕ) → order_in p (orders_seen o) ≡ order_in_letter (letter_of row x) (slice_index f.ranks x) p) →
     AreTellers row n f (x + 1) (record { count = count; generals = set t.generals t.count x; rows = set t.rows t.count o })
 next_gathered row n f x count t o h within small e tells = ⊎_elim

@@ -1,4 +1,5 @@
--- The turns of an activation: of a sound program it neither traps nor takes more steps than the program has instructions.
+-- The turns of an activation of a sound program: it neither traps nor takes more steps than the program has
+-- instructions.
 use Rattle.std.proofs.Common.{◌≡◌, ℕ, suc, ◌+◌, List, Bool, true, false, cond, refl, subst, ◌∙◌}
 use Rattle.semantics.specs.declared.request.Request.{Request}
 use Rattle.semantics.specs.State.{Outcome, Next, Ask, Exit, Trap}
@@ -11,11 +12,12 @@ use Rattle.round.specs.Activation.{Activation, Turn, Goes, Asks, Ended, turned, 
 use Rattle.board.specs.Requests.{IsRequest}
 use Rattle.board.proofs.Asking.{asks_within}
 
--- where it is not over it is safe for so many steps
+-- States that the activation has ended or is safe for `n` further steps.
 abbrev pub IsGoing : ℕ → Activation → Type 0
 IsGoing n a = has_ended a ≡ false → IsSafe a.program a.context a.relay n a.state
 
--- one turn later: the same program, context and relay, a step more, and safe for so many
+-- States that `b` is `a` after one turn: with the same program, context and relay, one more step, and safe for `n`
+-- further steps.
 pub record IsAfter (n : ℕ) (a b : Activation) : Type 0 where
   pub program : b.program ≡ a.program
   pub context : b.context ≡ a.context
@@ -38,7 +40,7 @@ leads : (n : ℕ) (a : Activation) → IsSafe a.program a.context a.relay (suc n
 unfolding IsSafe
 leads n a h = h
 
--- an activation that is safe for a step more
+-- An activation that is safe for one more step.
 pub turn_safe : (n : ℕ) (a : Activation) → IsGoing (suc n) a → TurnsTo n a (turn a)
 turn_safe n a going = by (has_ended a) refl
   where
@@ -46,7 +48,7 @@ turn_safe n a going = by (has_ended a) refl
     by true e = tt
     by false e = turned_safe n a (step a.program a.context a.relay a.state) e (step_counts a.program a.context a.relay a.state) (leads n a (going e))
 
--- what has no step left is over
+-- An activation without steps left has ended.
 pub going_zero : (a : Activation) → IsGoing 0 a → has_ended a ≡ true
 unfolding IsSafe
 going_zero a going = by (has_ended a) refl
@@ -55,7 +57,7 @@ going_zero a going = by (has_ended a) refl
     by true e = refl
     by false e = absurd (going e)
 
--- what is over ends, and what ends is over
+-- An activation that has ended takes no turn, and one that takes no turn has ended.
 pub over_ended : (a : Activation) → has_ended a ≡ true → turn a ≡ Ended
 over_ended a e = rw e refl
 
@@ -72,7 +74,7 @@ ended_over a e = by (has_ended a) e
     by true h = refl
     by false h = absurd (not_ended a (step a.program a.context a.relay a.state) h)
 
--- what an activation asks lies within the board
+-- The words that a request names are within the board.
 turned_within : (a : Activation) (o : Outcome) → step a.program a.context a.relay a.state ≡ o → (q : Request) (f : List ℕ → Activation) → turned a o ≡ Asks q f → IsRequest q
 turned_within a (Next s) is q f e = absurd (let g : Goes (record a { state = s }) ≡ Asks q f = e in cc)
 turned_within a (Ask r s) is q f e =

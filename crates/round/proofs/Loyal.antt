@@ -15,7 +15,7 @@ use Rattle.round.specs.Laws.{ContextsTell, LoyalLettersFollow}
 use Rattle.mem.proofs.ContextNumbers.{number_at}
 use Rattle.round.proofs.Telling.{value_is_told}
 
--- the numbers of his campaign
+-- The context has the campaign's numbers.
 pub shape_is_told : (s : Scenario) (before : List (List Letter)) (g round : ℕ) → IsScenario s → shape_told g round (context_of s before g) ≡ shape_of s g round
 shape_is_told s before g round is =
     let shape = shape_of s g (suc (length before)) in
@@ -26,7 +26,7 @@ shape_is_told s before g round is =
     let commander = number_at numbers 3 12 s.commander refl (omega arith) refl (omega arith) in
     (λ i. record { generals = generals i; commander = commander i; general = g; round = round })
 
--- his own number, and the round
+-- The context has the general's own number and the round.
 pub own_is_told : (s : Scenario) (before : List (List Letter)) (g : ℕ) → IsScenario s → g < s.generals → length before ≤ s.bound → IsToldTo g (suc (length before)) (context_of s before g)
 own_is_told s before g is inside le =
     let shape = shape_of s g (suc (length before)) in
@@ -35,7 +35,7 @@ own_is_told s before g is inside le =
     let rounds = is.rounds in
     (number_at numbers 2 8 g refl (omega arith) refl (omega arith), number_at numbers 4 16 (suc (length before)) refl (omega arith) refl (omega arith))
 
--- that orders are oral
+-- The context says that orders are oral.
 pub oral_is_told : (s : Scenario) (before : List (List Letter)) (g : ℕ) → IsScenario s → tells_oral (context_of s before g)
 oral_is_told s before g is =
     let shape = shape_of s g (suc (length before)) in
@@ -50,7 +50,7 @@ proved_contexts_tell = record {
   values = value_is_told;
 }
 
--- a list of numbers gives each place its label's value
+-- A row of numbers has for each place the value of its label.
 number_row : (F : ℕ → ℕ) (v k b : ℕ) (ns : List ℕ) → F k ≡ v → map (λ place. Some (F place.rank)) (row_from k b ns) ≡ map (λ p. Some v) ns
 number_row F v k b [] e = refl
 number_row F v k b (n ∷ ns) e = (λ i. Some (e i) ∷ number_row F v k (b + 1) ns e i)
@@ -62,7 +62,7 @@ number_rows shape F G a (w ∷ ws) h =
     (λ i. number_row F (G w) a 0 (receivers shape w) (let z : a ≡ a + 0 = omega arith in ap F z ∙ h 0 w refl) i
     ∷ number_rows shape F G (a + 1) ws (λ j u e. (let z : a + 1 + j ≡ a + suc j = omega arith in ap F z ∙ h (suc j) u e)) i)
 
--- what his context has is what he took
+-- The orders in the context are those that the general took.
 told_is : (s : Scenario) (before : List (List Letter)) (g : ℕ) → IsScenario s → g < s.generals → length before ≤ s.bound → AreWords s before g
     → outbox_told (shape_of s g (suc (length before))) (context_of s before g) ≡ telling (shape_of s g (suc (length before))) (took s before g)
 told_is s before g is within le small =
@@ -71,7 +71,7 @@ told_is s before g is within le small =
     (λ rank u at. (let z : 0 + rank ≡ rank = omega arith in ap (λ (n : ℕ). taken_value (context_of s before g) n) z ∙ value_is_told s before g rank u is within le at (small rank u at))) in
     (λ i. record { relay = oral shape; rows = rows i; entries = [] })
 
--- so his letter is the loyal one
+-- So the letter made from the context is the loyal one.
 pub letter_is : (s : Scenario) (before : List (List Letter)) (g : ℕ) → IsScenario s → g < s.generals → length before ≤ s.bound → AreWords s before g
     → letter_told g (suc (length before)) (context_of s before g) ≡ faithful_letter s before g
 letter_is s before g is within le small =

@@ -1,4 +1,4 @@
--- Who tells a tree's lieutenant, one after another.
+-- The generals who send a tree's lieutenant orders about a label, in order.
 use Rattle.std.proofs.Common.{◌≡◌, ◌≢◌, ℕ, ◌+◌, ◌-◌, ◌*◌, ◌<◌, ◌≤◌, List, ◌∷◌, length, take, get_or, Option, Some, Bool, true, false, refl, sym, ap, ◌∙◌, ⊎_elim, arith}
 use Rattle.std.specs.Prelude.{slice_get, slice_index, nat_lt, if◌then◌else◌}
 use Rattle.std.proofs.lemmas.Bool.{ltb-true, ltb-false, ne_eqb, cases_Bool}
@@ -17,7 +17,7 @@ use Rattle.round.proofs.Striking.{different, named, struck_before, struck_others
 use Rattle.round.proofs.Lists.{some_at}
 use Rattle.round.proofs.Walking.{all_children, tell_child}
 
--- who stands at a number
+-- States that this general is at an index of the list.
 pub record IsTeller (t : LieutenantTree) (w : List ℕ) (x place : ℕ) : Type 0 where
   pub within : x < t.generals
   pub away : on (t.general ∷ w) x ≡ false
@@ -45,7 +45,7 @@ module _ (t : LieutenantTree) (row : List Letter) (places : List ℕ) (k : ℕ) 
         few = (let l = who.within in let m = c.few in let e = who.below in omega arith);
       }
 
-  -- those before the lieutenant stand at their own number, those behind him at the one before
+  -- Generals before the lieutenant have their own index, and those after him have one less.
   pub teller_before : (place : ℕ) → place < own → IsTeller t walk.w (get_or a.generals place 0) place
   teller_before place lt =
       let within = a.within in let r = room in
@@ -60,7 +60,7 @@ module _ (t : LieutenantTree) (row : List Letter) (places : List ℕ) (k : ℕ) 
   pub teller_past : (place : ℕ) → own ≤ place → place + 1 < a.count → IsTeller t walk.w (get_or a.generals (place + 1) 0) place
   teller_past place le lt = teller (place + 1) place lt (λ e. absurd (omega arith)) (past_them place le (omega arith))
 
-  -- how many they are
+  -- How many generals there are.
   pub all_tell : a.count ≡ t.generals - (f.size + 1) + 1
   all_tell =
       let within = a.within in
@@ -70,7 +70,7 @@ module _ (t : LieutenantTree) (row : List Letter) (places : List ℕ) (k : ℕ) 
       let last : a.count - 1 ≡ t.generals - (f.size + 1) = all_children t.generals t.commander t.general (a.count - 1) walk.w f walk.front c.commander c.general walk.off all in
       omega arith
 
-  -- what the one at a place tells, where the lieutenant is passed over
+  -- The order of the general at an index, if the lieutenant himself is skipped.
   pub tells_past : f.size + 1 ≡ k → (first width place : ℕ) → width ≡ t.generals - k → first ≡ slice_index f.ranks t.general * width → place < width → (value : Option ℕ) → ((r : Orders) → slice_get rows (lieutenant_at own place) ≡ Some r → value ≡ order_in t.general (orders_seen r)) →
       (w : List ℕ) → slice_get (labels t.generals t.commander t.general k) (first + place) ≡ Some w → value ≡ told_now row w t.general
   tells_past last first width place ew ef lt value is w there = ⊎_elim

@@ -1,4 +1,4 @@
--- An activation on its way, with the accesses that it has made.
+-- An activation while it runs, with the accesses that it has made.
 use Rattle.std.proofs.Common.{◌≡◌, ℕ, zero, suc, ◌≤◌, List, [], ◌∷◌, ◌++◌, true, refl, sym, ap, subst, ◌∙◌, Option, Some, None, arith, append-nil}
 use Rattle.std.specs.Option.{option_to_list}
 use Rattle.std.specs.Prelude.{◌||◌}
@@ -16,7 +16,7 @@ use Rattle.round.proofs.Fitting.{fitting_more}
 use Rattle.round.proofs.Stepping.{runs_steps}
 use Rattle.round.proofs.Runnings.{StopsAt, Runs-snoc}
 
--- a run, and the run behind it
+-- A run is continued by another run.
 append_by : (o : Turn) (k : ℕ) (t more : List Access) (u v : Activation) → ((s : Activation) (t' : List Access) → Runs k s t' u → (n : ℕ) × Runs n s (t' ++ more) v) → Onward (Runs k) o t u → (n : ℕ) × Onward (Runs n) o (t ++ more) v
 append_by (Goes s) k t more u v again h = again s t h
 append_by (Asks q f) k [] more u v again h = absurd h
@@ -30,7 +30,7 @@ runs_append (suc k) j s t more u v a b =
     let rest = append_by (turn s) k t more u v (λ s' t' h. runs_append k j s' t' more u v h b) a in
     (suc rest.0, rest.1)
 
--- a turn that was taken
+-- A turn that was taken.
 turn_taken : (o : Turn) (access : Option Access) (new : Activation) → TakesTurn o access new → Onward StopsAt o (option_to_list access) new
 turn_taken (Goes b) None new h = (refl, sym h)
 turn_taken (Goes b) (Some x) new h = absurd h
@@ -38,7 +38,7 @@ turn_taken (Asks q f) (Some x) new h = (h.0, (refl, sym h.1))
 turn_taken (Asks q f) None new h = absurd h
 turn_taken Ended access new h = absurd h
 
--- nothing that is not the general's
+-- An empty list has only the general's accesses.
 pub all_none : (general round : ℕ) → AreAccessesOf general round []
 all_none general round k d lt = absurd (omega arith)
 
@@ -51,7 +51,7 @@ all_more general round (y ∷ t) x h own (suc k) d lt = all_more general round t
 pub same_run_on : (a b c : Activation) → IsSameRun a b → IsSameRun b c → IsSameRun a c
 same_run_on a b c h k = record { program = k.program ∙ h.program; context = k.context ∙ h.context; relay = k.relay ∙ h.relay; patience = k.patience ∙ h.patience }
 
--- one turn, and silently on
+-- One turn is taken, and then turns that are no requests.
 run_on : (start a mid b : Activation) (t : List Access) (access : Option Access) → (k : ℕ) × Runs k start t a → TakesTurn (turn a) access mid → Silently mid b → (n : ℕ) × Runs n start (t ++ option_to_list access) b
 run_on start a mid b t access run turn_is went =
     let all = runs_append (suc run.0) went.0 start (t ++ option_to_list access) [] mid b (Runs-snoc run.0 start t (option_to_list access) a mid run.1 (turn_taken (turn a) access mid turn_is)) went.1 in
@@ -86,13 +86,13 @@ way_begins general round a t none = record {
   fitting = subst (λ (l : List Access). AreFitting l) (sym none) tt;
 }
 
--- the same run without a patience
+-- The same run without a patience.
 run_without : (patience : Option ℕ) (program : List Insn) (context : List ℕ) (relay : Relay) (t : List Access) (a : Activation) → (k : ℕ) × Runs k (started patience program context relay) t a → Runs a.state.steps (started None program context relay) t (under None a)
 run_without patience program context relay t a run =
     let counted : a.state.steps ≡ run.0 = let e = runs_steps run.0 (started patience program context relay) t a run.1 in omega arith in
     subst (λ (n : ℕ). Runs n (started None program context relay) t (under None a)) (sym counted) (runs_under None run.0 (started patience program context relay) t a tt run.1)
 
--- what is left is a letter
+-- A letter is made from the activation in its current state.
 pub letter_of_run : (general round : ℕ) (t : List Access) (a : Activation) → IsContext a.context → IsToldTo general round a.context → a.relay ≡ relay_told general round a.context → AreFitting t → (k : ℕ) × Runs k (started a.patience a.program a.context a.relay) t a → IsLetter (letter_left general round t a)
 letter_of_run general round t a context own relay fit run = record {
   context = context;
@@ -102,13 +102,13 @@ letter_of_run general round t a context own relay fit run = record {
   run = (fit, under None a, run_without a.patience a.program a.context a.relay t a run, refl, refl, refl);
 }
 
--- an activation that is on its way, by its own parts
+-- A running activation, given by its contents.
 pub own_run : (general round : ℕ) (program : List Insn) (context : List ℕ) (patience : Option ℕ) (relay : Relay) (t : List Access) (a : Activation) → IsOnWay general round (started patience program context relay) a t → (k : ℕ) × Runs k (started a.patience a.program a.context a.relay) t a
 own_run general round program context patience relay t a way =
     let s = way.same in
     (way.run.0, subst (λ (x : Activation). Runs way.run.0 x t a) (λ i. started (sym s.patience i) (sym s.program i) (sym s.context i) (sym s.relay i)) way.run.1)
 
--- of an activation that has ended
+-- The letter of an activation that has ended.
 pub lived : (general round : ℕ) (program : List Insn) (context : List ℕ) (patience : Option ℕ) (relay : Relay) (t : List Access) (a : Activation) (l : Letter) → relay ≡ relay_told general round context → IsWithin a.patience a.state.steps →
     IsOnWay general round (started patience program context relay) a t → has_ended a ≡ true → l ≡ letter_left general round t a → IsLived general round program context patience l
 lived general round program context patience relay t a l told within way ended is =

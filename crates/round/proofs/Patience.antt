@@ -11,11 +11,11 @@ use Rattle.semantics.specs.Call.{resumed}
 use Rattle.semantics.proofs.StepLaws.{step_counts}
 use Rattle.round.proofs.Stepping.{CountsTurn, turned_counts, runs_steps}
 
--- the same activation under another patience
+-- Returns the same activation with another patience.
 abbrev pub under : Option ℕ → Activation → Activation
 under p a = record a { patience = p }
 
--- what it does next is the same
+-- States that its next turn is the same.
 abbrev Likewise : Option ℕ → Turn → Turn → Type 0
 Likewise p (Goes a) o = o ≡ Goes (under p a)
 Likewise p (Asks q f) o = o ≡ Asks q (λ r. under p (f r))
@@ -27,7 +27,7 @@ turned_likewise p a (Ask q s) = refl
 turned_likewise p a (Exit r0 s) = refl
 turned_likewise p a (Trap cause) = refl
 
--- where the other patience has not ended it
+-- The turns are the same until the other patience is used up.
 turn_likewise : (p : Option ℕ) (a : Activation) → (a.over ≡ false → is_reached p a.state.steps ≡ false) → Likewise p (turn a) (turn (under p a))
 turn_likewise p a h = by a.over (is_reached a.patience a.state.steps) (is_reached p a.state.steps) h
   where
@@ -60,7 +60,7 @@ runs_under p (suc k) a t end w h =
     onward_by p k (turn a) (turn (under p a)) t end (turn_likewise p a (λ on. not_reached p a.state.steps end.state.steps (omega arith) w))
     (λ b t' h'. runs_under p k b t' end w h') h
 
--- and a run takes no more steps than its patience lets it
+-- A run takes at most as many steps as its patience allows.
 within_begin : (p : Option ℕ) (n m : ℕ) → m ≡ n + 1 → is_reached p n ≡ false → IsWithin p m
 within_begin None n m e f = tt
 within_begin (Some p) n m e f = (let l = leb-false p n f in omega arith)
@@ -86,7 +86,7 @@ turn_keeps a = by a.over (is_reached a.patience a.state.steps) refl
         let o = step a.program a.context a.relay a.state in
         turned_keeps a o e (turned_counts a o (step_counts a.program a.context a.relay a.state))
 
--- under one patience
+-- States that the patience stays the same and is kept.
 abbrev pub Kept : Option ℕ → Activation → Type 0
 Kept p a = (a.patience ≡ p) × IsWithin p a.state.steps
 

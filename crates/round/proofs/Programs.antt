@@ -1,4 +1,4 @@
--- A general's program by his place.
+-- A general's program is found by his number.
 use Rattle.std.proofs.Common.{◌≡◌, ℕ, zero, suc, List, [], ◌∷◌, Option, Some, None, get_or}
 use Rattle.std.specs.Prelude.{slice_get}
 use Rattle.insn.specs.declared.insn.Insn.{Insn}

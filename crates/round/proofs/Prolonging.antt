@@ -1,4 +1,4 @@
--- The ranks of a label with one general more.
+-- The ranks of a label that is extended by one general.
 use Rattle.std.proofs.Common.{◌≡◌, ◌≢◌, ℕ, zero, suc, ◌+◌, ◌-◌, ◌*◌, ◌<◌, ◌≤◌, ◌^◌, List, [], ◌∷◌, ◌++◌, length, get_or, set, Bool, true, false, cond, refl, sym, ap, ◌∙◌, subst, Some, arith, ⊎_elim, length-append, replicate, length-set, get_or-set_same, get_or-set_other}
 use Rattle.std.specs.Prelude.{slice_get, slice_index, slice_index_or, ◌==◌, ◌||◌, nat_lt}
 use Rattle.std.proofs.lemmas.Bool.{eq-eqb, ne_eqb, or_parts, true≢false, ltb-true, ltb-false, cases_Bool}
@@ -15,7 +15,7 @@ use Rattle.label.proofs.Pushes.{IsLabel-push}
 use Rattle.round.specs.Fronts.{IsFront}
 use Rattle.round.specs.declared.front.LabelPrefix.{LabelPrefix}
 
--- those below a general, with one lacked who is off the label
+-- How many generals below `j` are off the label, if another one is excluded, too.
 pub below-lacked : (j x : ℕ) (w : List ℕ) → on w x ≡ false → length (others j (x ∷ w)) + cond {A = ℕ} (nat_lt x j) 1 0 ≡ length (others j w)
 below-lacked j x w off = ⊎_elim
     (λ (h : nat_lt x j ≡ true).
@@ -30,7 +30,7 @@ below-lacked j x w off = ⊎_elim
     rw h (omega arith))
     (cases_Bool (nat_lt x j))
 
--- who is off the label is a lieutenant
+-- A general off a label is a lieutenant.
 pub off-lieutenant : (c x : ℕ) (w : List ℕ) → BeginsWith c w → on w x ≡ false → x ≢ c
 off-lieutenant c x [] b off = absurd b
 off-lieutenant c x (y ∷ w) b off = λ e. true≢false (sym (rw (eq-eqb y x (b ∙ sym e)) refl) ∙ off)
@@ -42,7 +42,7 @@ pub begun-long : (c : ℕ) (w : List ℕ) → BeginsWith c w → length w ≡ su
 begun-long c [] b = absurd b
 begun-long c (x ∷ w) b = omega arith
 
--- the rank of the longer label, for one who is off it
+-- The rank of the longer label among those without a general who is off it.
 pub child_rank : (n c x r j t width : ℕ) (w : List ℕ) → c < n → x < n → j < n → BeginsWith c w → on w x ≡ false → on w j ≡ false → x ≢ j →
     slice_get (labels n c x (length w)) r ≡ Some w → t ≡ length (others j (x ∷ w)) → width ≡ n - (length w + 1) → slice_get (labels n c x (length (w ++ j ∷ []))) (r * width + t) ≡ Some (w ++ j ∷ [])
 child_rank n c x r j t width w inside within below b off away ne at et ew =
@@ -53,13 +53,13 @@ child_rank n c x r j t width w inside within below b off away ne at et ew =
     (subst (λ (v : ℕ). slice_get (labels n c x (suc (suc (length w - 1)))) (r * v + t) ≡ Some (w ++ j ∷ [])) width'
     (proved_children_stand n c x (length w - 1) r t j w inside within (off-lieutenant c x w b off) (subst (λ (k : ℕ). slice_get (labels n c x k) r ≡ Some w) long at) (others_here n (x ∷ w) t j below (off-lacked x j w ne away) et)))
 
--- and it fits
+-- This rank is below 2 ^ 32.
 pub child_fits : (n c x k r : ℕ) (w : List ℕ) → n ≤ 13 → c < n → x < n → x ≢ c → k ≤ 13 → 0 < k → slice_get (labels n c x k) r ≡ Some w → r < 2 ^ 32
 child_fits n c x k r w few inside within ne small some at =
     let e : k ≡ k - 1 + 1 = omega arith in
     rank-fits (record { generals = n; commander = c; general = x }) (record { generals = few; commander = inside; general = within; lieutenant = ne }) (k - 1) r w (omega arith) (subst (λ (q : ℕ). slice_get (labels n c x q) r ≡ Some w) e at)
 
--- the label with one general more
+-- The label extended by one general, as the code stores it.
 pub front_with : (n c j below width size : ℕ) (w : List ℕ) (f : LabelPrefix) (marks : List Bool) (ranks : List ℕ) → IsFront n c w f → n ≤ 13 → c < n → j < n → on w j ≡ false → below ≡ length (others j w) → width ≡ n - (f.size + 1) → size ≡ f.size + 1 →
     f.size < 13 → marks ≡ set f.on j true → length ranks ≡ 13 → ((x t : ℕ) → x < 13 → t + cond {A = ℕ} (nat_lt x j) 1 0 ≡ below → slice_index f.ranks x * width + t < 2 ^ 32 → slice_index ranks x ≡ slice_index f.ranks x * width + t) →
     IsFront n c (w ++ j ∷ []) (record { size = size; on = marks; ranks = ranks })
@@ -100,7 +100,7 @@ front_with n c j below width size w f marks ranks h few inside within off eb ew 
         get_or-set_other f.on j x true false ne ∙ (h.marks x lt ∙ sym (on-push w j x ∙ (ap (λ b. on w x || b) q.0 ∙ or-false (on w x)))))
         (eqb_tells j x)
 
--- the label of the commander alone
+-- The label of the commander, as the code stores it.
 pub front_alone : (n c : ℕ) (marks : List Bool) (ranks : List ℕ) → c < n → n ≤ 13 → marks ≡ set (replicate 13 false) c true → ranks ≡ replicate 13 0 → IsFront n c (c ∷ []) (record { size = 1; on = marks; ranks = ranks })
 front_alone n c marks ranks inside few em er = record {
   label = record { first = refl; below = (inside, tt); distinct = refl };
@@ -136,7 +136,7 @@ front_alone n c marks ranks inside few em er = record {
         get_or-set_other (replicate 13 false) c x true false ne ∙ (unmarked 13 x ∙ sym (or-false (c == x) ∙ q.0)))
         (eqb_tells c x)
 
--- one place more is written
+-- One more element of an array is written.
 pub set_more : (rs : List ℕ) (i x v target : ℕ) → i < length rs → x < i + 1 → (x < i → get_or rs x 0 ≡ target) → (x ≡ i → v ≡ target) → get_or (set rs i v) x 0 ≡ target
 set_more rs i x v target room less before here = ⊎_elim
     (λ (q : (x == i ≡ true) × (x ≡ i)). ap (λ (k : ℕ). get_or (set rs i v) k 0) q.1 ∙ (get_or-set_same rs i v 0 room ∙ here q.1))

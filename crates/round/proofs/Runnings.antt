@@ -45,7 +45,7 @@ Runs-same (suc k) (suc k') s t u u' h h' d d' = same_by (turn s) k k' t u u' (λ
 abbrev pub replies : List Access → List (List ℕ)
 replies t = map (λ (a : Access). a.reply) t
 
--- where two runs with the same answers both come to a request, it is the same
+-- If two runs with the same replies both come to a request, it is the same request.
 asks_by : (o : Turn) (k j : ℕ) (t t' : List Access) (u v : Activation)
     → ((s : Activation) (x y : List Access) → replies x ≡ replies y → Runs k s x u → Runs j s y v → u ≡ v)
     → replies t ≡ replies t' → Onward (Runs k) o t u → Onward (Runs j) o t' v → u ≡ v
@@ -79,7 +79,7 @@ asking_same (suc k) zero s t t' u v q r f h n a b e d =
 asking_same (suc k) (suc j) s t t' u v q r f h n a b e d =
     asks_by (turn s) k j t t' u v (λ s' x y n' a' b'. asking_same k j s' x y u v q r f h n' a' b' e d) n a b
 
--- so the next request follows from the answers
+-- So the next request follows from the replies.
 pub request_same : (k j : ℕ) (s : Activation) (t t' : List Access) (u v : Activation) (q r : Request) (f h : List ℕ → Activation)
     → replies t ≡ replies t' → Runs k s t u → Runs j s t' v → turn u ≡ Asks q f → turn v ≡ Asks r h → q ≡ r
 request_same k j s t t' u v q r f h n a b e d =

@@ -1,4 +1,4 @@
--- What a general's letter tells, by rank and receiver.
+-- What a general's letter sends, by the rank of a label and the receiver.
 use Rattle.std.proofs.Common.{◌≡◌, ◌≢◌, ℕ, zero, suc, ◌+◌, ◌-◌, ◌<◌, ◌≤◌, List, [], ◌∷◌, length, take, get_or, Bool, true, false, cond, refl, sym, ap, ◌∙◌, Some, None, Option, arith, ⊎_elim}
 use Rattle.std.specs.Prelude.{slice_get, ◌==◌, bytes_eq, if◌then◌else◌}
 use Rattle.std.proofs.lemmas.Bool.{eq-eqb, eqb-true, false_from_ne_true}
@@ -14,7 +14,7 @@ use Rattle.outbox.specs.Contents.{order_among, order_at}
 use Rattle.round.specs.Letters.{Letter, value_beside, tells, letter_of}
 use Rattle.round.specs.Laws.{OutboxesTell}
 
--- what stands beside the only element that passes
+-- The element at the index of the only one that passes.
 beside-at : {A B : Type 0} (is : A → Bool) (d : B) (xs : List A) (ys : List B) (i : ℕ) (x : A) → slice_get xs i ≡ Some x → is x ≡ true → ((j : ℕ) (y : A) → slice_get xs j ≡ Some y → is y ≡ true → j ≡ i) → value_beside is d xs ys ≡ get_or ys i d
 beside-at is d [] ys i x at t only = cc
 beside-at is d (z ∷ xs) [] i x at t only = past i
@@ -44,7 +44,7 @@ relay_differ s i j u commander general = ⊎_elim
     (λ (q : (s.general == s.commander ≡ false) × (s.general ≢ s.commander)). rw q.0 (λ e f. proved_labels_differ s.generals s.commander s.general (s.round - 1) i j u commander general q.1 e f))
     (eqb_tells s.general s.commander)
 
--- by rank and receiver
+-- The order by rank and receiver.
 order_beside : (p k b : ℕ) (ns : List ℕ) (os : List (Option ℕ)) → order_among p (row_from k b ns) os ≡ value_beside (λ j. j == p) None ns os
 order_beside p k b [] os = refl
 order_beside p k b (n ∷ ns) [] = refl
@@ -77,7 +77,7 @@ kind_tells : (kind : Kind) (s : Shape) (outbox : List (List (Option ℕ))) (entr
 kind_tells Oral s outbox entries u p rank commander general at = spoken_tells s outbox entries u p rank commander general at
 kind_tells (Signed held) s outbox entries u p rank commander general at = sym (beside-nothing (λ j. j == p) None (receivers s u))
 
--- an outbox of signed messages tells nothing, and has no place
+-- An outbox of a signed campaign has no orders by rank and receiver.
 pub order_tells : (r : Relay) (outbox : List (List (Option ℕ))) (entries : List Entry) (u : List ℕ) (p rank : ℕ) → r.shape.commander < r.shape.generals → r.shape.general < r.shape.generals → slice_get (relay r.shape) rank ≡ Some u →
     order_at r outbox rank p ≡ tells (record { relay = r; rows = outbox; entries = entries }) u p
 order_tells r outbox entries u p rank commander general at = kind_tells r.kind r.shape outbox entries u p rank commander general at
@@ -87,7 +87,7 @@ proved_outboxes_tell = record {
   orders = λ outbox label rank receiver is at. sym (order_tells outbox.relay outbox.rows outbox.entries label receiver rank is.commander is.general at);
 }
 
--- where a general's letter stands
+-- The index of a general's letter.
 pub letter_stands : (row : List Letter) (g : ℕ) (l : Letter) → letter_of row g ≡ Some l → (i : ℕ) × (slice_get row i ≡ Some l) × (l.general ≡ g)
 letter_stands [] g l e = cc
 letter_stands (x ∷ row) g l e = ⊎_elim
@@ -95,13 +95,13 @@ letter_stands (x ∷ row) g l e = ⊎_elim
     (λ (q : (x.general == g ≡ false) × (x.general ≢ g)). let h : letter_of row g ≡ Some l = rw q.0 at e in let r = letter_stands row g l h in (suc r.0, r.1, r.2))
     (eqb_tells x.general g)
 
--- a letter of the round at its place
+-- The letter at an index.
 pub found_at : (row : List Letter) (i : ℕ) (l d : Letter) → i < length row → l ≡ get_or row i d → slice_get row i ≡ Some l
 found_at [] i l d lt at = absurd (omega arith)
 found_at (x ∷ row) zero l d lt at = ap Some (sym at)
 found_at (x ∷ row) (suc i) l d lt at = found_at row i l d (omega arith) at
 
--- the first letter of a general
+-- The first letter of a general.
 pub first_letter : (row : List Letter) (last i : ℕ) (l d : Letter) → i < length row → l ≡ get_or row i d → l.general ≡ last → letter_of (take i row) last ≡ None → letter_of row last ≡ Some l
 first_letter [] last i l d lt at is none = absurd (omega arith)
 first_letter (x ∷ row) last zero l d lt at is none = let e : x.general ≡ last = ap (λ (y : Letter). y.general) (sym at) ∙ is in rw (eq-eqb x.general last e) (ap Some (sym at))
@@ -127,7 +127,7 @@ none_next (x ∷ row) last (suc i) l d lt at ne none = ⊎_elim
 pub none_more : (row : List Letter) (last i : ℕ) (l d : Letter) → i < length row → l ≡ get_or row i d → (l.general ≡ last → ⊥) → letter_of (take i row) last ≡ None → letter_of (take (i + 1) row) last ≡ None
 none_more row last i l d lt at ne none = let z : i + 1 ≡ suc i = omega arith in ap (λ (k : ℕ). letter_of (take k row) last) z ∙ none_next row last i l d lt at ne none
 
--- past the last
+-- There is no letter after the last.
 pub none_left : (row : List Letter) (g i : ℕ) → length row ≤ i → letter_of (take i row) g ≡ None → slice_get row (length row) ≡ letter_of row g
 none_left row g i all none = nothing_past row ∙ (sym none ∙ ap (λ ls. letter_of ls g) (whole row i all))
   where

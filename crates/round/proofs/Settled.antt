@@ -1,4 +1,4 @@
--- What a run leaves as it is: program, context, relay and patience.
+-- What a run does not change: program, context, relay and patience.
 use Rattle.std.proofs.Common.{◌≡◌, ℕ, zero, suc, List, [], ◌∷◌, Bool, true, false, cond, refl, sym, ap, ◌∙◌, Option}
 use Rattle.insn.specs.declared.insn.Insn.{Insn}
 use Rattle.semantics.specs.Relay.{Relay}
@@ -50,7 +50,7 @@ runs_settled zero a t end h = record {
 }
 runs_settled (suc k) a t end h = settled_by a (turn a) k t end (λ b t' r. runs_settled k b t' end r) (turn_settles a) h
 
--- a run from a start is one from the start that its end tells
+-- A run from a start is one from the start that its end describes.
 pub start_told : (p : Option ℕ) (program : List Insn) (context : List ℕ) (relay : Relay) (k : ℕ) (t : List Access) (end : Activation) → Runs k (started p program context relay) t end
     → started end.patience end.program end.context end.relay ≡ started p program context relay
 start_told p program context relay k t end h =

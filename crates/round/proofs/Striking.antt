@@ -1,4 +1,4 @@
--- Those off a label, with one of them lacked.
+-- The generals off a label, of whom one is excluded.
 use Rattle.std.proofs.Common.{◌≡◌, ◌≢◌, ℕ, zero, suc, ◌+◌, ◌<◌, ◌≤◌, List, [], ◌∷◌, ◌++◌, length, take, get_or, Bool, true, false, not, ◌||◌, cond, refl, sym, ap, ◌∙◌, Some, arith, ⊎_elim, length-append, inl, inr}
 use Rattle.std.specs.Prelude.{slice_get, ◌==◌, nat_lt, filter}
 use Rattle.std.proofs.lemmas.Bool.{cases_Bool, eq-eqb, ltb-false, ltb-true, ne_eqb}
@@ -11,7 +11,7 @@ use Rattle.label.proofs.Ranks.{others-more_no, others-more_yes, eqb_sym}
 use Rattle.outbox.specs.Receivers.{struck}
 use Rattle.std.proofs.Math.Seq.{take-length}
 
--- one name more
+-- One more name is considered.
 next_struck : (p i : ℕ) (names : List ℕ) → i < length names → length (struck p (take (suc i) names)) ≡ length (struck p (take i names)) + cond {A = ℕ} (get_or names i 0 == p) 0 1
 next_struck p i [] lt = absurd (omega arith)
 next_struck p zero (x ∷ names) lt = one (x == p)
@@ -39,7 +39,7 @@ struck_same p x i names lt at e =
     let it : (get_or names i 0 == p) ≡ true = eq-eqb (get_or names i 0) p (sym at ∙ e) in
     struck_more p i names lt ∙ (ap (λ (b : Bool). length (struck p (take i names)) + cond {A = ℕ} b 0 1) it ∙ (omega arith))
 
--- one before whom, or behind whom, one is struck out
+-- How many of the first names remain, before and after the excluded one.
 pub struck_before : (p : ℕ) (names : List ℕ) (i : ℕ) → i ≤ length names → ((j : ℕ) → j < i → get_or names j 0 ≢ p) → length (struck p (take i names)) ≡ i
 struck_before p names zero le others_only = refl
 struck_before p names (suc i) le others_only =
@@ -61,7 +61,7 @@ struck_past p names own (suc more) lt it apart =
     let e : own + suc more + 1 ≡ own + more + 1 + 1 = omega arith in
     ap (λ (k : ℕ). length (struck p (take k names))) e ∙ (next ∙ (omega arith))
 
--- one lacked besides
+-- One more general is excluded.
 struck_filter : (p : ℕ) (w xs : List ℕ) → struck p (filter (λ x. not (on w x)) xs) ≡ filter (λ x. not (on (p ∷ w) x)) xs
 struck_filter p w [] = refl
 struck_filter p w (x ∷ xs) =
@@ -77,7 +77,7 @@ struck_filter p w (x ∷ xs) =
 pub struck_others : (n p : ℕ) (w : List ℕ) → struck p (others n w) ≡ others n (p ∷ w)
 struck_others n p w = struck_filter p w (generals n)
 
--- those before the one at a place are those below him
+-- The names before an index are those below the one at the index.
 take_left : (i : ℕ) (xs ys : List ℕ) → i ≤ length xs → take i (xs ++ ys) ≡ take i xs
 take_left zero xs ys le = refl
 take_left (suc i) [] ys le = absurd (omega arith)
@@ -111,7 +111,7 @@ take_others (suc n) i x w at = elim (cases_Bool (on w n)) [
       (eqb_tells i (length (others n w)))
 ]
 
--- the one at a place among so many names that are those off a label
+-- The name at an index of the generals off a label.
 pub take_get : (k i : ℕ) (xs : List ℕ) → i < k → slice_get (take k xs) i ≡ slice_get xs i
 take_get zero i xs lt = absurd (omega arith)
 take_get (suc k) i [] lt = refl
@@ -124,7 +124,7 @@ take_twice zero (suc i) xs le = absurd (omega arith)
 take_twice (suc k) (suc i) [] le = refl
 take_twice (suc k) (suc i) (x ∷ xs) le = ap (λ zs. x ∷ zs) (take_twice k i xs (omega arith))
 
--- who stands at a place
+-- States that a general is at this index.
 pub record IsNamed (n p x i : ℕ) (w names : List ℕ) : Type 0 where
   pub within : x < n
   pub off : on w x ≡ false
@@ -141,7 +141,7 @@ named n p x i count w names all lt room at =
       below = ap (λ xs. length (struck p xs)) (sym (take_twice count i names (omega arith)) ∙ (ap (take i) all ∙ take_others n i x w here)) ∙ ap length (struck_others x p w);
     }
 
--- they ascend
+-- The names ascend.
 pub ascend : (n i j count : ℕ) (w names : List ℕ) → take count names ≡ others n w → i < j → j < count → j < length names → get_or names i 0 < get_or names j 0
 ascend n i j count w names all less lt room =
     let last : slice_get (others n w) j ≡ Some (get_or names j 0) = sym (ap (λ xs. slice_get xs j) all) ∙ (take_get count j names lt ∙ slice_get-get_or names j 0 room) in

@@ -1,4 +1,4 @@
--- The trees of all lieutenants, along one walk of the labels.
+-- The trees of all lieutenants are filled in one walk of the labels.
 use Rattle.std.proofs.Common.{◌≡◌, ◌≢◌, ℕ, ◌+◌, ◌-◌, ◌*◌, ◌<◌, List, [], ◌∷◌, ◌++◌, length, get_or, Bool, true, false, ◌||◌, cond, refl, sym, ap, subst, ◌∙◌, Some, Option, arith, ⊎_elim}
 use Rattle.std.specs.Prelude.{slice_get, slice_index, slice_index_or, ◌==◌}
 use Rattle.std.proofs.lemmas.Bool.{eq-eqb, ne_eqb, true≢false, cases_Bool}
@@ -22,7 +22,7 @@ use Rattle.round.proofs.Walking.{all_children, child_long, first_told, same_camp
 use Rattle.round.proofs.Descending.{all_walked, child_first, child_past}
 use Rattle.std.proofs.Math.Bool.{or-true}
 
--- what was told of the labels that begin with this one, up to those where a general below x is next
+-- States what was entered for the labels that begin with this one and continue with a general below `x`.
 pub record IsToldUpTo (row : List Letter) (k : ℕ) (f : LabelPrefix) (x : ℕ) (t u : LieutenantTree) : Type 0 where
   pub on : slice_index_or f.on t.general false ≡ true → u ≡ t
   pub off : slice_index_or f.on t.general false ≡ false → (w : List ℕ) → IsFront t.generals t.commander w f →
@@ -34,7 +34,7 @@ same_tree e = cc
 unlike : (b : Bool) → b ≡ true → b ≡ false → ⊥
 unlike b yes_it no_it = true≢false (sym yes_it ∙ no_it)
 
--- one tree's walk
+-- The walk for one tree.
 pub own_walk : (n : ℕ) (row : List Letter) (places : List ℕ) (k : ℕ) (f : LabelPrefix) (trees : List LieutenantTree) (route : IsRoute n row places k f trees) (t : LieutenantTree) → IsDueIn n route.c row t → slice_index_or f.on t.general false ≡ false → (w : List ℕ) → IsFront t.generals t.commander w f → IsWalk t row places k f
 own_walk n row places k f trees route t d mark w front = record {
   due = d.due;
@@ -49,7 +49,7 @@ own_walk n row places k f trees route t d mark w front = record {
 pub own_front : (n c : ℕ) (row : List Letter) (f : LabelPrefix) (w : List ℕ) (t : LieutenantTree) → IsDueIn n c row t → IsFront n c w f → IsFront t.generals t.commander w f
 own_front n c row f w t d front = rw (d.generals, d.commander) front
 
--- nothing is told yet
+-- Nothing is entered yet.
 pub up_from : (n : ℕ) (row : List Letter) (places : List ℕ) (k : ℕ) (f : LabelPrefix) (trees : List LieutenantTree) → IsRoute n row places k f trees → AreEach (IsToldUpTo row k f 0) trees trees
 up_from n row places k f trees route = record {
   count = refl;
@@ -61,7 +61,7 @@ up_from n row places k f trees route = record {
       });
 }
 
--- the campaign stays
+-- The tree stays one of the same campaign.
 pub same_up : (n c : ℕ) (row : List Letter) (k : ℕ) (f : LabelPrefix) (x : ℕ) (w : List ℕ) (t u : LieutenantTree) → IsDueIn n c row t → IsFront n c w f → IsToldUpTo row k f x t u → SameCampaign t u
 same_up n c row k f x w t u d front h = ⊎_elim
     (λ (q : slice_index_or f.on t.general false ≡ true). let e : u ≡ t = h.on q in rw e (record { generals = refl; bound = refl; commander = refl; general = refl }))
@@ -76,11 +76,11 @@ due_after n c row t u d same = record {
   due = same_due t u row same d.due;
 }
 
--- who stood at a place before
+-- The tree that was at an index before.
 before_at : (Are : LieutenantTree → LieutenantTree → Type 0) (old new : List LieutenantTree) (j : ℕ) (u : LieutenantTree) → AreEach Are old new → slice_get new j ≡ Some u → slice_get old j ≡ Some (get_or old j u)
 before_at Are old new j u h now = slice_get-get_or old j u (let l = slice_get_within new j u now in let e = h.count in omega arith)
 
--- the walk from a child
+-- The walk from an extended label.
 pub child_route : (n : ℕ) (row : List Letter) (places : List ℕ) (k : ℕ) (f g : LabelPrefix) (old cur : List LieutenantTree) (route : IsRoute n row places k f old) (x : ℕ) → f.size + 1 ≢ k → IsFront n route.c (route.w ++ x ∷ []) g → AreEach (IsToldUpTo row k f x) old cur → IsRoute n row places k g cur
 child_route n row places k f g old cur route x more child told = record {
   few = route.few;
@@ -98,7 +98,7 @@ child_route n row places k f g old cur route x more child told = record {
       due_after n route.c row (get_or old j u) u d (same_up n route.c row k f x route.w (get_or old j u) u d route.front (told.each j (get_or old j u) u was now));
 }
 
--- nobody more
+-- No more generals are excluded.
 on_same : (p x : ℕ) (w : List ℕ) → on (p ∷ w) x ≡ true → length (others x (p ∷ w)) ≡ length (others (x + 1) (p ∷ w))
 on_same p x w it =
     let more : length (others (x + 1) (p ∷ w)) ≡ length (others x (p ∷ w)) + cond {A = ℕ} (on (p ∷ w) x) 0 1 = others_length_more (p ∷ w) x in
@@ -111,7 +111,7 @@ off_more p x w it =
     let one : cond {A = ℕ} (on (p ∷ w) x) 0 1 ≡ 1 = ap (λ (q : Bool). cond {A = ℕ} q 0 1) it in
     omega arith
 
--- past someone who stands on the label
+-- A general on the label is skipped.
 pub up_on : (n : ℕ) (row : List Letter) (places : List ℕ) (k : ℕ) (f : LabelPrefix) (old cur : List LieutenantTree) → IsRoute n row places k f old → (x : ℕ) → x < n → slice_index_or f.on x false ≡ true → AreEach (IsToldUpTo row k f x) old cur → AreEach (IsToldUpTo row k f (x + 1)) old cur
 up_on n row places k f old cur route x within mark told = record {
   count = told.count;
@@ -127,7 +127,7 @@ up_on n row places k f old cur route x within mark told = record {
       };
 }
 
--- past someone who is off it, by whom the label was prolonged
+-- A general off the label extends it, and the labels with him are entered.
 one_off : (n : ℕ) (row : List Letter) (places : List ℕ) (k : ℕ) (f g : LabelPrefix) (old : List LieutenantTree) (route : IsRoute n row places k f old) (x : ℕ) → x < n → slice_index_or f.on x false ≡ false → ((w : List ℕ) → IsFront n route.c w f → IsFront n route.c (w ++ x ∷ []) g) →
     (t u v : LieutenantTree) → IsDueIn n route.c row t → IsToldUpTo row k f x t u → IsToldUnder row k g u v → IsToldUpTo row k f (x + 1) t v
 unfolding own_walk
@@ -170,7 +170,7 @@ up_off n row places k f g old cur new route x within mark child told below = rec
       one_off n row places k f g old route x within mark child t (get_or cur j v) v (route.due j t was) (told.each j t (get_or cur j v) was at) (below.each j (get_or cur j v) v at now);
 }
 
--- past all
+-- All generals were considered.
 pub up_all : (n : ℕ) (row : List Letter) (places : List ℕ) (k : ℕ) (f : LabelPrefix) (old new : List LieutenantTree) → IsRoute n row places k f old → AreEach (IsToldUpTo row k f n) old new → AreEach (IsToldUnder row k f) old new
 up_all n row places k f old new route told = record {
   count = told.count;
@@ -187,7 +187,7 @@ up_all n row places k f old new route told = record {
       };
 }
 
--- where the walk began with the commander's label
+-- The walk begins with the commander's label.
 pub all_told : (n c : ℕ) (row : List Letter) (k : ℕ) (f : LabelPrefix) (old new : List LieutenantTree) → ((j : ℕ) (t : LieutenantTree) → slice_get old j ≡ Some t → IsDueIn n c row t) → k ≡ round_of row → 1 < k → IsFront n c (c ∷ []) f → AreEach (IsToldUnder row k f) old new → AreEach (IsTold row) old new
 all_told n c row k f old new due ek more front told = record {
   count = told.count;
@@ -199,18 +199,18 @@ all_told n c row k f old new due ek more front told = record {
       record { same = under_it.same; filled = all_walked t row k f u d.kind ek more own under_it };
 }
 
--- what is read at a place
+-- The tree that is read at an index.
 pub read_again : (trees : List LieutenantTree) (i : ℕ) (t u : LieutenantTree) → i < length trees → get_or trees i t ≡ get_or trees i u
 read_again trees i t u lt = same_default trees i t u lt
 
 pub stays_read : (trees : List LieutenantTree) (i : ℕ) (u : LieutenantTree) → i < length trees → get_or trees i u ≡ get_or trees i (get_or trees i u)
 stays_read trees i u lt = same_default trees i u (get_or trees i u) lt
 
--- who tells a tree's lieutenant
+-- The generals who send a tree's lieutenant orders about the label.
 pub own_tellers : (n : ℕ) (row : List Letter) (f : LabelPrefix) (tellers : Tellers) (t : LieutenantTree) → t.generals ≡ n → AreTellers row n f n tellers → AreTellers row t.generals f t.generals tellers
 own_tellers n row f tellers t e all = rw e all
 
--- of the commander's label
+-- The commander's label is entered.
 pub first_done : (n c : ℕ) (row : List Letter) (t u : LieutenantTree) (value : Option ℕ) → IsDueIn n c row t → round_of row ≡ 1 → value ≡ order_in_letter (letter_of row c) 0 t.general → SameCampaign t u →
     ((M : Messages) (w : List ℕ) → IsFilled t M → slice_get (labels t.generals t.commander t.general 1) 0 ≡ Some w → IsFilled u (told_also M w value)) → IsTold row t u
 first_done n c row t u value d round is same fill =
@@ -223,7 +223,7 @@ first_done n c row t u value d round is same fill =
           (let one : length (labels t.generals t.commander t.general 1) ≡ 1 = ap length alone in omega arith);
     }
 
--- without letters
+-- Without letters nothing is entered.
 pub none_told : (n c : ℕ) (row : List Letter) (old : List LieutenantTree) → ((j : ℕ) (t : LieutenantTree) → slice_get old j ≡ Some t → IsDueIn n c row t) → row ≡ [] → AreEach (IsTold row) old old
 none_told n c row old due none = record {
   count = refl;
@@ -235,13 +235,13 @@ none_told n c row old due none = record {
       });
 }
 
--- the round of the letters
+-- The round of the letters.
 pub round_told : (n c : ℕ) (row : List Letter) (shape : Shape) (inside item : Letter) → AreOfCampaign n c row → inside ≡ item → item ≡ get_or row 0 item → 0 < length row → shape ≡ inside.outbox.relay.shape → shape.round ≡ round_of row
 round_told n c row shape inside item due view at some same =
     let there : slice_get row 0 ≡ Some item = slice_get_read row (length row) 0 item refl some at in
     ap (λ (s : Shape). s.round) (same ∙ (ap (λ (l : Letter). l.outbox.relay.shape) view ∙ due 0 item there))
 
--- how many are below the next
+-- How many generals are below the next one.
 pub below_more : (x : ℕ) (w : List ℕ) (below : ℕ) → on w x ≡ false → below ≡ length (others x w) → below + 1 ≡ length (others (x + 1) w)
 below_more x w below off e =
     let more : length (others (x + 1) w) ≡ length (others x w) + cond {A = ℕ} (on w x) 0 1 = others_length_more w x in

@@ -1,4 +1,4 @@
--- The trees of those off a label, each found by its lieutenant.
+-- The trees are found by their lieutenants.
 use Rattle.std.proofs.Common.{◌≡◌, ◌≢◌, ℕ, zero, suc, ◌+◌, ◌<◌, ◌≤◌, List, [], ◌∷◌, ◌++◌, length, take, get_or, set, Bool, true, false, ◌||◌, refl, sym, ap, ◌∙◌, Some, arith, ⊎_elim, get_or-set_same, get_or-set_other, length-set, replicate}
 use Rattle.std.specs.Prelude.{slice_get, slice_index, slice_index_or, ◌==◌}
 use Rattle.std.proofs.lemmas.Bool.{eq-eqb, ne_eqb, true≢false, cases_Bool}
@@ -22,7 +22,7 @@ or_false : (b : Bool) → (b || false) ≡ b
 or_false true = refl
 or_false false = refl
 
--- the table, tree by tree
+-- The table is filled, one tree after another.
 pub record AreTreeIndicesUpTo (trees : List LieutenantTree) (i : ℕ) (table : List ℕ) : Type 0 where
   pub long : length table ≡ 13
   pub found : (j : ℕ) (t : LieutenantTree) → j < i → slice_get trees j ≡ Some t → slice_index table t.general ≡ j
@@ -68,7 +68,7 @@ table_all trees i table h all = record {
   only = h.only;
 }
 
--- the lieutenants stay
+-- The lieutenants of the trees stay the same.
 pub table_stays : (old new : List LieutenantTree) (table : List ℕ) → AreTreeIndices old table → length new ≡ length old → ((j : ℕ) (t u : LieutenantTree) → slice_get old j ≡ Some t → slice_get new j ≡ Some u → u.general ≡ t.general) → AreTreeIndices new table
 table_stays old new table h long same = record {
   long = h.long;
@@ -83,7 +83,7 @@ table_stays old new table h long same = record {
     before : (j : ℕ) (u : LieutenantTree) → slice_get new j ≡ Some u → slice_get old j ≡ Some (get_or old j u)
     before j u there = slice_get-get_or old j u (let l = slice_get_within new j u there in omega arith)
 
--- the trees of the lieutenants who are named are told, the others are as they were
+-- States that the trees of the lieutenants in `names` are filled, and the others are as before.
 pub record AreNamedTold (row : List Letter) (k : ℕ) (f : LabelPrefix) (names : List ℕ) (old new : List LieutenantTree) : Type 0 where
   pub count : length new ≡ length old
   pub general : (j : ℕ) (t u : LieutenantTree) → slice_get old j ≡ Some t → slice_get new j ≡ Some u → u.general ≡ t.general
@@ -98,11 +98,11 @@ named_none row k f old = record {
   left = λ j t u was now off. some_same (sym now ∙ was);
 }
 
--- a name more, that is no lieutenant's of these trees
+-- One more name is considered, which is not this lieutenant's.
 unnamed : (names : List ℕ) (x y : ℕ) → x ≢ y → on (names ++ x ∷ []) y ≡ on names y
 unnamed names x y ne = on-push names x y ∙ rw (ne_eqb x y ne) (or_false (on names y))
 
--- a name does not stand before its place
+-- A name is not among those before it.
 name_is_new : (n x i count : ℕ) (w names : List ℕ) → take count names ≡ others n w → i < count → i < length names → x ≡ get_or names i 0 → on (take i names) x ≡ false
 name_is_new n x i count w names all lt room at =
     let there : slice_get names i ≡ Some x = slice_get-get_or names i 0 room ∙ ap Some (sym at) in
@@ -129,7 +129,7 @@ module _ (n : ℕ) (row : List Letter) (places : List ℕ) (k : ℕ) (f : LabelP
   mark : slice_index_or f.on x false ≡ false
   mark = route.front.marks x name_within ∙ (named n x x i tellers.count route.w tellers.generals (all.names route.c route.w route.front) lt room at).off
 
-  -- where no tree is his
+  -- A general without a tree is skipped.
   pub named_skip : (new : List LieutenantTree) → AreNamedTold row k f (take i tellers.generals) old new → length new ≤ place → AreNamedTold row k f (take (i + 1) tellers.generals) old new
   named_skip new h past = rw more (record {
     count = h.count;
@@ -145,7 +145,7 @@ module _ (n : ℕ) (row : List Letter) (places : List ℕ) (k : ℕ) (f : LabelP
           let l = h.count in
           omega arith
 
-  -- where one is: it is as it was
+  -- The next general's tree is as before.
   pub record IsNext (new : List LieutenantTree) (t : LieutenantTree) : Type 0 where
     pub here : slice_get new place ≡ Some t
     pub was : slice_get old place ≡ Some t
@@ -217,7 +217,7 @@ module _ (n : ℕ) (row : List Letter) (places : List ℕ) (k : ℕ) (f : LabelP
       elsewhere : (j : ℕ) (a : LieutenantTree) → slice_get old j ≡ Some a → j ≢ place → x ≢ a.general
       elsewhere j a was ne e = ne (sym (s.found j a was) ∙ (sym (ap (λ (y : ℕ). slice_index table y) e) ∙ sym found))
 
--- past all who are off the label
+-- All generals off the label were considered.
 in_others : (n p : ℕ) (w : List ℕ) → p < n → on w p ≡ false → on (others n w) p ≡ true
 in_others n p w lt off = on-get (others n w) (length (others p w)) p (others_here n w (length (others p w)) p lt off refl)
 
@@ -241,12 +241,12 @@ named_all n row places k f old new route tellers all h = record {
       };
 }
 
--- along the walk
+-- The table stays right during the walk.
 pub table_up : (n : ℕ) (row : List Letter) (places : List ℕ) (k : ℕ) (f : LabelPrefix) (old cur : List LieutenantTree) (route : IsRoute n row places k f old) (x : ℕ) → AreEach (IsToldUpTo row k f x) old cur → (table : List ℕ) → AreTreeIndices old table → AreTreeIndices cur table
 table_up n row places k f old cur route x told table h =
     table_stays old cur table h told.count (λ j t u was now. (same_up n route.c row k f x route.w t u (route.due j t was) route.front (told.each j t u was now)).general)
 
--- one tree alone
+-- A single tree is different from all others.
 pub alone_apart : (t : LieutenantTree) → AreApart (t ∷ [])
 alone_apart t zero zero a b first last e = refl
 alone_apart t zero (suc j) a b first last e = cc

@@ -18,7 +18,7 @@ use Rattle.round.specs.Runs.{Onward, Runs, IsWithin}
 use Rattle.round.proofs.Patience.{runs_under}
 use Rattle.round.specs.Running.{Stopped, IsBack, activation_of, Silently, Pauses, lesser}
 
--- so many steps are counted
+-- The number of steps is counted.
 pub leads_counts : (program : List Insn) (context : List ℕ) (relay : Relay) (n : ℕ) (s t : State) → Leads program context relay n s t → t.steps ≡ s.steps + n
 leads_counts program context relay zero s t same = (let e = ap (λ (u : State). u.steps) same in omega arith)
 leads_counts program context relay (suc n) s t (next, is, more) =
@@ -37,7 +37,7 @@ one_taken program context relay (suc zero) s t (next, is, same) past exactly = i
 one_taken program context relay (suc (suc n)) s t leads past exactly =
     absurd (let e = leads_counts program context relay (suc (suc n)) s t leads in let f = exactly (omega arith) in omega arith)
 
--- what was asked is the step's request, and taken back it is the state before
+-- The request is the one that the step makes. Withdrawing it restores the state before it.
 asked_one : (program : List Insn) (context : List ℕ) (relay : Relay) (answers : List (List ℕ)) (s : State) (new : Standing) (r : Request) →
     Requests program context relay answers (s.steps + 1) s r new → s ≡ before new.state
 asked_one program context relay answers s new r h = none_taken program context relay h.taken s (before new.state) h.leads (let most = h.early in let counted = h.counted in omega arith)
@@ -56,7 +56,7 @@ stopped program context relay answers s new (Exited n) h =
 stopped program context relay answers s new Limit h =
     (subst (λ (o : Outcome). Stopped o Limit new.state) (sym (one_taken program context relay h.taken s new.state h.leads h.past h.exactly)) refl, tt)
 
--- as the machine is called
+-- The same, as the code calls the machine.
 pub stopped_with : (program : List Insn) (bytes context : List ℕ) (old new : Standing) (limit : ℕ) (result : StopReason) → context ≡ bytes → limit ≡ old.state.steps + 1 → IsOfRun program bytes old →
     ((answers : List (List ℕ)) → Reached program context old.relay answers old.state → Advances program context old.relay answers limit old.state result new) →
     Stopped (step program bytes old.relay old.state) result new.state × IsBack result old.state new.state
@@ -67,7 +67,7 @@ stopped_with program bytes context old new limit result same counted run advance
     subst (λ (l : List ℕ). Stopped (step program l old.relay old.state) result new.state × IsBack result old.state new.state) same
     (stopped program context old.relay run.answers old.state new result a)
 
--- a run of the machine without an access is one of turns
+-- A run of the machine without an access is a run of turns.
 module _ (program : List Insn) (context : List ℕ) (relay : Relay) where
   leads_runs : (n : ℕ) (s t : State) → Leads program context relay n s t → Runs n (activation_of None program context (record { relay = relay; state = s }) false) [] (activation_of None program context (record { relay = relay; state = t }) false)
   leads_runs zero s t same = (refl, ap (λ (u : State). activation_of None program context (record { relay = relay; state = u }) false) same)
@@ -92,13 +92,13 @@ module _ (program : List Insn) (context : List ℕ) (relay : Relay) where
   late_pause limit a (Asks q f) le = tt
   late_pause limit a Ended le = tt
 
--- what it comes to
+-- Returns whether the program has exited.
 abbrev pub IsOver : StopReason → Bool
 IsOver (Asked r) = false
 IsOver (Exited n) = true
 IsOver Limit = false
 
--- where it stands once a request is taken back
+-- Returns the state after a request, if there is one, is withdrawn.
 abbrev pub Stood : StopReason → State → State
 Stood (Asked r) s = before s
 Stood (Exited n) s = s
@@ -115,7 +115,7 @@ ahead_by program context relay answers limit s new (Exited n) h =
 ahead_by program context relay answers limit s new Limit h =
     ((h.taken, leads_runs program context relay h.taken s new.state h.leads), late_pause program context relay limit (activation_of None program context (record { relay = relay; state = new.state }) false) (turn (activation_of None program context (record { relay = relay; state = new.state }) false)) h.past)
 
--- as the machine is called
+-- The same, as the code calls the machine.
 pub ahead_with : (program : List Insn) (bytes context : List ℕ) (old new : Standing) (limit : ℕ) (result : StopReason) → context ≡ bytes → IsOfRun program bytes old →
     ((answers : List (List ℕ)) → Reached program context old.relay answers old.state → Advances program context old.relay answers limit old.state result new) →
     (stood : Standing) → stood.relay ≡ old.relay → stood.state ≡ Stood result new.state →
@@ -127,7 +127,7 @@ ahead_with program bytes context old new limit result same run advances stood sh
     let there : record { relay = old.relay; state = Stood result new.state } ≡ stood = (λ i. record { relay = sym shape_is i; state = sym state_is i }) in
     subst (λ (l : List ℕ). A l stood) same (subst (λ (st : Standing). A context st) there done)
 
--- how many steps it has then
+-- How many steps the activation has then taken.
 pub taken_within : (program : List Insn) (context : List ℕ) (relay : Relay) (answers : List (List ℕ)) (limit m : ℕ) (s : State) (new : Standing) (result : StopReason) →
     Advances program context relay answers limit s result new → s.steps ≤ m → limit ≤ m → (Stood result new.state).steps ≤ m
 taken_within program context relay answers limit m s new (Asked r) h few le = (let b = h.early in omega arith)
@@ -142,7 +142,7 @@ not_yet : (p : Option ℕ) (limit n : ℕ) → is_reached p n ≡ false → less
 not_yet None limit n free le = le
 not_yet (Some p) limit n free le = (let l = leb-false p n free in omega arith)
 
--- under a patience: as far as that reaches
+-- With a patience the machine runs at most as far as this allows.
 module _ (p : Option ℕ) (program : List Insn) (context : List ℕ) where
   pauses_by : (limit : ℕ) (stood : Standing) (o : Outcome) → is_reached p stood.state.steps ≡ false →
       Pauses (lesser p limit) (activation_of None program context stood false) (turned (activation_of None program context stood false) o) → Pauses limit (activation_of p program context stood false) (turned (activation_of p program context stood false) o)
@@ -164,7 +164,7 @@ module _ (p : Option ℕ) (program : List Insn) (context : List ℕ) where
       by false true e h = tt
       by false false e h = pauses_by limit stood (step program context stood.relay stood.state) e h
 
--- as the machine is called
+-- The same, as the code calls the machine.
 pub within_with : (program : List Insn) (bytes context : List ℕ) (old new : Standing) (limit : ℕ) (result : StopReason) → context ≡ bytes → IsOfRun program bytes old →
     ((answers : List (List ℕ)) → Reached program context old.relay answers old.state → Advances program context old.relay answers limit old.state result new) →
     (state : State) → state ≡ Stood result new.state → (m : ℕ) → old.state.steps ≤ m → limit ≤ m → state.steps ≤ m
@@ -172,7 +172,7 @@ within_with program bytes context old new limit result same run advances state s
     let reached : Reached program context old.relay run.answers old.state = subst (λ (l : List ℕ). Reached program l old.relay run.answers old.state) (sym same) run.reached in
     subst (λ (s : State). s.steps ≤ m) (sym state_is) (taken_within program context old.relay run.answers limit m old.state new result (advances run.answers reached) few le)
 
--- one step is counted
+-- One step is counted.
 pub stopped_counts : (o : Outcome) (result : StopReason) (s new : State) → CountsOnce s o → Stopped o result new → new.steps ≡ s.steps + 1
 stopped_counts (Next t) Limit s new h at = ap (λ (u : State). u.steps) at ∙ h
 stopped_counts (Next t) (Asked r) s new h at = absurd at
@@ -189,7 +189,7 @@ lesser_within : (p : Option ℕ) (limit most old new : ℕ) → most ≡ lesser 
 lesser_within None limit most old new is few within = tt
 lesser_within (Some p) limit most old new is few within = within p few (omega arith)
 
--- as it is called under a patience
+-- The same with a patience, as the code calls the machine.
 pub went_under : (p : Option ℕ) (program code : List Insn) (context bytes : List ℕ) (limit most : ℕ) (old new : Standing) (was over : Bool) (a : Activation) → code ≡ program → bytes ≡ context → most ≡ lesser p limit →
     activation_of p program context old was ≡ a → has_ended a ≡ false → IsWithin p old.state.steps → ((m : ℕ) → old.state.steps ≤ m → most ≤ m → new.state.steps ≤ m) →
     Silently (activation_of None code bytes old false) (activation_of None code bytes new over) →

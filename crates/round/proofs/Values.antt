@@ -1,4 +1,4 @@
--- The values that a lieutenant took are a level of his tree.
+-- The orders that a lieutenant took are a level of his tree.
 use Rattle.std.proofs.Common.{◌≡◌, ◌≢◌, ℕ, zero, suc, ◌+◌, ◌-◌, ◌<◌, ◌≤◌, ◌^◌, List, [], ◌∷◌, length, map, take, All, subst, true, false, refl, sym, ap, ◌∙◌, Some, arith, ⊎_elim, ◌⊎◌, inl, inr, get_or, Result, Ok, Err}
 use Rattle.std.specs.Prelude.{slice_get, IfOk, OnOk, Vec, ◌==◌}
 use Rattle.std.proofs.lemmas.Bool.Decides.{eqb_tells}
@@ -34,7 +34,7 @@ relay_lieutenant s g k ne = ⊎_elim
     (λ (q : (g == s.commander ≡ false) × (g ≢ s.commander)). rw q.0 (let e : suc k - 1 ≡ k = omega arith in ap (λ (j : ℕ). labels s.generals s.commander g j) e))
     (eqb_tells g s.commander)
 
--- what a lieutenant took is the level of the labels of the round before, nothing as RETREAT
+-- They are the level for labels as long as the number of the previous round, where a missing order is RETREAT.
 pub values_level : (s : Scenario) (before : List (List Letter)) (g k : ℕ) → s.commander < s.generals → g < s.generals → g ≢ s.commander → 0 < k →
     map (took s before g) (relay (shape_of s g (suc k))) ≡ map order_of (level_told s.generals s.commander g (messages before) k)
 values_level s before g k commander general ne some =
@@ -43,7 +43,7 @@ values_level s before g k commander general ne some =
     (λ i w at. heard_taken (messages before) s.order g w (let e = (proved_labels_are_exact.only s.generals s.commander g k i w commander general ne at).2 in omega arith))
     ∙ map_twice order_of (λ w. messages before w g) (labels s.generals s.commander g k))
 
--- of the labels of a length only so many rounds tell
+-- The level of a length depends only on as many rounds.
 level_front : (s : Scenario) (before : List (List Letter)) (g k : ℕ) → s.commander < s.generals → g < s.generals → g ≢ s.commander → 0 < k →
     level_told s.generals s.commander g (messages before) k ≡ level_told s.generals s.commander g (messages (take k before)) k
 level_front s before g k commander general ne some =
@@ -54,14 +54,14 @@ level_front s before g k commander general ne some =
     by [] e = absurd (omega arith)
     by (x ∷ w) e = sym (messages-front before k x w g (omega arith))
 
--- the level of a length is what so many rounds told
+-- The level of a length has what these rounds have delivered.
 own_level : (s : Scenario) (before : List (List Letter)) (g k : ℕ) (t : LieutenantTree) (level : List ℕ) → IsScenario s → IsTreeOf s before g t → 0 < k →
     ((M : Messages) → IsFilled t M → level ≡ map order_of (level_told t.generals t.commander t.general M k)) → level ≡ map order_of (level_told s.generals s.commander g (messages (take k before)) k)
 own_level s before g k t level is h some told =
     told (messages before) h.filled
     ∙ ap (map order_of) ((λ i. level_told (h.generals i) (h.commander i) (h.general i) (messages before) k) ∙ level_front s before g k is.commander h.within h.lieutenant some)
 
--- the numbers of a later context, from the tree's level
+-- The numbers of a later context come from the tree's level.
 later_is : (s : Scenario) (before : List (List Letter)) (g k bound : ℕ) (t : LieutenantTree) (shape : Shape) (level : List ℕ) → IsScenario s → IsTreeOf s before g t → k ≤ length before → 0 < k → shape ≡ shape_of s g (k + 1) → bound ≡ s.bound →
     ((M : Messages) → IsFilled t M → level ≡ map order_of (level_told t.generals t.commander t.general M k)) → context_bytes (context_numbers shape bound level) ≡ context_of s (take k before) g
 later_is s before g k bound t shape level is h le some es eb told =
@@ -94,7 +94,7 @@ none_relayed s g k first other = ⊎_elim
     (λ (q : (g == s.commander ≡ false) × (g ≢ s.commander)). rw q.0 (let e : suc k - 1 ≡ 0 = (let z = first q.1 in omega arith) in ap (λ (j : ℕ). labels s.generals s.commander g j) e))
     (eqb_tells g s.commander)
 
--- the numbers of a context without values
+-- The numbers of a context without orders.
 pub first_is : (s : Scenario) (before : List (List Letter)) (g k bound : ℕ) (shape : Shape) → k ≡ length before → shape ≡ shape_of s g (k + 1) → bound ≡ s.bound → (g ≢ s.commander → k ≡ 0) → (((shape.general ≡ shape.commander) × (k + 1 ≢ 1)) ⊎ (shape.general ≢ shape.commander)) →
     context_bytes (context_numbers shape bound []) ≡ context_of s before g
 first_is s before g k bound shape ek es eb first other =
@@ -106,13 +106,13 @@ first_is s before g k bound shape ek es eb first other =
     sym (ap (map (took s before g)) (ap (λ (j : ℕ). relay (shape_of s g j)) (sym size) ∙ none)) in
     (λ i. context_bytes (context_numbers (there i) (eb i) (values i)))
 
--- in the first round
+-- The context in the first round.
 pub first_told : {E : Type 0} (r : Result (Vec ℕ Global) E) (s : Scenario) (h : ToldSeen) (g k : ℕ) → k ≡ 0 → IfOk r (λ v. v.items ≡ context_of s [] g) →
     IfOk r (λ v. (before : List (List Letter)) → WasTold s before h → v.items ≡ context_of s (take k before) g)
 first_told (Ok v) s h g k none is = λ before told. is ∙ ap (λ (j : ℕ). context_of s (take j before) g) (sym none)
 first_told (Err e) s h g k none is = tt
 
--- the commander later on
+-- The commander's context in a later round.
 pub commander_told : {E : Type 0} (r : Result (Vec ℕ Global) E) (s : Scenario) (h : ToldSeen) (g bound k : ℕ) (shape : Shape) → k ≤ h.rounds → (k ≡ 0 → ⊥) → g ≡ s.commander → shape ≡ shape_of s g (k + 1) → bound ≡ s.bound →
     IfOk r (λ v. v.items ≡ context_bytes (context_numbers shape bound [])) → IfOk r (λ v. (before : List (List Letter)) → WasTold s before h → v.items ≡ context_of s (take k before) g)
 commander_told (Ok v) s h g bound k shape le some eg es eb is =
@@ -121,7 +121,7 @@ commander_told (Ok v) s h g bound k shape le some eg es eb is =
     is ∙ first_is s (take k before) g k bound shape (sym long) es eb (λ ne. absurd (ne eg)) (inl (ap (λ (x : Shape). x.general) es ∙ (eg ∙ sym (ap (λ (x : Shape). x.commander) es)), λ e. some (omega arith)))
 commander_told (Err e) s h g bound k shape le some eg es eb is = tt
 
--- a lieutenant later on
+-- A lieutenant's context in a later round.
 pub later_told : {E : Type 0} (r : Result (Vec ℕ Global) E) (s : Scenario) (h : ToldSeen) (g bound k i : ℕ) (t : LieutenantTree) (shape : Shape) (level : List ℕ) → IsScenario s → k ≤ h.rounds → (k ≡ 0 → ⊥) → lieutenant_at s.commander i ≡ g → i < length h.trees → t ≡ get_or h.trees i t →
     shape ≡ shape_of s g (k + 1) → bound ≡ s.bound → ((M : Messages) → IsFilled t M → level ≡ map order_of (level_told t.generals t.commander t.general M k)) →
     IfOk r (λ v. v.items ≡ context_bytes (context_numbers shape bound level)) → IfOk r (λ v. (before : List (List Letter)) → WasTold s before h → v.items ≡ context_of s (take k before) g)
@@ -129,7 +129,7 @@ later_told (Ok v) s h g bound k i t shape level is le some there lt at es eb tol
     λ before told. bytes ∙ later_is s before g k bound t shape level is (own_tree s before h i g t told lt at there) (let e = told.rounds in omega arith) (omega arith) es eb told_level
 later_told (Err e) s h g bound k i t shape level is le some there lt at es eb told_level bytes = tt
 
--- a lieutenant in the first round
+-- A lieutenant's context in the first round.
 pub opening_told : {E : Type 0} (r : Result (Vec ℕ Global) E) (s : Scenario) (g bound : ℕ) (shape : Shape) → g ≢ s.commander → shape ≡ shape_of s g 1 → bound ≡ s.bound →
     IfOk r (λ v. v.items ≡ context_bytes (context_numbers shape bound [])) → IfOk r (λ v. v.items ≡ context_of s [] g)
 opening_told (Ok v) s g bound shape ne es eb is =
@@ -141,7 +141,7 @@ get_map F [] i w d e = cc
 get_map F (x ∷ ws) zero w d e = (let same : x ≡ w = cc in ap F same)
 get_map F (x ∷ ws) (suc i) w d e = get_map F ws i w d e
 
--- what the level of a lieutenant's tree has are words
+-- The orders in a level of a lieutenant's tree have 32 bits.
 pub words_told : (s : Scenario) (before : List (List Letter)) (h : ToldSeen) (g k i : ℕ) (t : LieutenantTree) (level : List ℕ) → IsScenario s → WasTold s before h → k ≤ h.rounds → (k ≡ 0 → ⊥) → lieutenant_at s.commander i ≡ g → i < length h.trees → t ≡ get_or h.trees i t →
     ((M : Messages) → IsFilled t M → level ≡ map order_of (level_told t.generals t.commander t.general M k)) → All (λ v. v < 2 ^ 32) level → AreWords s (take k before) g
 words_told s before h g k i t level is told le some there lt at told_level small rank u place =
@@ -176,7 +176,7 @@ only_empty : (rank : ℕ) (u : List ℕ) → slice_get ([] ∷ []) rank ≡ Some
 only_empty zero u e = cc
 only_empty (suc rank) u e = cc
 
--- in the first round the commander has his order, and the others nothing; later the commander has nothing
+-- In the first round the commander takes his order, and the others none. Later the commander takes none.
 pub words_first : (s : Scenario) (before : List (List Letter)) (g : ℕ) → IsScenario s → ((length before ≡ 0) ⊎ (g ≡ s.commander)) → AreWords s before g
 words_first s before g is first rank u place = ⊎_elim
     (λ (q : (g == s.commander ≡ true) × (g ≡ s.commander)). ⊎_elim
@@ -192,7 +192,7 @@ words_first s before g is first rank u place = ⊎_elim
     absurd (none_there (relay (shape_of s g (suc (length before)))) rank u (relay_lieutenant s g (length before) q.1 ∙ (ap (labels s.generals s.commander g) none ∙ no_labels s.generals s.commander g)) place))
     (eqb_tells g s.commander)
 
--- from one fact on success to another
+-- A fact about success follows from another one.
 pub on_ok : {A E : Type 0} (r : Result A E) (P Q : Type 0) → (P → Q) → OnOk r P → OnOk r Q
 on_ok (Ok a) P Q f h = f h
 on_ok (Err e) P Q f h = tt
@@ -201,7 +201,7 @@ pub always_ok : {A E : Type 0} (r : Result A E) (Q : Type 0) → Q → OnOk r Q
 always_ok (Ok a) Q h = h
 always_ok (Err e) Q h = tt
 
--- as many rounds as were told are all
+-- The first rounds are all rounds if as many were delivered.
 all_of : (s : Scenario) (before : List (List Letter)) (h : ToldSeen) (k : ℕ) → k ≡ h.rounds → WasTold s before h → take k before ≡ before
 all_of s before h k e told = take_all k before (let r = told.rounds in omega arith)
 

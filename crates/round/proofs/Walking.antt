@@ -1,4 +1,4 @@
--- All labels of a length that begin with one.
+-- All labels of a length that begin with a given label.
 use Rattle.std.proofs.Common.{◌≡◌, ◌≢◌, ℕ, zero, suc, ◌+◌, ◌-◌, ◌*◌, ◌<◌, ◌≤◌, ◌^◌, List, [], ◌∷◌, ◌++◌, length, take, Bool, true, false, not, cond, refl, sym, ap, ◌∙◌, subst, Some, None, Option, arith, length-append}
 use Rattle.std.proofs.Math.Nat.{mul_assoc, mul-le-mul_right}
 use Rattle.std.proofs.lemmas.Option.{slice_get_within}
@@ -30,7 +30,7 @@ told_last row w x p =
     ap (λ (k : ℕ). told_by (letter_of row (slice_index (w ++ x ∷ []) k)) (take k (w ++ x ∷ [])) p) e
     ∙ (ap (λ (g : ℕ). told_by (letter_of row g) (take (length w) (w ++ x ∷ [])) p) (last-push w x) ∙ ap (λ u. told_by (letter_of row x) u p) (front-push w x))
 
--- what the letter of a general who is due tells, by the label's rank among those that he relays
+-- What a general's letter sends, by the label's rank among those that he relays.
 order_by : (o : Option Letter) (s : Shape) (u : List ℕ) (p rank : ℕ) → ((l : Letter) → o ≡ Some l → l.outbox.relay.shape ≡ s) → s.commander < s.generals → s.general < s.generals → slice_get (relay s) rank ≡ Some u → order_in_letter o rank p ≡ told_by o u p
 order_by None s u p rank due commander general at = refl
 order_by (Some l) s u p rank due commander general at =
@@ -43,7 +43,7 @@ due_shape t row x l due e =
     let s = letter_stands row x l e in
     due.letters s.0 l s.1 ∙ ap (λ (g : ℕ). record { generals = t.generals; commander = t.commander; general = g; round = round_of row }) s.2
 
--- of a longer label
+-- A label that is extended by one general.
 pub child_told : (t : LieutenantTree) (row : List Letter) (w : List ℕ) (x rank : ℕ) (value : Option ℕ) → AreDue t row → t.commander < t.generals → x < t.generals → x ≢ t.commander → round_of row ≡ length w + 1 → slice_get (labels t.generals t.commander x (length w)) rank ≡ Some w →
     value ≡ order_in_letter (letter_of row x) rank t.general → value ≡ told_now row (w ++ x ∷ []) t.general
 child_told t row w x rank value due inside within ne round at is =
@@ -52,14 +52,14 @@ child_told t row w x rank value due inside within ne round at is =
     (rw (ne_eqb x t.commander ne, ← less) at)
     ∙ sym (told_last row w x t.general))
 
--- of the commander's label
+-- The commander's label.
 pub first_told : (t : LieutenantTree) (row : List Letter) (value : Option ℕ) → AreDue t row → t.commander < t.generals → round_of row ≡ 1 → value ≡ order_in_letter (letter_of row t.commander) 0 t.general → value ≡ told_now row (t.commander ∷ []) t.general
 first_told t row value due inside round is =
     is ∙ (order_by (letter_of row t.commander) (record { generals = t.generals; commander = t.commander; general = t.commander; round = round_of row }) [] t.general 0 (λ l e. due_shape t row t.commander l due e) inside inside
     (rw (eq-eqb t.commander t.commander refl, eq-eqb (round_of row) 1 round) refl)
     ∙ sym (told_last row [] t.commander t.general))
 
--- as many labels as begin with those of a length
+-- How many labels begin with the labels of a length.
 pub level_long : (s : Space) (k d : ℕ) → IsSpace s → 0 < k → length (labels_of s (k + d)) ≡ length (labels_of s k) * under s.generals k d
 unfolding under
 level_long s k zero is some = let e : k + 0 ≡ k = omega arith in ap (λ (j : ℕ). length (labels_of s j)) e ∙ (omega arith)
@@ -71,7 +71,7 @@ level_long s k (suc d) is some =
     ap (λ (j : ℕ). length (labels_of s j)) e ∙ (ih ∙ (ap (λ (m : ℕ). m * under s.generals (k + 1) d) (sym next)
     ∙ (mul_assoc (length (labels_of s k)) (s.generals - 1 - k) (under s.generals (k + 1) d) ∙ ap (λ (j : ℕ). length (labels_of s k) * ((s.generals - 1 - k) * under s.generals j d)) one)))
 
--- the part of a label among those of a length is that of its children together
+-- The labels that begin with a label are those that begin with its extensions by one general.
 pub under_step : (n s k : ℕ) → s < k → under n s (k - s) ≡ (n - (s + 1)) * under n (s + 1) (k - (s + 1))
 unfolding under
 under_step n s k less =
@@ -97,7 +97,7 @@ under_past n r s k place less e =
     let all : r * (n - (s + 1)) + place ≡ suc r * (n - (s + 1)) = ap (λ (x : ℕ). r * (n - (s + 1)) + x) e ∙ suc_times r (n - (s + 1)) in
     ap (λ (m : ℕ). m * under n (s + 1) (k - (s + 1))) all ∙ (mul_assoc (suc r) (n - (s + 1)) (under n (s + 1) (k - (s + 1))) ∙ ap (λ (u : ℕ). suc r * u) (sym (under_step n s k less)))
 
--- where the children are the last
+-- The extensions by one general are the whole labels.
 pub under_one : (n r s k : ℕ) → s + 1 ≡ k → r * under n s (k - s) ≡ r * (n - k)
 under_one n r s k e =
     let step : under n s (k - s) ≡ (n - (s + 1)) * under n (s + 1) (k - (s + 1)) = under_step n s k (omega arith) in
@@ -106,7 +106,7 @@ under_one n r s k e =
     let width : (n - (s + 1)) * 1 ≡ n - k = omega arith in
     ap (λ (u : ℕ). r * u) (step ∙ (ap (λ (u : ℕ). (n - (s + 1)) * u) last ∙ width))
 
--- a child of a label
+-- One extension of a label by a general.
 pub child_at : (n c p x place width : ℕ) (w : List ℕ) (f : LabelPrefix) → IsFront n c w f → c < n → p < n → x < n → on w p ≡ false → on (p ∷ w) x ≡ false → place ≡ length (others x (p ∷ w)) → width ≡ n - (f.size + 1) →
     slice_get (labels n c p (length (w ++ x ∷ []))) (slice_index f.ranks p * width + place) ≡ Some (w ++ x ∷ [])
 child_at n c p x place width w f h inside pin xin off away ep ew =
@@ -118,7 +118,7 @@ child_at n c p x place width w f h inside pin xin off away ep ew =
 pub child_long : (n c x : ℕ) (w : List ℕ) (f : LabelPrefix) → IsFront n c w f → length (w ++ x ∷ []) ≡ f.size + 1
 child_long n c x w f h = let s = h.size in let l = length-append w (x ∷ []) in omega arith
 
--- whether a general is off, and how many are below the next
+-- Whether a general is off the label, and how many off it have lower numbers.
 pub off_told : (n c p x : ℕ) (w : List ℕ) (f : LabelPrefix) (b : Bool) → IsFront n c w f → x < n → b ≡ not (p == x || slice_index_or f.on x false) → b ≡ not (on (p ∷ w) x)
 off_told n c p x w f b h lt is = is ∙ ap (λ m. not (p == x || m)) (h.marks x lt)
 
@@ -143,7 +143,7 @@ place_same p x place w b is no_off at =
 pub off_true : (p x : ℕ) (w : List ℕ) (b : Bool) → b ≡ not (on (p ∷ w) x) → b ≡ true → on (p ∷ w) x ≡ false
 off_true p x w b is yes_off = not-true (on (p ∷ w) x) (sym is ∙ yes_off)
 
--- all children
+-- All extensions by one general.
 pub all_children : (n c p place : ℕ) (w : List ℕ) (f : LabelPrefix) → IsFront n c w f → c < n → p < n → on w p ≡ false → place ≡ length (others n (p ∷ w)) → place ≡ n - (f.size + 1)
 all_children n c p place w f h inside pin off at =
     let s = h.size in
@@ -170,7 +170,7 @@ same_due t u row same due = record {
 pub told_ends : (t : LieutenantTree) (row : List Letter) (k i j a b : ℕ) (u : LieutenantTree) → i ≡ a → j ≡ b → FillsFromTo t row k i j u → FillsFromTo t row k a b u
 told_ends t row k i j a b u ei ej h = subst (λ (x : ℕ). FillsFromTo t row k x b u) ei (subst (λ (y : ℕ). FillsFromTo t row k i y u) ej h)
 
--- what is told of a child
+-- The order for an extended label.
 pub tell_child : (t : LieutenantTree) (row : List Letter) (places : List ℕ) (k : ℕ) (f : LabelPrefix) (walk : IsWalk t row places k f) → f.size + 1 ≡ k → IsCampaign t → (first width place x : ℕ) → width ≡ t.generals - k → first ≡ slice_index f.ranks t.general * width →
     x < t.generals → on (t.general ∷ walk.w) x ≡ false → place ≡ length (others x (t.general ∷ walk.w)) → (value : Option ℕ) → value ≡ order_in_letter (letter_of row x) (slice_index f.ranks x) t.general →
     (w : List ℕ) → slice_get (labels t.generals t.commander t.general k) (first + place) ≡ Some w → value ≡ told_now row w t.general
@@ -188,7 +188,7 @@ tell_child t row places k f walk last c first width place x ew ef within away ep
     child_told t row walk.w x (slice_index f.ranks x) value walk.due c.commander within (off-lieutenant t.commander x walk.w h.label.first parts.1) round (h.stands x within parts.1) is
     ∙ ap (λ u. told_now row u t.general) it
 
--- the children fill one run
+-- The extensions by one general fill one run of ranks.
 pub children_fit : (t : LieutenantTree) (row : List Letter) (places : List ℕ) (k : ℕ) (f : LabelPrefix) (walk : IsWalk t row places k f) → f.size + 1 ≡ k → IsCampaign t → (first width : ℕ) → width ≡ t.generals - k → first ≡ slice_index f.ranks t.general * width →
     first + width ≤ length (labels t.generals t.commander t.general k)
 children_fit t row places k f walk last c first width ew ef =
@@ -206,7 +206,7 @@ children_fit t row places k f walk last c first width ew ef =
     let within : suc (slice_index f.ranks t.general) * width ≤ length (labels_of space (length walk.w)) * width = mul-le-mul_right width rank in
     omega arith
 
--- a child's place, and that it fits
+-- The rank of an extended label is within the level.
 pub row_fits : (t : LieutenantTree) (row : List Letter) (places : List ℕ) (k : ℕ) (f : LabelPrefix) (walk : IsWalk t row places k f) → IsCampaign t → (g width : ℕ) → g ≡ t.general → width ≡ t.generals - (f.size + 1) → slice_index f.ranks g * width < 2 ^ 32
 row_fits t row places k f walk c g width eg ew =
     let h = walk.front in let s = h.size in let d = walk.due.round in let z = walk.size in let b = c.small in let l = walk.short in

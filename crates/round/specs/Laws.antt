@@ -16,8 +16,8 @@ use Rattle.round.specs.Contexts.{AreWords, took, context_of, number_told, at_gen
 use Rattle.round.specs.Activation.{Activation, started, has_ended}
 use Rattle.round.specs.Runs.{Runs, IsWithin, AreFitting, IsLetter}
 
--- States what a context contains: the general's number, the round, the shape of his relay, the mark of oral orders, and
--- the order that he took for each label that he relays.
+-- States what a context contains: the general's number, the round, the number of generals and the commander, that
+-- orders are oral, and the order that he took for each label that he relays.
 pub record ContextsTell : Type 0 where
   pub own : (s : Scenario) (before : List (List Letter)) (g : ℕ) → IsScenario s → g < s.generals →
       length before ≤ s.bound → IsToldTo g (suc (length before)) (context_of s before g)
@@ -30,8 +30,8 @@ pub record ContextsTell : Type 0 where
       slice_get (relay (shape_of s g (suc (length before)))) rank ≡ Some label → took s before g label < 2 ^ 32 →
       taken_value (context_of s before g) rank ≡ took s before g label
 
--- States that a loyal general's letter is determined by his context if the orders that he took have 32 bits. What is
--- computed from any context is a letter of the general and the round that the context names.
+-- States that a loyal general's letter depends only on his context, if the orders that he took have 32 bits. The letter
+-- computed from any context is from the general and of the round that the context names.
 pub record LoyalLettersFollow : Type 0 where
   pub letter : (s : Scenario) (before : List (List Letter)) (g : ℕ) → IsScenario s → g < s.generals →
       length before ≤ s.bound → AreWords s before g →
@@ -39,19 +39,20 @@ pub record LoyalLettersFollow : Type 0 where
   pub kept : (context : List ℕ) → IsContext context →
       IsLetter (letter_told (number_told context at_general) (number_told context at_round) context)
 
--- States that the order that an outbox sends to a receiver of a label is the one at the label's rank.
+-- States where an outbox keeps an order: the order that it sends to a receiver of a label is in the row of the label's
+-- rank.
 pub record OutboxesTell : Type 0 where
   pub orders : (outbox : Contents) (label : List ℕ) (rank receiver : ℕ) → IsShape outbox.relay.shape →
       slice_get (relay outbox.relay.shape) rank ≡ Some label →
       tells outbox label receiver ≡ order_at outbox.relay outbox.rows rank receiver
 
--- States that runs are deterministic: two runs with the same start, number of steps and accesses have the same end. The
--- runs need not be finished.
+-- States that runs are deterministic: two runs with the same start, the same number of steps and the same accesses end
+-- in the same state. The runs need not be finished.
 abbrev pub RunsHaveOneEnd : Type 0
 RunsHaveOneEnd = (k : ℕ) (start : Activation) (transcript : List Access) (one two : Activation) →
     Runs k start transcript one → Runs k start transcript two → one ≡ two
 
--- States that a run with a patience is the run without one, until the patience is used up.
+-- States that a patience does not change a run until it is used up.
 pub record PatienceIsKept : Type 0 where
   pub steps : (patience : Option ℕ) (program : List Insn) (context : List ℕ) (relay : Relay) (k : ℕ)
       (transcript : List Access) (end : Activation) →
@@ -81,8 +82,8 @@ pub record RunsAreSafe : Type 0 where
       Runs k (started patience program context relay) transcript end →
       has_ended end ≡ false → step end.program end.context end.relay end.state ≢ Trap cause
 
--- States that the state of a sound program's run follows from the replies that it received. This includes the exit, if
--- the next step is one.
+-- States that the state of a sound program's run depends only on its start and the replies that it has received. So
+-- does whether its next step exits.
 pub record RunsFollowAnswers : Type 0 where
   pub reached : (program : List Insn) (context : List ℕ) (relay : Relay) (k : ℕ) (transcript : List Access)
       (end : Activation) →

@@ -1,4 +1,4 @@
--- How the code holds an activation, and what a turn leaves of it and of the board (own). No headline of docs/TRUSTED.md
+-- How the code holds an activation, and what a turn does to it and to the board (own). No headline of docs/TRUSTED.md
 -- rests on this file. World.antt of `world` says what a tick does.
 use Rattle.std.specs.Prelude.{ℕ, ◌≡◌, ◌≤◌, Bool, true, false, ◌||◌, Option, Some, None, min, All, List, [], ◌∷◌, ◌++◌}
 use Rattle.semantics.specs.declared.request.Request.{Request}
@@ -20,26 +20,26 @@ use Rattle.round.specs.Activation.{Activation, Turn, Goes, Asks, Ended, started,
 abbrev pub standing : Activation → Standing
 standing a = record { relay = a.relay; state = a.state }
 
--- States what every activation that the code holds satisfies. It is in a run of its program until it has exited, and
--- its steps are within its patience.
+-- States what holds for every activation in the code. Until it has exited, its state is reached by a run of its
+-- program, and its steps are within its patience.
 pub record IsLive (a : Activation) : Type 0 where
   pub context : IsContext a.context
   pub of_run : a.over ≡ false → IsOfRun a.program a.context (standing a)
   pub within : IsWithin a.patience a.state.steps
 
--- States that the reason and the state of a stopped machine are those of the step's outcome.
+-- States that a machine has stopped for the right reason and in the right state, given the outcome of its step.
 abbrev pub Stopped : Outcome → StopReason → State → Type 0
 Stopped (Next s) Limit new = new ≡ s
 Stopped (Ask request s) (Asked r) new = (r ≡ request) × (new ≡ s)
 Stopped (Exit r0 s) (Exited n) new = (n ≡ r0) × (new ≡ s)
 Stopped _ _ new = ⊥
 
--- States that withdrawing a request restores the state before it.
+-- States that withdrawing a request restores the state before the request.
 abbrev pub IsBack : StopReason → State → State → Type 0
 IsBack (Asked r) old new = before new ≡ old
 IsBack _ old new = Unit {0}
 
--- Returns the board after it has served a request and entered it into the ledger.
+-- Returns the board after it has answered a request and added the access to its ledger.
 abbrev pub access_entered : ℕ → ℕ → Request → RecordedBoard → RecordedBoard
 access_entered general round request k = record k {
   words = next k.words request;
@@ -51,14 +51,14 @@ access_entered general round request k = record k {
   } ∷ [];
 }
 
--- Returns the activation and the board after a turn. The board serves the turn's request, if it has one.
+-- Returns the activation and the board after a turn. If the turn is a request, the board answers it.
 abbrev pub moved : ℕ → ℕ → Activation → RecordedBoard → Turn → Activation × RecordedBoard
 moved general round a k (Goes b) = (b, k)
 moved general round a k (Asks request answered) =
     (answered (reply k.words request), access_entered general round request k)
 moved general round a k Ended = (a, k)
 
--- Returns the activation with these parts.
+-- Returns the activation with these contents.
 abbrev pub activation_of : Option ℕ → List Insn → List ℕ → Standing → Bool → Activation
 activation_of patience program context standing over =
     record {
@@ -70,23 +70,24 @@ activation_of patience program context standing over =
       over = over;
     }
 
--- States that some number of turns without an access leads from `a` to `b`.
+-- States that some number of turns leads from `a` to `b`, none of which is a request.
 abbrev pub Silently : Activation → Activation → Type 0
 Silently a b = (k : ℕ) × Runs k a [] b
 
--- States that the activation pauses: it has ended, has taken at least `limit` steps since it began, or its next turn,
--- which is given, is a request to the board.
+-- States that the activation pauses: it has ended, has taken at least `limit` steps since it began, or its next turn is
+-- a request. The next turn is the third argument.
 abbrev pub Pauses : ℕ → Activation → Turn → Type 0
 Pauses limit a (Goes b) = limit ≤ a.state.steps
 Pauses limit a (Asks request answered) = Unit {0}
 Pauses limit a Ended = Unit {0}
 
--- Returns the lesser of a limit and a patience.
+-- Returns the lesser of `limit` and the patience, or `limit` if there is no patience.
 abbrev pub lesser : Option ℕ → ℕ → ℕ
 lesser None limit = limit
 lesser (Some patience) limit = min patience limit
 
--- States that `new` is the activation after this turn, which made this access or none.
+-- States that `new` is the activation after this turn. The access is the one made in this turn, or `None` if the turn
+-- was not a request.
 abbrev pub TakesTurn : Turn → Option Access → Activation → Type 0
 TakesTurn (Goes b) None new = new ≡ b
 TakesTurn (Asks request answered) (Some access) new = (access.request ≡ request) × (new ≡ answered access.reply)
@@ -103,30 +104,31 @@ pub record IsSameRun (a b : Activation) : Type 0 where
 abbrev pub AreAccessesOf : ℕ → ℕ → List Access → Type 0
 AreAccessesOf general round accesses = All (λ a. (a.general ≡ general) × (a.round ≡ round)) accesses
 
--- States that the activation `start` has run to `a` with exactly the accesses of the transcript, whose replies fit.
+-- States that the activation `start` has run to `a` with exactly the accesses of the transcript, and that their replies
+-- fit.
 pub record IsOnWay (general round : ℕ) (start a : Activation) (transcript : List Access) : Type 0 where
   pub same : IsSameRun start a
   pub run : (k : ℕ) × Runs k start transcript a
   pub own : AreAccessesOf general round transcript
   pub fitting : AreFitting transcript
 
--- States that the activation `start` has run to `a`, and that `served` is the list `before` with the run's accesses
--- appended.
+-- States that the activation `start` has run to `a`, and that `served` is the list `before` followed by the accesses of
+-- this run.
 pub record IsWayServed (general round : ℕ) (start a : Activation)
     (before transcript served : List Access) : Type 0 where
   pub way : IsOnWay general round start a transcript
   pub whole : served ≡ before ++ transcript
 
--- States that a run of the program was given up. `served` is the list `before` with the accesses appended that the run
--- made until then.
+-- States that a run of the program was stopped because memory ran out. `served` is the list `before` followed by the
+-- accesses that the run had made.
 abbrev pub IsGivenUp : ℕ → ℕ → List Insn → List ℕ → Option ℕ → List Access → List Access → Type 0
 IsGivenUp general round program context patience before served =
     (a : Activation) × (transcript : List Access)
     × IsWayServed general round
     (started patience program context (relay_told general round context)) a before transcript served
 
--- States that `l` is the letter of an activation that ran to its end or until its patience was used up. Its program,
--- run in this context with exactly the accesses of the transcript, whose replies fit, produced its outbox.
+-- States that `l` is the letter of an activation that has ended: its program has exited or used up the patience. Its
+-- outbox is what the program produced in this context, with exactly the accesses of the transcript, whose replies fit.
 pub record IsLived (general round : ℕ) (program : List Insn) (context : List ℕ) (patience : Option ℕ)
     (l : Letter) : Type 0 where
   pub own_general : l.general ≡ general
@@ -139,7 +141,7 @@ pub record IsLived (general round : ℕ) (program : List Insn) (context : List �
   pub within : IsWithin patience l.steps
   pub ended : (l.exited || is_reached patience l.steps) ≡ true
 
--- Returns the letter of an activation in its current state, with these accesses.
+-- Returns the letter made from an activation in its current state and these accesses.
 abbrev pub letter_left : ℕ → ℕ → List Access → Activation → Letter
 letter_left general round transcript a =
     record {

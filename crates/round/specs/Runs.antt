@@ -1,4 +1,4 @@
--- What an activation has done in some steps, and what every letter keeps (own).
+-- What it means that an activation has run for some steps, and what holds for every letter (own).
 use Rattle.std.specs.Prelude.{ℕ, zero, suc, ◌≡◌, ◌≤◌, true, List, [], ◌∷◌, Option, None, Some}
 use Rattle.insn.specs.declared.insn.Insn.{Insn}
 use Rattle.semantics.specs.Relay.{IsContext, Oral}
@@ -8,9 +8,10 @@ use Rattle.round.specs.Letters.{Letter}
 use Rattle.round.specs.Contexts.{IsToldTo, shape_told, rows_told, tells_oral}
 use Rattle.round.specs.Activation.{Activation, started, Turn, Goes, Asks, Ended, turn}
 
--- States that a turn goes on, and that `Rest` holds for the activation after it and the remaining accesses. A turn with
--- a request uses up the first access, which must have the same request, and goes on with its reply. If the accesses are
--- `x` and `y`, for example, `x` has the request of the turn, and `Rest` holds with `y` only.
+-- States that an activation goes on by this turn, and that `Rest` holds for the activation after it and the accesses
+-- that remain. If the turn is a request, the first access must have the same request, its reply is used, and it is
+-- removed. With the accesses `x` and `y`, for example, `x` must have the turn's request, and `Rest` holds with `y`
+-- only.
 abbrev pub Onward : (Activation → List Access → Activation → Type 0) → Turn → List Access → Activation → Type 0
 Onward Rest (Goes a) transcript end = Rest a transcript end
 Onward Rest (Asks request answered) [] end = ⊥
@@ -18,8 +19,8 @@ Onward Rest (Asks request answered) (x ∷ transcript) end =
     (x.request ≡ request) × Rest (answered x.reply) transcript end
 Onward Rest Ended transcript end = ⊥
 
--- States that the activation comes from one state to the other in exactly `k` steps, and that the board serves exactly
--- these accesses.
+-- States that an activation gets from one state to another in exactly `k` steps, in which exactly these accesses are
+-- made.
 abbrev pub Runs : ℕ → Activation → List Access → Activation → Type 0
 Runs zero a transcript end = (transcript ≡ []) × (a ≡ end)
 Runs (suc k) a transcript end = Onward (Runs k) (turn a) transcript end
@@ -34,10 +35,10 @@ abbrev pub IsWithin : Option ℕ → ℕ → Type 0
 IsWithin None steps = Unit {0}
 IsWithin (Some patience) steps = steps ≤ patience
 
--- States that the letter is that of a run of the program, if there is one. A loyal general runs nothing, and each place
--- of his outbox has the value of his context. If the context says that orders are oral, he signs nothing. A traitor's
--- program, run on its context for the letter's steps with the accesses of its transcript, whose replies fit, has
--- produced the outbox.
+-- States that the letter is of a run of this program, or of a loyal general if there is none. A loyal general makes no
+-- accesses, and sends each receiver the order in his context. If the context says that orders are oral, he signs
+-- nothing. A traitor's outbox is what his program produced from this context in this number of steps, with the accesses
+-- of this transcript, whose replies fit.
 abbrev pub IsRunOf : Letter → Option (List Insn) → Type 0
 IsRunOf l None =
     (l.transcript ≡ []) × (l.steps ≡ 0) × (l.outbox.rows ≡ rows_told l.outbox.relay l.context) × (l.exited ≡ true)
@@ -47,8 +48,8 @@ IsRunOf l (Some program) =
     × Runs l.steps (started None program l.context l.outbox.relay) l.transcript end
     × (l.outbox.rows ≡ end.state.outbox) × (l.exited ≡ end.over) × (l.outbox.entries ≡ end.state.entries)
 
--- States what every letter satisfies: its context names its general and its round, and its outbox is that of a run. The
--- run may be unfinished, and no patience is considered.
+-- States what holds for every letter: its context names its general and its round, and its outbox results from a run.
+-- The run may be unfinished, and may have taken more steps than the patience allows.
 pub record IsLetter (l : Letter) : Type 0 where
   pub context : IsContext l.context
   pub own : IsToldTo l.general l.round l.context

@@ -5,7 +5,7 @@ use Rattle.tree.specs.LieutenantTree.{LieutenantTree, IsFilled}
 use Rattle.round.specs.Scenario.{Scenario}
 use Rattle.round.specs.Letters.{Letter, messages, told_by, letter_of}
 
--- States that the tree is that of lieutenant `g` of the campaign, filled from the letters of these rounds.
+-- States that this is the tree of lieutenant `g` of the campaign, filled from the letters of these rounds.
 pub record IsTreeOf (s : Scenario) (before : List (List Letter)) (g : ℕ) (t : LieutenantTree) : Type 0 where
   pub generals : t.generals ≡ s.generals
   pub bound : t.bound ≡ s.bound
@@ -15,17 +15,18 @@ pub record IsTreeOf (s : Scenario) (before : List (List Letter)) (g : ℕ) (t : 
   pub lieutenant : g ≢ s.commander
   pub filled : IsFilled t (messages before)
 
--- Returns the order that the letters of one round send to `p` for the label `w`: the order of its last general for the
--- rest of the label.
+-- Returns the order that the letters of one round send to `p` for the label `w`. For the label `0.2`, for example, it
+-- is what general 2's letter says about the label `0`.
 abbrev pub told_now : List Letter → List ℕ → ℕ → Option ℕ
 told_now letters w p = let last = length w - 1 in told_by (letter_of letters (slice_index w last)) (take last w) p
 
--- Returns the round of these letters, taken from the first of them, or 0 if there are none.
+-- Returns the round that the first of these letters names, or 0 if there are no letters.
 abbrev pub round_of : List Letter → ℕ
 round_of [] = 0
 round_of (l ∷ letters) = l.round
 
--- Returns the message function `M`, replaced by the letters at the labels whose length is the number of their round.
+-- Returns the message function `M` after these letters are delivered. It changes only for labels whose length is the
+-- number of the letters' round.
 unfoldable pub heard_also : Messages → List Letter → Messages
 heard_also M letters w p = cond (length w == round_of letters) (told_now letters w p) (M w p)
 
@@ -39,16 +40,16 @@ pub record AreDue (t : LieutenantTree) (given : List Letter) : Type 0 where
   pub round : round_of given < t.bound + 2
   pub letters : AreOfCampaign t.generals t.commander given
 
--- What the lieutenants have received: the number of rounds, and a tree for each lieutenant, ascending.
+-- What the lieutenants have received: the number of delivered rounds, and a tree for each lieutenant, ascending.
 pub record ToldSeen : Type 0 where
   pub rounds : ℕ
   pub trees : List LieutenantTree
 
--- Returns the number of the lieutenant at an index of the ascending list of lieutenants under a commander.
+-- Returns the lieutenant at index `i`, counted from 0, of the lieutenants under this commander, ascending.
 abbrev pub lieutenant_at : ℕ → ℕ → ℕ
 lieutenant_at commander i = if nat_lt i commander then i else i + 1
 
--- States that `h` is what the lieutenants have received from the letters of these rounds of the campaign.
+-- States that `h` is what the lieutenants of the campaign have received from the letters of these rounds.
 pub record WasTold (s : Scenario) (before : List (List Letter)) (h : ToldSeen) : Type 0 where
   pub rounds : h.rounds ≡ length before
   pub count : length h.trees + 1 ≡ s.generals

@@ -1,10 +1,10 @@
-//! Copies and compares lists of accesses (transcripts).
+//! Copies and compares lists of accesses, such as transcripts.
 ghost use Rattle.std.specs.Prelude.{◌≡◌, ◌↔◌, IfOk, IsTrue};
 
 use board::Access;
 use std::alloc::{AllocError, Global};
 
-/// Returns a copy of the accesses.
+/// Returns a copy of these accesses. Fails with `AllocError` if there is no memory for the copy.
 pub(crate) fn copied(alloc: Global, accesses: &[Access]) -> Result<Vec<Access>, AllocError>
     ensures { IfOk result (λ copy. copy.items ≡ accesses.now) }
 {
@@ -15,7 +15,7 @@ pub(crate) fn copied(alloc: Global, accesses: &[Access]) -> Result<Vec<Access>, 
     Ok(copy)
 }
 
-/// Checks whether both lists have the same accesses in the same order.
+/// Returns whether both lists have the same accesses in the same order.
 pub(crate) fn same_accesses(accesses: &[Access], others: &[Access]) -> bool
     ensures { IsTrue result ↔ (accesses.now ≡ others.now) }
 {

@@ -3,14 +3,14 @@ ghost use Rattle.std.specs.Prelude.{◌≡◌, ◌↔◌, IsTrue};
 
 use insn::{Insn, Operand};
 
-/// Checks whether two operands are the same.
+/// Returns whether two operands are the same.
 fn same_operand(insn: &Operand, other: &Operand) -> bool
     ensures { IsTrue result ↔ (insn.now ≡ other.now) }
 {
     insn == other
 }
 
-/// Checks whether two instructions are the same.
+/// Returns whether two instructions are the same.
 fn same_insn(insn: &Insn, other: &Insn) -> bool
     ensures { IsTrue result ↔ (insn.now ≡ other.now) }
 {
@@ -156,7 +156,7 @@ fn same_insn(insn: &Insn, other: &Insn) -> bool
     }
 }
 
-/// Checks whether two programs have the same instructions.
+/// Returns whether two programs have the same instructions in the same order.
 pub fn same_code(insns: &[Insn], others: &[Insn]) -> bool
     ensures { IsTrue result ↔ (insns.now ≡ others.now) }
 {

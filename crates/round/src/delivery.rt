@@ -1,4 +1,4 @@
-//! Delivers the letters of a round: fills their orders into the lieutenants' trees.
+//! Delivers the letters of a round: enters the orders that they contain into the lieutenants' trees.
 ghost use Rattle.std.specs.Prelude.{◌≡◌, ◌<◌, ◌≤◌, ◌+◌, [], ℕ, length, slice_get, slice_index};
 ghost use Rattle.label.specs.Oral.{Messages};
 ghost use Rattle.tree.specs.LieutenantTree.{IsFilled, SameCampaign};
@@ -13,8 +13,9 @@ use outbox::Orders;
 use std::slice;
 use tree::Tree;
 
-/// Fills the tree of a lieutenant with what the letters of one round send him. Each label of the round receives the
-/// order that the letter of its last general contains for the rest of the label, or nothing if there is no such letter.
+/// Enters into a lieutenant's tree what the letters of one round send him. For a label such as `0.2` it takes the order
+/// from general 2's letter, which says what 2 reports to this lieutenant about the label `0`. If 2 has no letter, the
+/// label gets nothing.
 pub fn deliver(letters: &[Letter], tree: &mut Tree)
     requires { AreDue tree.old letters.now }
     ensures filled { (M : Messages) → IsFilled tree.old M → IsFilled tree.new (heard_also M letters.now) }
@@ -29,8 +30,8 @@ pub fn deliver(letters: &[Letter], tree: &mut Tree)
     );
 }
 
-/// Fills the trees of a campaign of this many generals under this commander with the letters of one round. No two trees
-/// may be those of the same lieutenant.
+/// Enters the letters of one round into the trees of a campaign of `generals` generals under `commander`. Each tree
+/// must be that of a different lieutenant.
 pub(crate) fn deliver_to_all(letters: &[Letter], generals: u8, commander: u8, trees: &mut [Tree])
     requires few { generals ≤ 13 }
     requires commander { commander < generals }
@@ -43,7 +44,7 @@ pub(crate) fn deliver_to_all(letters: &[Letter], generals: u8, commander: u8, tr
         return;
     }
     let first = &letters[0];
-    // The labels of a round have as many generals as its number.
+    // The labels of round r have r generals.
     let size = first.outbox.shape().round as u8;
     let indices = letter_indices(letters);
     if size == 1 {
@@ -63,7 +64,7 @@ pub(crate) fn deliver_to_all(letters: &[Letter], generals: u8, commander: u8, tr
     );
 }
 
-/// Fills in what the commander's letter of the first round contains for the label that has only the commander.
+/// Enters the commander's letter of the first round, which has only his own order, for the label that consists of him.
 fn fill_first(letters: &[Letter], indices: &[usize; 13], commander: u8, trees: &mut [Tree])
     requires round { round_of letters.now ≡ 1 }
     requires indices { AreLetterIndices letters.now indices.now }
@@ -79,7 +80,7 @@ fn fill_first(letters: &[Letter], indices: &[usize; 13], commander: u8, trees: &
     }
 }
 
-/// Fills in what the letters contain for all labels of length `size` that begin with this shorter label.
+/// Enters the letters of one round for all labels of `size` generals that begin with the shorter label `front`.
 fn descend(
     letters: &[Letter],
     indices: &[usize; 13],
@@ -115,7 +116,7 @@ fn descend(
     }
 }
 
-/// Fills in what the letters contain for the labels that have one general more than this one and begin with it.
+/// Enters the letters of one round for the labels that extend `front` by one general, and so have `size` generals.
 fn fill_all_children(
     letters: &[Letter],
     indices: &[usize; 13],
@@ -148,7 +149,7 @@ fn fill_all_children(
     }
 }
 
-/// Returns, by general, the index of his tree, or the index past the last tree if he has none.
+/// Returns for each general, ascending, the index of his tree, or `trees.len()` if he has none.
 fn find_trees(trees: &[Tree]) -> [usize; 13]
     requires { AreApart trees.now }
     ensures { AreTreeIndices trees.now result }
@@ -161,7 +162,7 @@ fn find_trees(trees: &[Tree]) -> [usize; 13]
     tree_indices
 }
 
-/// Returns, by general, the index of his letter, or the index past the last letter if there is none.
+/// Returns for each general, ascending, the index of his letter, or `letters.len()` if he has none.
 fn letter_indices(letters: &[Letter]) -> [usize; 13]
     ensures { AreLetterIndices letters.now result }
 {
@@ -172,7 +173,7 @@ fn letter_indices(letters: &[Letter]) -> [usize; 13]
     indices
 }
 
-/// Returns the index of the first letter of this general, or the index past the last letter if there is none.
+/// Returns the index of the first letter of this general, or `letters.len()` if he has none.
 fn letter_index(letters: &[Letter], general: u32) -> usize
     ensures { slice_get letters.now result ≡ letter_of letters.now general }
 {

@@ -1,22 +1,23 @@
-//! A label held by its ranks, which are updated as the label is extended.
+//! Defines labels that are stored by their ranks, so that extending a label by one general is cheap.
 ghost use Rattle.std.specs.Prelude.{◌≡◌, ◌<◌, ◌≤◌, ◌+◌, ◌*◌, ◌-◌, ◌^◌, ◌∷◌, ◌++◌, [], false, cond, nat_lt, ℕ, List, length, slice_index, slice_index_or};
 ghost use Rattle.label.specs.Labels.{on, others};
 ghost use Rattle.round.specs.Fronts.{IsFront};
 
-/// A label held by its ranks: which generals are on it, and for each general off it, its rank among the labels of its
-/// length that lack him.
+/// A label that is stored by its ranks: which generals are on it, and for each general off it, its rank among the
+/// labels of the same length that do not have him.
 #[derive(Clone, Copy)]
 pub(crate) struct LabelPrefix {
-    /// How many generals are on the label.
+    /// The number of generals on the label.
     pub size: u8,
-    /// Whether a general is on the label, by general.
+    /// For each general, ascending, whether he is on the label.
     pub on: [bool; 13],
-    /// The label's rank for each general who is off it, by general. The ranks of the generals on it mean nothing.
+    /// For each general off the label, its rank among the labels of the same length that do not have him. An element
+    /// for a general on the label has no meaning.
     pub ranks: [u32; 13],
 }
 
 impl LabelPrefix {
-    /// Returns the label that consists of only the commander, whose number must be below 13.
+    /// Returns the label that consists of the commander only. His number must be below 13.
     pub fn of(commander: u8) -> LabelPrefix
         requires { commander < 13 }
         ensures { (n : ℕ) → commander < n → n ≤ 13 → IsFront n commander (commander ∷ []) result }
@@ -30,8 +31,8 @@ impl LabelPrefix {
         }
     }
 
-    /// Returns the label extended by one general, in a campaign of `generals` generals. `below` is the number of
-    /// generals off the label with a lower number than his.
+    /// Returns the label extended by `general`, in a campaign of `generals` generals. `below` must be how many generals
+    /// with lower numbers than his are off the label.
     pub fn with(&self, generals: u8, general: u8, below: u32) -> LabelPrefix
         requires general { general < 13 }
         requires size { self.now.size < 13 }
@@ -54,7 +55,9 @@ impl LabelPrefix {
     }
 }
 
-/// Returns the ranks of the label extended by one general.
+/// Returns the ranks of a label that is extended by `general`, where `old` are the ranks of the shorter label. The
+/// longer label has `width` possible last generals for each rank of the shorter one, and `below` of the generals off
+/// the shorter label have lower numbers than `general`.
 fn ranks_with(old: [u32; 13], width: u32, below: u32, general: u8) -> [u32; 13]
     ensures wide { length result ≡ 13 }
     ensures ranks { (x t : ℕ) → x < 13 → t + cond (nat_lt x general) 1 0 ≡ below →
@@ -67,8 +70,9 @@ fn ranks_with(old: [u32; 13], width: u32, below: u32, general: u8) -> [u32; 13]
     ranks
 }
 
-/// Returns the rank of the label extended by one general. `is_below` says whether the general for whom the rank counts
-/// has the lower number of the two.
+/// Returns the rank of a label that is extended by one general, where `rank` is the rank of the shorter label. Both are
+/// ranks among the labels that do not have some general x. `below` counts the generals off the shorter label with lower
+/// numbers than the new one, and `is_below` says whether x is among these.
 fn rank_with(rank: u32, width: u32, below: u32, is_below: bool) -> u32
     ensures { (t : ℕ) → t + cond is_below 1 0 ≡ below → rank * width + t < 2 ^ 32 → result ≡ rank * width + t }
 {

@@ -1,4 +1,4 @@
-//! A letter: what a general received and did in one round, and the orders that he sent.
+//! Defines letters. A letter records what a general received and did in one round, and the orders that he sent.
 ghost use Rattle.std.specs.Prelude.{◌≡◌, ◌↔◌, IfOk, IsTrue};
 
 use crate::accesses::{copied, same_accesses};
@@ -10,27 +10,27 @@ use std::marker::Model;
 
 /// A letter: what a general received and did in a round, and the orders that he sent.
 ///
-/// The shape of the outbox is the one that the context describes, and the outbox is oral if the context says so. A
-/// traitor's outbox is what his program produced in `steps` steps, run on the context with the replies of the
-/// transcript. Where orders are signed, this includes the orders that it entered. A loyal general's outbox sends each
-/// receiver what the context contains.
+/// A traitor's outbox is what his program wrote in `steps` steps, run on this context with the replies of this
+/// transcript. In a signed campaign it also has the orders that the program signed or passed on. A loyal general's
+/// outbox sends each receiver the orders in his context. The context also says for which labels and receivers the
+/// outbox has orders, and whether orders are signed.
 #[derive(Drop)]
 pub struct Letter {
-    /// The general's number.
+    /// The general who sends the letter.
     pub general: u32,
     /// The round, counted from 1.
     pub round: u32,
-    /// The context that he received, 4,096 bytes.
+    /// The context that the general received, 4,096 bytes.
     pub context: Vec<u8>,
-    /// His program, or none if he is loyal.
+    /// The general's program. A loyal general has none.
     pub program: Player,
-    /// The accesses that his program made.
+    /// The accesses that his program made in this round, in order.
     pub transcript: Vec<Access>,
-    /// How many steps his program took.
+    /// How many steps his program took. It is 0 for a loyal general.
     pub steps: u32,
     /// The orders that he sent, by label and receiver.
     pub outbox: Outbox,
-    /// Whether his program has exited. It is true for a loyal general.
+    /// Whether his program has exited, rather than used up its patience. It is true for a loyal general.
     pub exited: bool,
 }
 
@@ -68,7 +68,7 @@ impl Letter {
     ///
     /// # Errors
     ///
-    /// Fails with `AllocError` if there is no memory for one of its parts.
+    /// Fails with `AllocError` if there is no memory for the copy.
     pub fn copy(&self, alloc: Global) -> Result<Letter, AllocError>
         ensures { IfOk result (λ letter. letter ≡ self.now) }
     {
@@ -84,7 +84,7 @@ impl Letter {
         })
     }
 
-    /// Checks whether the letters are the same.
+    /// Returns whether both letters are the same.
     pub fn same(&self, other: &Letter) -> bool
         ensures { IsTrue result ↔ (self.now ≡ other.now) }
     {

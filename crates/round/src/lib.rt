@@ -1,5 +1,5 @@
-//! A campaign and its rounds: the scenario with its generals and their programs, the letters of a round, their delivery
-//! to the lieutenants' trees, and one activation of a traitor's program from start to end.
+//! Plays the rounds of a campaign: defines the scenario with its generals and their programs, makes the letters of a
+//! round, delivers them to the lieutenants' trees, and runs a traitor's program for one round.
 #![tactic(auto)]
 
 mod accesses;

@@ -1,4 +1,4 @@
-//! Runs one activation of a traitor's program from its start to its end, and returns the letter.
+//! Runs a traitor's program for one round, from its start to its end, and returns the letter.
 ghost use Rattle.std.specs.Prelude.{◌≡◌, ◌<◌, ◌≤◌, ◌+◌, ◌++◌, ◌∷◌, [], true, false, ℕ, List, length, option_to_list, IfOk, IfSome, OnOk, OnErr};
 ghost use Rattle.std.specs.Arc.{arc_value};
 ghost use Rattle.insn.specs.declared.insn.Insn.{Insn};
@@ -25,14 +25,14 @@ use std::alloc::{AllocError, Global};
 use std::sync::Arc;
 use verify::Verified;
 
-/// Runs a general's program in its context until it exits, or until it has taken as many steps as the patience allows.
-/// A request that is the last of these steps is still served. The letter says what the program did and sent. Its
-/// transcript is exactly what the server has served in this call.
+/// Runs a general's program in its context until it exits or has taken as many steps as the patience allows, and
+/// returns his letter of this round. If the last of these steps is a request, it is still served. The letter's
+/// transcript lists exactly the accesses that the server has served in this call.
 ///
 /// # Errors
 ///
-/// Fails with `AllocError` if there is no memory for the outbox, an access or the transcript. What the server has
-/// served until then is what the program has requested until then.
+/// Fails with `AllocError` if there is no memory for the outbox, an access or the transcript. The server has then
+/// served what the program had requested before.
 pub fn live<S: Server>(
     alloc: Global,
     server: &mut S,
@@ -66,7 +66,9 @@ pub fn live<S: Server>(
     Ok(running.into_letter(general, round, transcript))
 }
 
-/// Takes one turn, and then runs on to the next access or the end.
+/// Takes one step of the program, which may be a request, and then further steps until just before its next request or
+/// its end. Appends the access, if one was made, to `transcript`. Fails with `AllocError` if there is no memory for the
+/// access or the transcript.
 fn go_on<S: Server>(
     running: &mut Running,
     transcript: &mut Vec<Access>,
@@ -94,7 +96,8 @@ fn go_on<S: Server>(
 }
 
 impl Running {
-    /// Takes one turn, whose request the server serves. Returns the access that was made, if any.
+    /// Takes one step of the program. If the step is a request, the server answers it. Returns the access, or `None` if
+    /// the step was not a request.
     ///
     /// # Errors
     ///
@@ -130,11 +133,12 @@ impl Running {
     }
 }
 
-/// Lets the server serve a request, and resumes the activation with the reply.
+/// Lets the server answer a request, and resumes the activation with the reply. Returns the access.
 ///
 /// # Errors
 ///
-/// Fails with `AllocError` if there is no memory for the access. Then the request is withdrawn and nothing was served.
+/// Fails with `AllocError` if there is no memory for the access. Then nothing was served, and the activation is in the
+/// state before the request.
 fn answered<S: Server>(
     activation: &mut Machine,
     server: &mut S,

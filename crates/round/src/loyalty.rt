@@ -1,4 +1,4 @@
-//! Writes the letters of loyal generals.
+//! Makes the letters of loyal generals.
 ghost use Rattle.std.specs.Prelude.{◌≡◌, length, IfOk};
 ghost use Rattle.label.specs.Relay.{IsShape};
 ghost use Rattle.round.specs.Contexts.{IsToldTo, shape_told, outbox_told, letter_told};
@@ -11,10 +11,10 @@ use mem::number_told;
 use outbox::Outbox;
 use std::alloc::{AllocError, Global};
 
-/// Returns a loyal general's letter of a round: he sends each receiver of each label the order that his context says he
-/// took. The context must be that of this general in this round.
+/// Returns a loyal general's letter of a round: he sends each receiver of each label the order that he took for it. His
+/// context, which must be for this general and round, contains these orders.
 ///
-/// The definition `faithful_letter` describes the letter by what he took in the rounds before. The law
+/// The definition `faithful_letter` instead describes the letter by what he took in the earlier rounds. The law
 /// `loyal_letters_follow` says that both letters are the same.
 ///
 /// # Errors
@@ -45,8 +45,9 @@ pub fn loyal_letter(
     })
 }
 
-/// Returns the outbox of a loyal general. It sends each receiver of each label the order that the general took for the
-/// label, as `context` has it. `shape` says which labels and receivers these are.
+/// Returns the outbox of a loyal general. It sends each receiver of each label the order in `context` that the general
+/// took for this label. `shape` says which labels and receivers these are. Fails with `AllocError` if there is no
+/// memory for the outbox.
 fn faithful(alloc: Global, shape: Shape, context: &[u8]) -> Result<Outbox, AllocError>
     requires shape { IsShape shape }
     requires context { length context.now ≡ 4096 }
@@ -57,7 +58,7 @@ fn faithful(alloc: Global, shape: Shape, context: &[u8]) -> Result<Outbox, Alloc
     Ok(outbox)
 }
 
-/// Returns the shape of a general's relay in a round, in the campaign that his context describes.
+/// Returns which labels this general relays in this round, and to whom, in the campaign that his context describes.
 pub fn shape_told(general: u32, round: u32, context: &[u8]) -> Shape
     requires { length context.now ≡ 4096 }
     ensures { result ≡ shape_told general round context.now }

@@ -1,4 +1,4 @@
-//! Checks to which campaign and round letters belong.
+//! Checks to which campaign and round a letter belongs.
 ghost use Rattle.std.specs.Prelude.{◌≡◌, ◌<◌, ◌^◌, ◌↔◌, IsTrue, length};
 ghost use Rattle.round.specs.Scenario.{shape_of};
 ghost use Rattle.round.specs.Origin.{AreLettersOf, AreRoundsOf};
@@ -7,7 +7,8 @@ use crate::letter::Letter;
 use crate::round::Round;
 use crate::scenario::Scenario;
 
-/// Checks whether the letters belong to this round of the campaign.
+/// Returns whether all letters belong to this campaign and round: each names the round, and its outbox has the right
+/// labels and receivers.
 pub fn are_letters_of(scenario: &Scenario, round: u32, letters: &[Letter]) -> bool
     ensures { IsTrue result ↔ AreLettersOf scenario.now round letters.now }
 {
@@ -19,7 +20,8 @@ pub fn are_letters_of(scenario: &Scenario, round: u32, letters: &[Letter]) -> bo
     true
 }
 
-/// Checks whether the letters of each round belong to that round of the campaign. The first element is round 1.
+/// Returns whether the letters of each round belong to this campaign and to that round. The first element of `rounds`
+/// is round 1.
 pub fn are_rounds_of(scenario: &Scenario, rounds: &[Round]) -> bool
     requires { length rounds.now < 2 ^ 32 }
     ensures { IsTrue result ↔ AreRoundsOf scenario.now rounds.now }
@@ -34,7 +36,8 @@ pub fn are_rounds_of(scenario: &Scenario, rounds: &[Round]) -> bool
     true
 }
 
-/// Checks whether the letter belongs to this round of the campaign.
+/// Returns whether a letter belongs to this campaign and round: it names the round, and its outbox has the right labels
+/// and receivers.
 fn is_letter_of(scenario: &Scenario, round: u32, letter: &Letter) -> bool
     ensures { IsTrue result ↔ ((letter.now.round ≡ round)
         × (letter.now.outbox.relay.shape ≡ shape_of scenario.now letter.now.general round)) }

@@ -1,13 +1,13 @@
-//! The letters of one round.
+//! Defines a round as the list of its letters.
 ghost use Rattle.std.specs.Prelude.{◌≡◌};
 
 use crate::letter::Letter;
 use std::marker::Model;
 
-/// The letters of a round. In contracts it is the list of its letters.
+/// The letters of a round. Contracts see it as a list of letters.
 #[derive(Drop)]
 pub struct Round {
-    /// The letters in ascending order of their generals, one for each general who wrote one.
+    /// The letters, ascending by general. A loyal general who has not posted has none.
     pub letters: Vec<Letter>,
 }
 

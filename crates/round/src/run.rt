@@ -1,4 +1,4 @@
-//! A running traitor's program: its activation with its program and its context.
+//! Defines an activation: a traitor's program while it runs, with its context and state.
 ghost use Rattle.std.specs.Prelude.{◌≡◌, ◌<◌, ◌≤◌, ◌↔◌, IfOk, IsTrue, List, [], length};
 ghost use Rattle.std.specs.Arc.{arc_value};
 ghost use Rattle.semantics.specs.Outbox.{empty_outbox};
@@ -24,10 +24,10 @@ use std::marker::Model;
 use std::sync::Arc;
 use verify::Verified;
 
-/// A running program with its context. In contracts it is an activation: the program, the context, the relay, the
-/// patience, the state, and whether the program has exited.
+/// An activation: a traitor's program while it runs, with its context, the patience, the machine's state, and whether
+/// the program has exited.
 ///
-/// The activation takes 3 KB. It is in a box, so that an absent optional activation takes little room.
+/// The machine takes 3 KB, so it is kept in a box. A list element that may or may not be an activation is then small.
 #[derive(Drop)]
 pub struct Running {
     pub(crate) program: Arc<Verified>,
@@ -65,8 +65,8 @@ impl Model for Running {
 }
 
 impl Running {
-    /// Returns the program at its start in the context. The outbox must be empty, and must have no entries where orders
-    /// are signed. The program may take `patience` steps, or any number if there is no patience.
+    /// Returns an activation of `program` at its start. It may take `patience` steps, or any number if `patience` is
+    /// `None`. The outbox must be empty.
     ///
     /// # Errors
     ///
@@ -94,7 +94,7 @@ impl Running {
         })
     }
 
-    /// Returns an independent copy of the running program.
+    /// Returns an independent copy of the activation.
     ///
     /// # Errors
     ///
@@ -112,7 +112,8 @@ impl Running {
         })
     }
 
-    /// Checks whether both run the same program in the same context, with the same patience, and are in the same state.
+    /// Returns whether both activations run the same program with the same context and patience, and are in the same
+    /// state.
     pub fn same(&self, other: &Running) -> bool
         ensures { IsTrue result ↔ (self.now ≡ other.now) }
     {
@@ -126,8 +127,8 @@ impl Running {
             )
     }
 
-    /// Replaces the context of an activation that has not taken a step by the one that its general receives as the next
-    /// round begins. It allocates no memory.
+    /// Replaces the context of an activation that has not taken a step. The new one is the general's context at the
+    /// start of the round after those delivered to `told`. It allocates no memory.
     pub fn brief(&mut self, told: &Received, scenario: &Scenario, general: u8)
         requires start { self.old ≡ started self.old.patience self.old.program self.old.context self.old.relay }
         requires told { (before : List (List Written)) × WasTold scenario.now before told.now }
@@ -140,8 +141,8 @@ impl Running {
         told.write_context_after(scenario, general, told.rounds(), &mut self.context);
     }
 
-    /// Returns the letter of the activation in its current state, with these accesses. The program, the context and the
-    /// outbox are moved into the letter.
+    /// Returns the general's letter of this round, made from the activation in its current state and his accesses in
+    /// `transcript`. The program, the context and the outbox are moved into the letter.
     pub fn into_letter(self, general: u32, round: u32, transcript: Vec<Access>) -> Letter
         requires { IsLetter (letter_left general round transcript.items self) }
         ensures { result ≡ letter_left general round transcript.items self }
@@ -167,21 +168,21 @@ impl Running {
         }
     }
 
-    /// Returns a reference to the program that runs.
+    /// Returns the program that the activation runs.
     pub fn program(&self) -> &Arc<Verified>
         ensures { arc_value result.now ≡ self.now.program }
     {
         &self.program
     }
 
-    /// Returns the context in which the program runs.
+    /// Returns the context with which the program runs: 4,096 bytes.
     pub fn context(&self) -> &[u8]
         ensures { result.now ≡ self.now.context }
     {
         self.context.as_slice()
     }
 
-    /// Returns a reference to the machine with its current state.
+    /// Returns the machine in its current state.
     pub fn activation(&self) -> &Machine
         ensures relay { result.now.relay ≡ self.now.relay }
         ensures state { result.now.state ≡ self.now.state }
@@ -196,7 +197,7 @@ impl Running {
         self.activation.steps()
     }
 
-    /// Checks whether the activation has ended: its program has exited, or its patience is used up.
+    /// Returns whether the activation has ended: its program has exited, or its patience is used up.
     pub fn has_ended(&self) -> bool
         ensures ended { result ≡ has_ended self.now }
         ensures within { IsWithin self.now.patience self.now.state.steps }
@@ -205,14 +206,15 @@ impl Running {
         self.over || is_reached(self.patience, self.activation.steps())
     }
 
-    /// Checks whether the program has exited.
+    /// Returns whether the program has exited.
     pub fn has_exited(&self) -> bool
         ensures { result ≡ self.now.over }
     {
         self.over
     }
 
-    /// Returns what the program has put into its outbox so far, and what it has entered where orders are signed.
+    /// Returns the outbox that the program has filled so far. In a signed campaign it includes the orders that the
+    /// program signed or passed on.
     pub fn outbox(&self) -> &Outbox
         ensures relay { result.now.relay ≡ self.now.relay }
         ensures rows { result.now.rows ≡ self.now.state.outbox }
@@ -222,14 +224,14 @@ impl Running {
     }
 }
 
-/// Moves the activation into a box.
+/// Moves a machine into a box. Fails with `AllocError` if there is no memory for the box.
 fn boxed(alloc: Global, activation: Machine) -> Result<Box<Machine>, AllocError>
     ensures { IfOk result (λ own. own.value ≡ activation) }
 {
     Ok(Box::new(alloc, activation)?)
 }
 
-/// Checks whether the number of steps has used up the patience.
+/// Returns whether this number of steps uses up the patience. It is false if there is no patience.
 pub(crate) fn is_reached(patience: Option<u32>, steps: u32) -> bool
     ensures { result ≡ is_reached patience steps }
 {
@@ -239,7 +241,7 @@ pub(crate) fn is_reached(patience: Option<u32>, steps: u32) -> bool
     }
 }
 
-/// Checks whether both have the same patience, or both have none.
+/// Returns whether both patiences are the same number, or both are `None`.
 fn same_patience(patience: Option<u32>, other: Option<u32>) -> bool
     ensures { IsTrue result ↔ (patience ≡ other) }
 {

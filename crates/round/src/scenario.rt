@@ -1,4 +1,4 @@
-//! A campaign as a value: its numbers, its board, and a program for each traitor.
+//! Defines scenarios. A scenario describes a campaign: its numbers, its board, and a program for each traitor.
 ghost use Rattle.std.specs.Prelude.{◌≡◌, ◌<◌, ◌≤◌, ◌+◌, length, IfOk};
 ghost use Rattle.round.specs.Scenario.{IsScenario, IsPatience, program_of, is_traitor, shape_of};
 
@@ -10,8 +10,9 @@ use label::Shape;
 use std::alloc::{AllocError, Global};
 use std::marker::Model;
 
-/// A campaign within its limits: the generals, the bound on traitors, the commander with his order, and the board's
-/// words. It also has each general's program, the patience of an activation, and the rule of combination.
+/// The description of a campaign: its number of generals, its bound, the commander with his order, and the words that
+/// the board has at first. It also has each traitor's program, the patience of an activation, and the rule by which
+/// lieutenants combine orders.
 #[derive(Drop)]
 pub struct Scenario {
     generals: u8,
@@ -53,8 +54,9 @@ impl Model for Scenario {
 }
 
 impl Scenario {
-    /// Returns the campaign of 2 to 13 generals with a player for each. The bound is 0 to 4 and at least 2 below the
-    /// number of generals. An activation may take 1 to 4,096 steps, or any number if there is no patience.
+    /// Returns a scenario with 2 to 13 generals and one player for each, ascending. The bound is 0 to 4 and at least 2
+    /// below the number of generals. An activation may take `patience` steps (1 to 4,096), or any number if `patience`
+    /// is `None`.
     pub fn new(
         generals: u8,
         bound: u8,
@@ -96,7 +98,7 @@ impl Scenario {
         }
     }
 
-    /// Returns how many generals there are, 2 to 13.
+    /// Returns the number of generals, 2 to 13.
     pub fn generals(&self) -> u8
         ensures same { result ≡ self.now.generals }
         ensures whole { IsScenario self.now }
@@ -104,8 +106,7 @@ impl Scenario {
         self.generals
     }
 
-    /// Returns the bound, 0 to 4: the greatest number of traitors that the campaign provides for. There is one round
-    /// more than the bound.
+    /// Returns the bound, 0 to 4: how many traitors the algorithm is to tolerate. The campaign has `bound` + 1 rounds.
     pub fn bound(&self) -> u8
         ensures same { result ≡ self.now.bound }
         ensures whole { IsScenario self.now }
@@ -113,7 +114,7 @@ impl Scenario {
         self.bound
     }
 
-    /// Returns the commander's number.
+    /// Returns the number of the general who is the commander.
     pub fn commander(&self) -> u8
         ensures same { result ≡ self.now.commander }
         ensures whole { IsScenario self.now }
@@ -121,22 +122,21 @@ impl Scenario {
         self.commander
     }
 
-    /// Returns the commander's order.
+    /// Returns the order that the commander receives as his own at the start.
     pub fn order(&self) -> u32
         ensures { result ≡ self.now.order }
     {
         self.order
     }
 
-    /// Returns the words with which the board opens.
+    /// Returns the words that the board has at first.
     pub fn board(&self) -> &[u64; 64]
         ensures { result.now ≡ self.now.board }
     {
         &self.board
     }
 
-    /// Returns a reference to the player of `general`, which says whether he has a program. Only traitors have one.
-    /// `general` must be below the number of generals.
+    /// Returns the player of this general, who must be below the number of generals. A traitor's player has a program.
     pub fn seat(&self, general: u8) -> &Player
         requires { general < self.now.generals }
         ensures { result.now ≡ program_of self.now general }
@@ -144,7 +144,7 @@ impl Scenario {
         &self.programs[usize::from(general)]
     }
 
-    /// Checks whether the general is a traitor, which means that he has a program.
+    /// Returns whether the general is a traitor, that is, whether he has a program.
     pub fn is_traitor(&self, general: u8) -> bool
         requires { general < self.now.generals }
         ensures { result ≡ is_traitor self.now general }
@@ -152,21 +152,21 @@ impl Scenario {
         self.seat(general).program().is_some()
     }
 
-    /// Returns the greatest number of steps of an activation, if it is bounded.
+    /// Returns the greatest number of steps that an activation may take, or `None` if there is no limit.
     pub fn patience(&self) -> Option<u32>
         ensures { result ≡ self.now.patience }
     {
         self.patience
     }
 
-    /// Returns the rule of combination.
+    /// Returns the rule by which lieutenants combine orders.
     pub fn rule(&self) -> Rule
         ensures { result ≡ self.now.rule }
     {
         self.rule
     }
 
-    /// Returns the shape of the general's relay in a round.
+    /// Returns which labels this general relays in this round (counted from 1), and to whom.
     pub fn shape(&self, general: u8, round: u8) -> Shape
         ensures same { result ≡ shape_of self.now general round }
         ensures whole { IsScenario self.now }
@@ -179,11 +179,11 @@ impl Scenario {
         }
     }
 
-    /// Returns a copy of the campaign.
+    /// Returns a copy of the scenario.
     ///
     /// # Errors
     ///
-    /// Fails with `AllocError` if there is no memory for the players.
+    /// Fails with `AllocError` if there is no memory for the copy.
     pub fn copy(&self, alloc: Global) -> Result<Scenario, AllocError>
         ensures { IfOk result (λ scenario. scenario ≡ self.now) }
     {

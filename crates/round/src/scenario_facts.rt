@@ -1,5 +1,4 @@
-//! Facts about scenarios and players for use in proofs. Each function does nothing, and its contract recalls what the
-//! type of its argument guarantees.
+//! Recalls for proofs what the types of scenarios and players guarantee.
 ghost use Rattle.std.specs.Prelude.{◌≡◌, ℕ, List, Option, Some, IfSome, slice_get};
 ghost use Rattle.insn.specs.declared.insn.Insn.{Insn};
 ghost use Rattle.semantics.specs.Run.{IsSound};
@@ -9,7 +8,8 @@ use crate::scenario::Scenario;
 use crate::seat::Player;
 
 impl Scenario {
-    /// Does nothing. Its contract says that a scenario is within its limits.
+    /// Does nothing. Its contract says that the scenario's numbers are within their limits, such as at most 13
+    /// generals.
     pub fn recall(&self)
         ensures { IsScenario self.now }
     {
@@ -17,7 +17,7 @@ impl Scenario {
     }
 }
 
-/// Does nothing. Its contract says that the programs of players are sound.
+/// Does nothing. Its contract says that the program of each player is sound.
 pub(crate) fn recall_sound(seats: &[Player])
     ensures { (i : ℕ) (program : List Insn) → slice_get seats.now i ≡ Some (Some program) → IsSound program }
 {

@@ -1,4 +1,4 @@
-//! A general's player: a verified program for a traitor, or none for a loyal general.
+//! Defines players. A traitor's player has a verified program, and a loyal general's has none.
 ghost use Rattle.std.specs.Prelude.{◌≡◌, ◌↔◌, IfOk, IfSome, IsTrue};
 ghost use Rattle.std.specs.Option.{option_map};
 ghost use Rattle.std.specs.Arc.{arc_value};
@@ -10,7 +10,8 @@ use std::marker::Model;
 use std::sync::Arc;
 use verify::Verified;
 
-/// A general's program, or none if he is loyal. In contracts it is the program's instructions.
+/// A general as a player: a traitor with his verified program, or a loyal general without one. Contracts see the
+/// program's instructions.
 #[derive(Drop)]
 pub struct Player {
     program: Option<Arc<Verified>>,
@@ -28,14 +29,14 @@ impl Model for Player {
 }
 
 impl Player {
-    /// Returns the player with this program, or without one.
+    /// Returns a traitor with this program, or a loyal general if `program` is `None`.
     pub fn new(program: Option<Arc<Verified>>) -> Player
         ensures { result ≡ option_map arc_value program }
     {
         Player { program }
     }
 
-    /// Returns a reference to the program, or to `None` for a loyal general.
+    /// Returns the traitor's program, or `None` for a loyal general.
     pub fn program(&self) -> &Option<Arc<Verified>>
         ensures same { option_map arc_value result.now ≡ self.now }
         ensures sound { IfSome self.now IsSound }
@@ -46,7 +47,7 @@ impl Player {
         &self.program
     }
 
-    /// Returns a copy of the player, which shares the program.
+    /// Returns a copy of the player. It shares the program with the original.
     ///
     /// # Errors
     ///
@@ -62,7 +63,7 @@ impl Player {
         }
     }
 
-    /// Checks whether both have the same program, or both have none.
+    /// Returns whether both players have the same program, or neither has one.
     pub fn same(&self, other: &Player) -> bool
         ensures { IsTrue result ↔ (self.now ≡ other.now) }
     {
@@ -82,7 +83,8 @@ impl Player {
     }
 }
 
-/// Returns a copy of the players, which share their programs.
+/// Returns copies of the players. Each shares its program with the original. Fails with `AllocError` if there is no
+/// memory for the list, or if a program's reference count cannot be increased.
 pub(crate) fn copied(alloc: Global, seats: &[Player]) -> Result<Vec<Player>, AllocError>
     ensures { IfOk result (λ copy. copy.items ≡ seats.now) }
 {

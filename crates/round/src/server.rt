@@ -1,4 +1,4 @@
-//! The trait of boards that serve the requests of a running program.
+//! Defines servers, which answer the requests of running programs.
 ghost use Rattle.std.specs.Prelude.{◌≡◌, ◌++◌, ◌∷◌, [], true, List, IfOk, OnErr};
 ghost use Rattle.semantics.specs.Call.{fits};
 ghost use Rattle.semantics.specs.Replies.{words_in};
@@ -9,15 +9,15 @@ use board::Board;
 use semantics::{Reply, Request};
 use std::alloc::AllocError;
 
-/// A server of a running program's requests: a board, or a board behind a lock that one general's thread holds.
+/// Answers the requests of running programs: a board, or one general's access to a board behind a lock.
 ///
-/// The trait promises that a reply fits its request, and that what was served is recorded with its request and reply,
-/// in order. It does not say which reply is given, or what others do to the board.
+/// A server's contract promises that a reply fits its request, and that each access is recorded in order. It does not
+/// say which reply is given, or what other generals do to the board.
 pub trait Server {
-    /// What was served so far through this server, in order. For a board it is the ledger.
+    /// The accesses that this server has served so far, in order. For a board it is the ledger.
     ghost served: { Self → List Entry };
 
-    /// Serves a request that a general makes in a round, and returns the reply.
+    /// Answers a request of this general in this round, and returns the reply.
     ///
     /// # Errors
     ///

@@ -1,4 +1,5 @@
-//! Lists the generals off a label and the orders that their letters contain for it, and fills them into the trees.
+//! Finds the orders that generals send about a label, and enters them into the lieutenants' trees. These generals are
+//! the ones who are off the label.
 ghost use Rattle.std.specs.Prelude.{◌≡◌, ◌<◌, ◌≤◌, ◌+◌, ℕ, List, Some, length, slice_get};
 ghost use Rattle.outbox.specs.Orders.{order_of_row, orders_seen};
 ghost use Rattle.outbox.specs.Rows.{order_in};
@@ -12,13 +13,13 @@ use crate::letter::Letter;
 use outbox::Orders;
 use tree::Tree;
 
-/// Lists the generals below `generals` who are off the label, ascending, each with the label's row in his letter. A
-/// general without a letter has a row that sends no order to anybody. Returns how many there are. The entries after
-/// them mean nothing.
+/// Writes the generals who are off the label `front` to `names`, ascending, and to `rows` the orders that each sends
+/// about `front` in his letter. A general without a letter sends nothing. Returns the number of these generals. Array
+/// elements from that number on have no meaning.
 ///
-/// The lists are written into the caller's arrays, because moving them would take as long as making them. Each general
-/// is written after those before him, and the count is increased only if he is off the label. This avoids a branch,
-/// which would be mispredicted because the generals change from label to label.
+/// The lists are written into the caller's arrays, because moving them would take as long as making them. Every general
+/// is written after the ones counted so far, but counted only if he is off the label. This avoids a branch, which would
+/// be mispredicted because the generals change from label to label.
 pub(crate) fn list_tellers<'a>(
     letters: &'a [Letter],
     indices: &[usize; 13],
@@ -54,8 +55,9 @@ pub(crate) fn list_tellers<'a>(
     count
 }
 
-/// Fills the tree with the orders that the generals off a label send to the tree's lieutenant for it. The order of each
-/// goes to the label extended by him. The lieutenant is number `own` among these generals, and his own row is skipped.
+/// Enters into a lieutenant's tree the orders that the generals off the label `front` send him about it. An order of
+/// general g is entered for the label `front` extended by g. `rows` has the orders by general, and element `own`, which
+/// is from the lieutenant himself, is skipped.
 pub(crate) fn fill_children(
     own: usize,
     rows: &[Orders<'_>],
@@ -79,7 +81,8 @@ pub(crate) fn fill_children(
     });
 }
 
-/// Returns the order that the row at this index sends to a receiver, if the row of number `own` is skipped in counting.
+/// Returns the order that a row sends to `receiver`, or `None` if it sends him nothing. It is the row at `index` of
+/// `rows` without element `own`.
 fn order_past(rows: &[Orders<'_>], own: usize, index: usize, receiver: u8) -> Option<u32>
     requires { index + 1 < length rows.now }
     ensures { (row : Orders) → slice_get rows.now (lieutenant_at own index) ≡ Some row →
@@ -89,7 +92,8 @@ fn order_past(rows: &[Orders<'_>], own: usize, index: usize, receiver: u8) -> Op
     rows[number].order(u32::from(receiver))
 }
 
-/// Returns the row of the label of this rank in a general's letter, if there is one.
+/// Returns the orders that this general's letter sends about the label of this rank, or `None` if he has no letter or
+/// it has no such label. `indices` has for each general the index of his letter.
 pub(crate) fn row_in<'a>(
     letters: &'a [Letter],
     indices: &[usize; 13],
@@ -106,7 +110,7 @@ pub(crate) fn row_in<'a>(
     }
 }
 
-/// Returns the order that a row sends to a receiver, or `None` if there is no row.
+/// Returns the order that a row sends to `receiver`, or `None` if there is no row or it sends him nothing.
 pub(crate) fn order_in_row(row: Option<Orders<'_>>, receiver: u8) -> Option<u32>
     ensures { result ≡ order_of_row row.entry receiver }
 {

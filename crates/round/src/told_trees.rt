@@ -1,4 +1,4 @@
-//! What the lieutenants have received from the letters of closed rounds, and the contexts made from it.
+//! Keeps what the lieutenants have received in the closed rounds, and makes the generals' contexts from it.
 ghost use Rattle.std.specs.Prelude.{◌≡◌, ◌≢◌, ◌<◌, ◌≤◌, ◌++◌, ◌∷◌, [], suc, List, IfOk, OnOk, length, take, vec_capacity};
 ghost use Rattle.round.specs.Letters.{Letter as LetterSeen};
 ghost use Rattle.round.specs.Contexts.{context_of, AreWords};
@@ -14,11 +14,10 @@ use std::alloc::{AllocError, Global};
 use std::marker::Model;
 use tree::Tree;
 
-/// What the lieutenants have received from the letters of closed rounds: a tree for each, ascending, filled round by
-/// round.
+/// What the lieutenants have received from the letters of the closed rounds: a tree for each lieutenant, ascending.
 #[derive(Drop)]
 pub struct Received {
-    /// How many rounds were delivered.
+    /// The number of rounds whose letters were delivered.
     rounds: u8,
     trees: Vec<Tree>,
 }
@@ -32,7 +31,8 @@ impl Model for Received {
 }
 
 impl Received {
-    /// Returns the trees before any round is delivered. Delivering letters to them later allocates no memory.
+    /// Returns what the lieutenants have received before the first round: empty trees. Delivering letters to them later
+    /// allocates no memory.
     ///
     /// # Errors
     ///
@@ -51,21 +51,21 @@ impl Received {
         Ok(Received { rounds: 0, trees })
     }
 
-    /// Returns how many rounds were delivered.
+    /// Returns the number of rounds whose letters were delivered.
     pub fn rounds(&self) -> u8
         ensures { result ≡ self.now.rounds }
     {
         self.rounds
     }
 
-    /// Returns the lieutenants' trees, in ascending order of the lieutenants.
+    /// Returns the lieutenants' trees, ascending by lieutenant.
     pub fn trees(&self) -> &[Tree]
         ensures { result.now ≡ self.now.trees }
     {
         self.trees.as_slice()
     }
 
-    /// Delivers the letters of the next round.
+    /// Delivers the letters of the next round to the lieutenants' trees.
     pub fn deliver(&mut self, scenario: &Scenario, letters: &[Letter])
         requires told { (before : List (List LetterSeen)) × WasTold scenario.now before self.old }
         requires left { self.old.rounds ≤ scenario.now.bound }
@@ -83,7 +83,7 @@ impl Received {
         self.rounds += 1;
     }
 
-    /// Removes the letters of the last round that was delivered. It allocates no memory.
+    /// Removes the letters of the last delivered round from the trees. It allocates no memory.
     pub fn forget(&mut self, scenario: &Scenario)
         requires told { (before : List (List LetterSeen)) × (letters : List LetterSeen)
             × WasTold scenario.now (before ++ letters ∷ []) self.old }
@@ -97,7 +97,7 @@ impl Received {
         self.rounds -= 1;
     }
 
-    /// Returns the context that a general receives as the next round begins.
+    /// Returns this general's context at the start of the round after those delivered.
     ///
     /// # Errors
     ///
@@ -119,9 +119,8 @@ impl Received {
         self.context_after(alloc, scenario, general, self.rounds)
     }
 
-    /// Returns the context that a general received after the first `rounds` rounds. Rounds that were delivered since
-    /// then do not change it: the context depends on the labels of one length only, and each round fills in labels of
-    /// its own length.
+    /// Returns this general's context at the start of the round after the first `rounds` rounds. It does not matter
+    /// whether later rounds were also delivered, because their orders are for longer labels.
     ///
     /// # Errors
     ///
@@ -147,9 +146,8 @@ impl Received {
         Ok(bytes)
     }
 
-    /// Writes the context that a general received after the first `rounds` rounds, as [`Received::context_after`]
-    /// returns it, in place of what the vector contains. The vector must have capacity for it, and no memory is
-    /// allocated.
+    /// Writes into `bytes` this general's context at the start of the round after the first `rounds` rounds, in place
+    /// of what `bytes` contains. `bytes` must have capacity for 4,096 bytes, and no memory is allocated.
     pub fn write_context_after(
         &self,
         scenario: &Scenario,
@@ -181,7 +179,7 @@ impl Received {
     }
 }
 
-/// Returns the context that a general receives as the round after these closed rounds begins.
+/// Returns this general's context at the start of the round after the closed rounds `before`.
 ///
 /// # Errors
 ///
@@ -205,8 +203,8 @@ pub fn context_for(
     told.context(alloc, scenario, general)
 }
 
-/// Writes the context that a general receives as the first round begins, in place of what the vector contains. The
-/// vector must have capacity for it. The commander receives his order, and the others receive none.
+/// Writes into `bytes` this general's context at the start of the first round, in place of what `bytes` contains.
+/// `bytes` must have capacity for 4,096 bytes. The commander's context has his order, and a lieutenant's has no order.
 fn write_first_context(scenario: &Scenario, general: u8, bytes: &mut Vec<u8>)
     requires room { 4096 ≤ vec_capacity bytes.old }
     requires general { general < scenario.now.generals }
@@ -220,7 +218,7 @@ fn write_first_context(scenario: &Scenario, general: u8, bytes: &mut Vec<u8>)
     write_context(bytes, shape, bound, &[]);
 }
 
-/// Returns the number of the lieutenant at an index, counted from 0, of the ascending list of lieutenants.
+/// Returns the lieutenant at index `index`, counted from 0, of the lieutenants under this commander, ascending.
 fn lieutenant_at(commander: u8, index: u8) -> u8
     requires { index < 255 }
     ensures { result ≡ lieutenant_at commander index }
@@ -228,7 +226,8 @@ fn lieutenant_at(commander: u8, index: u8) -> u8
     if index < commander { index } else { index + 1 }
 }
 
-/// Returns the index of a lieutenant in the ascending list of lieutenants under the commander.
+/// Returns the index of lieutenant `general`, counted from 0, in the ascending list of lieutenants under this
+/// commander.
 fn lieutenant_index(commander: u8, general: u8) -> u8
     requires { general ≢ commander }
     ensures there { lieutenant_at commander result ≡ general }

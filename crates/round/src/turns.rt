@@ -1,4 +1,4 @@
-//! Takes the turns of an activation, one by one or up to the next access.
+//! Takes steps of an activation, one by one or up to its next request to the board.
 ghost use Rattle.std.specs.Prelude.{◌≡◌, ◌≤◌, ◌+◌, false, ℕ, None, List, OnOk, OnErr};
 ghost use Rattle.insn.specs.declared.insn.Insn.{Insn};
 ghost use Rattle.semantics.specs.Call.{resumed};
@@ -19,11 +19,13 @@ use std::alloc::AllocError;
 use verify::Verified;
 
 impl Running {
-    /// Takes one turn. The board serves its request, if it makes one, in the general's name.
+    /// Takes one step of the activation, unless it has ended. If the step is a request, the board answers it, and
+    /// records the access for this general and round.
     ///
     /// # Errors
     ///
-    /// Fails with `AllocError` if the turn makes a request and there is no memory for the access. Then nothing has changed.
+    /// Fails with `AllocError` if the step is a request and there is no memory for the access. Then nothing has
+    /// changed.
     pub fn turn(&mut self, board: &mut Board, general: u32, round: u32) -> Result<(), AllocError>
         ensures done { OnOk result ((self.new, board.new) ≡ moved general round self.old board.old (turn self.old)) }
         ensures undone { OnErr result ((self.new ≡ self.old) × (board.new ≡ board.old)) }
@@ -48,8 +50,8 @@ impl Running {
         }
     }
 
-    /// Takes turns until the next turn would be a request to the board, the activation has ended, or it has taken at
-    /// least `limit` steps since it began. The board is not used.
+    /// Takes steps until the next step would be a request to the board, the activation has ended, or it has taken at
+    /// least `limit` steps since it began. It does not use the board.
     pub fn ahead(&mut self, limit: u32)
         ensures went { Silently self.old self.new }
         ensures pauses { Pauses limit self.new (turn self.new) }
@@ -69,8 +71,8 @@ impl Running {
     }
 }
 
-/// Takes steps until the next step would be a request to the board, the program has exited, or it has taken at least
-/// `limit` steps since its activation began. Returns whether it has exited.
+/// Takes steps of the machine until the next step would be a request to the board, the program has exited, or the
+/// activation has taken at least `limit` steps since it began. Returns whether the program has exited.
 fn many(activation: &mut Machine, verified: &Verified, bytes: &[u8], limit: u32) -> bool
     requires context { IsContext bytes.now }
     requires of_run { IsOfRun verified.now bytes.now activation.old }
@@ -93,7 +95,8 @@ fn many(activation: &mut Machine, verified: &Verified, bytes: &[u8], limit: u32)
     }
 }
 
-/// Takes one step, and returns why the machine stopped.
+/// Takes one step of the machine, and returns why it stopped: the step was taken (`Limit`), the program exited, or it
+/// makes a request.
 pub(crate) fn one(activation: &mut Machine, verified: &Verified, bytes: &[u8]) -> StopReason
     requires context { IsContext bytes.now }
     requires of_run { IsOfRun verified.now bytes.now activation.old }
@@ -112,12 +115,12 @@ pub(crate) fn one(activation: &mut Machine, verified: &Verified, bytes: &[u8]) -
     activation.run(verified, &context, limit)
 }
 
-/// Lets the board serve a request, and resumes the activation with the reply.
+/// Lets the board answer a request, and resumes the activation with the reply.
 ///
 /// # Errors
 ///
-/// Fails with `AllocError` if there is no memory for the access. Then the request is withdrawn and the board is
-/// unchanged.
+/// Fails with `AllocError` if there is no memory for the access. Then the board is unchanged, and the activation is in
+/// the state before the request.
 fn serve(
     activation: &mut Machine,
     board: &mut Board,
@@ -147,7 +150,7 @@ fn serve(
     }
 }
 
-/// Returns the lesser of a limit and a patience.
+/// Returns the lesser of `limit` and the patience, or `limit` if there is no patience.
 fn lesser(patience: Option<u32>, limit: u32) -> u32
     ensures { result ≡ lesser patience limit }
 {

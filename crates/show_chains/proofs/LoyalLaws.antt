@@ -1,4 +1,4 @@
--- What is drawn of loyal generals.
+-- How the strokes of loyal generals are drawn.
 use Rattle.std.proofs.Common.{ℕ, suc, ◌<◌, ◌≡◌, Bool, true, false, not, cond, List, [], ◌∷◌, ◌++◌, length, refl, sym, ap, subst, ◌∙◌, inl, inr, append-nil}
 use Rattle.std.specs.Prelude.{◌==◌, bytes_eq, filter}
 use Rattle.std.proofs.lemmas.Bool.{and_from, or_left, or_right, eq-eqb}
@@ -37,7 +37,7 @@ none_kept f [] h = refl
 none_kept f (x ∷ xs) h =
     ap (λ b. cond (not b) (x ∷ filter (λ y. not (f y)) xs) (filter (λ y. not (f y)) xs)) (h x (inl refl)) ∙ none_kept f xs (λ y m. h y (inr m))
 
--- what is sent just as it is owed is drawn in one way
+-- If exactly the owed chains are sent, all strokes are honest.
 alike : (round p g : ℕ) (xs : List Chain) → told_between round p g xs xs ≡ grouped (way round p g true false) xs
 alike round p g xs =
     ap (λ ys. grouped (way round p g true false) ys ++ grouped (way round p g true true) (filter (λ ch. not (is_among xs ch)) xs) ++ grouped (way round p g false true) (filter (λ ch. not (is_among xs ch)) xs))

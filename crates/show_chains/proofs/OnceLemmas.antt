@@ -1,4 +1,4 @@
--- Each chain that is sent or owed stands in just one stroke.
+-- Each chain that was sent or owed is in exactly one stroke.
 use Rattle.std.proofs.Common.{ℕ, suc, ◌+◌, ◌≡◌, ◌≢◌, Bool, true, false, not, ◌&&◌, ◌||◌, cond, List, [], ◌∷◌, ◌++◌, length, length-append, map, refl, sym, ap, subst, ◌∙◌, arith, inl, inr}
 use Rattle.std.proofs.lemmas.Bool.{and_left, and_parts, and_right, cases_Bool, eq-eqb, eqb-false, eqb-true, ne_eqb, not-true, or_cases, or_left, or_parts, or_right}
 use Rattle.std.proofs.lemmas.List.Elements.{filter-append}
@@ -30,7 +30,7 @@ same_chain a b e =
 among_rest : (xs : List Chain) (x ch : Chain) → is_same ch x ≡ false → is_among (x ∷ xs) ch ≡ is_among xs ch
 among_rest xs x ch e = ap (λ b. b || is_among xs ch) e
 
--- a chain is among those that pass a test where it passes, and is among all
+-- A chain is among the filtered ones exactly if it is in the list and passes the filter.
 among_kept : (f : Chain → Bool) (xs : List Chain) (ch : Chain) → is_among (filter f xs) ch ≡ (f ch && is_among xs ch)
 among_kept f [] ch = sym (and_right (f ch) false refl)
 among_kept f (x ∷ xs) ch = elim (cases_Bool (is_same ch x)) [
@@ -47,7 +47,7 @@ among_kept f (x ∷ xs) ch = elim (cases_Bool (is_same ch x)) [
     by_other true other = among_rest (filter f xs) x ch other
     by_other false other = refl
 
--- whose order is then among theirs
+-- If a chain is in the list, its order is among the list's orders.
 order_among : (xs : List Chain) (ch : Chain) → is_among xs ch ≡ true → on (orders xs) ch.order ≡ true
 order_among [] ch e = cc
 order_among (x ∷ xs) ch e = elim (or_cases (is_same ch x) (is_among xs ch) e) [
@@ -61,14 +61,14 @@ length_if : {A B : Type 0} (b : Bool) (x : A) (xs : List A) (y : B) (ys : List B
 length_if true x xs y ys e = ap suc e
 length_if false x xs y ys e = e
 
--- a test that asks nothing of rows
+-- Numbering the rows does not change how many strokes pass a test that ignores row numbers.
 pub kept_numbered : (f : Drawn → Bool) (xs : List Drawn) (row : ℕ) → ((x : Drawn) (i : ℕ) → f (in_row x i) ≡ f x) → length (filter f (numbered xs row)) ≡ length (filter f xs)
 kept_numbered f [] row h = refl
 kept_numbered f (x ∷ xs) row h =
     let rest : List Drawn = filter f (numbered xs (suc row)) in
     ap (λ b. length (cond b (in_row x row ∷ rest) rest)) (h x row) ∙ length_if (f x) (in_row x row) rest x (filter f xs) (kept_numbered f xs (suc row) h)
 
--- and the order in which they stand
+-- Arranging the strokes does not change how many pass a test.
 pub kept_arranged : (f : Drawn → Bool) (xs : List Drawn) → length (filter f (arranged is_lie sender xs)) ≡ length (filter f xs)
 kept_arranged f xs = length-filter f (arranged is_lie sender xs) ∙ (count_arranged f is_lie sender xs ∙ sym (length-filter f xs))
 
@@ -76,7 +76,7 @@ none_made : (h : Drawn → Bool) (m : ℕ → Drawn) (os : List ℕ) → ((o : �
 none_made h m [] none = refl
 none_made h m (o ∷ os) none = ap (λ b. cond b (m o ∷ filter h (map m os)) (filter h (map m os))) (none o) ∙ none_made h m os none
 
--- only that of order v may pass
+-- If only strokes with order `v` can pass a test and no stroke has it, none passes.
 none_of_order : (h : Drawn → Bool) (m : ℕ → Drawn) (v : ℕ) (os : List ℕ) → ((o : ℕ) → o ≢ v → h (m o) ≡ false) → on os v ≡ false → filter h (map m os) ≡ []
 none_of_order h m v [] others off = refl
 none_of_order h m v (o ∷ os) others off =
@@ -104,7 +104,7 @@ one_of_order h m v (o ∷ os) others apart there =
 
 -- ---- groups
 
--- who sends another's strokes tells of no chain there
+-- A group of another sender has no stroke of general `g` with this chain.
 other_group : (w : Way) (g : ℕ) (ch : Chain) (chains : List Chain) → (w.teller == g) ≡ false → filter (tells_of g ch) (grouped w chains) ≡ []
 other_group w g ch chains e =
     none_made (tells_of g ch) (made w chains) (orders (firsts [] chains)) (λ o. and_left (w.teller == g) (is_among (of_order o chains) ch) e)

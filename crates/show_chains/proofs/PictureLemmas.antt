@@ -1,4 +1,4 @@
--- A picture, piece by piece.
+-- The text of a diagram, put together from its pieces.
 use Rattle.std.proofs.Common.{ℕ, ◌+◌, ◌≡◌, Bool, List, ◌++◌, append_assoc, codes}
 use Rattle.board.specs.Board.{Access}
 use Rattle.round.specs.Scenario.{Scenario}

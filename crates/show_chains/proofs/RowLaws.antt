@@ -1,4 +1,4 @@
--- Rows are numbered, and tell of each chain what is so.
+-- Rows are numbered, and each stroke is right about each of its chains.
 use Rattle.std.proofs.Common.{ℕ, zero, suc, ◌+◌, ◌-◌, ◌<◌, ◌≤◌, ◌≡◌, ◌≢◌, Bool, true, false, not, ◌&&◌, ◌||◌, cond, List, [], ◌∷◌, ◌++◌, length, map, refl, sym, ap, subst, ◌∙◌, arith, inl, inr}
 use Rattle.std.proofs.lemmas.Bool.{and_from, and_left, and_right, cases_Bool, cond_both, eq-eqb, le-ltb, lt-ltb, ne_eqb, not-true}
 use Rattle.std.proofs.lemmas.List.Elements.{All-from_recursion}
@@ -41,7 +41,8 @@ all_made : (P : Drawn → Type 0) (w : Way) (chains : List Chain) (os : List ℕ
 all_made P w chains [] h = tt
 all_made P w chains (o ∷ os) h = (h o, all_made P w chains os h)
 
--- what holds of all that is grouped holds of all from one to another
+-- A property of all strokes that can be made for chains that are sent or owed holds for all strokes from one general to
+-- another.
 all_between : (P : Drawn → Type 0) (round p g : ℕ) (sent owed : List Chain)
     → ((order : ℕ) → P (made (way round p g true false) (filter (is_among owed) sent) order))
     → ((order : ℕ) → P (made (way round p g true true) (filter (λ ch. not (is_among owed ch)) sent) order))
@@ -61,7 +62,7 @@ all_between P round p g sent owed a b c =
 abbrev IsListed : ℕ → ℕ → Drawn → Type 0
 IsListed round p x = (x.stroke.round ≡ round) × (x.stroke.receiver ≡ p)
 
--- what holds of all from each, in whatever row, holds of a list
+-- A property that holds for the strokes of every sender, whatever their row, holds for all strokes of a list.
 all_list : (P : Drawn → Type 0) (c : Chronicle) (round p : ℕ) → ((g : ℕ) → AllByRecursion (λ x. (i : ℕ) → P (in_row x i)) (between c round p g)) → AllByRecursion P (list_to c round p)
 all_list P c round p h =
     let F : Drawn → Type 0 = λ x. (i : ℕ) → P (in_row x i) in
@@ -300,7 +301,7 @@ count_filter f g (x ∷ xs) =
           omega arith
     ]
 
--- of the strokes that pass a test, those that are drawn and those that are not
+-- The strokes that pass a test are those that are drawn and those that are left out.
 counted_all : (f : Stroke → Bool) (xs : List Drawn) → count_by (λ (x : Drawn). f x.stroke) (with_rows xs) + count_by (λ (st : Stroke). is_past st && f st) (bare xs) ≡ count_by (λ (x : Drawn). f x.stroke) xs
 counted_all f xs =
     let drawn : count_by f (strokes_with_rows (bare xs)) ≡ count_by (λ (x : Drawn). f x.stroke) (with_rows xs) = ap (count_by f) (bare_rows xs) ∙ count_bare f (with_rows xs) in

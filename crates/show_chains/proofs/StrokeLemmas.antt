@@ -1,4 +1,4 @@
--- Strokes, one behind another.
+-- Lists of strokes that are made one stroke at a time.
 use Rattle.std.proofs.Common.{ℕ, suc, ◌+◌, ◌<◌, ◌≤◌, ◌≡◌, Bool, true, false, not, cond, List, [], ◌∷◌, ◌++◌, map, length, get_or, take, drop, refl, sym, ap, ◌∙◌, append_assoc, append-nil, arith}
 use Rattle.std.specs.Prelude.{filter}
 use Rattle.std.specs.List.{flat_map, range_with_len}
@@ -14,7 +14,7 @@ use Rattle.signed.proofs.Adding.{at_the_end, firsts_alike}
 use Rattle.show_chains.specs.Owed.{is_among}
 use Rattle.show_chains.specs.Strokes.{Drawn, grouped, in_row, numbered, told_between, way}
 
--- a list for each number, with that of one number more
+-- The list for one more number is appended to those for the numbers below it.
 pub range_items : {A : Type 0} (f : ℕ → List A) (n : ℕ) (old : List A) → (old ++ flat_map f (range_with_len 0 n)) ++ f n ≡ old ++ flat_map f (range_with_len 0 (n + 1))
 range_items f n old =
     append_assoc old (flat_map f (range_with_len 0 n)) (f n)
@@ -22,7 +22,7 @@ range_items f n old =
     (ap (λ xs. flat_map f (range_with_len 0 n) ++ xs) (sym (append-nil (f n)))
     ∙ sym (ap (flat_map f) (range_more n) ∙ flat_map-append f (range_with_len 0 n) (n ∷ [])))
 
--- those that pass a test, with one more
+-- One more element is appended if it passes the test.
 pub kept_more : {A : Type 0} (f : A → Bool) (b : Bool) (xs old new : List A) (i : ℕ) (x : A) → i < length xs → x ≡ get_or xs i x → b ≡ f x → old ≡ filter f (take i xs) → new ≡ old ++ cond b (x ∷ []) []
     → new ≡ filter f (take (i + 1) xs)
 kept_more f b xs old new i x inside is e first then =
@@ -30,7 +30,7 @@ kept_more f b xs old new i x inside is e first then =
     ∙ (ap (λ ys. ys ++ cond b (x ∷ []) []) first
     ∙ (ap (λ a. filter f (take i xs) ++ cond a (x ∷ []) []) e ∙ sym (filter_more f xs i x inside ∙ ap (λ y. filter f (take i xs) ++ cond (f y) (y ∷ []) []) (sym is))))
 
--- one more of a list that is mapped
+-- One more element of a list is mapped.
 pub mapped : {A B : Type 0} (f : A → B) (xs : List A) (now : List B) (i : ℕ) (x : A) → i < length xs → x ≡ get_or xs i x → now ≡ map f (take i xs) → now ++ f x ∷ [] ≡ map f (take (i + 1) xs)
 mapped f xs now i x inside is h = ap (λ ys. ys ++ f x ∷ []) h ∙ sym (map_more f xs i x inside ∙ ap (λ y. map f (take i xs) ++ f y ∷ []) (sym is))
 
@@ -46,7 +46,7 @@ numbered_length : (xs : List Drawn) (row : ℕ) → length (numbered xs row) ≡
 numbered_length [] row = refl
 numbered_length (x ∷ xs) row = ap suc (numbered_length xs (suc row))
 
--- one more, below the others
+-- One more stroke is appended, with the next row number.
 pub numbered_more : (xs : List Drawn) (x stroke : Drawn) (old new : List Drawn) (row : ℕ) → old ≡ numbered xs 0 → row ≡ length old → stroke ≡ in_row x row → new ≡ old ++ stroke ∷ [] → new ≡ numbered (xs ++ x ∷ []) 0
 numbered_more xs x stroke old new row so long is then =
     let many = ap length so ∙ numbered_length xs 0 in
@@ -65,7 +65,7 @@ seen_first seen x rest false e =
     sym (append_assoc seen (x.order ∷ []) (orders (firsts (seen ++ x.order ∷ []) rest))
     ∙ ap (λ (ys : List Chain). seen ++ x.order ∷ orders ys) (firsts_alike (seen ++ x.order ∷ []) (x.order ∷ seen) rest (λ v. at_the_end seen x.order v)))
 
--- one more chain, which brings an order that was there, or that was not
+-- One more chain is considered, whose order was already found or is new.
 pub order_there : (chains : List Chain) (i : ℕ) (x : Chain) (seen whole : List ℕ) → i < length chains → x ≡ get_or chains i x → on seen x.order ≡ true
     → seen ++ orders (firsts seen (drop i chains)) ≡ whole → seen ++ orders (firsts seen (drop (i + 1) chains)) ≡ whole
 order_there chains i x seen whole inside is there so =
@@ -95,7 +95,7 @@ order_more chains i x seen new whole inside is then so = by_case (on seen x.orde
     by_case true there e = ap (λ ys. ys ++ orders (firsts ys (drop (i + 1) chains))) e ∙ order_there chains i x seen whole inside is there so
     by_case false fresh e = ap (λ ys. ys ++ orders (firsts ys (drop (i + 1) chains))) e ∙ order_new chains i x seen whole inside is fresh so
 
--- a stroke more, for one order more
+-- One more stroke is appended for one more order.
 pub grouped_more : (f : ℕ → Drawn) (os : List ℕ) (start old new : List Drawn) (i o d : ℕ) → i < length os → o ≡ get_or os i d → old ≡ start ++ map f (take i os) → new ≡ old ++ f o ∷ [] → new ≡ start ++ map f (take (i + 1) os)
 grouped_more f os start old new i o d inside is first then =
     then
@@ -115,7 +115,8 @@ round_more f n start old new piece first is then =
 three_behind : (old one two three : List Drawn) → ((old ++ one) ++ two) ++ three ≡ old ++ (one ++ two ++ three)
 three_behind old one two three = simp append_assoc
 
--- what is sent as it is owed, what is sent otherwise, and what is owed and not sent
+-- The strokes between two generals: for owed chains that were sent, for other chains that were sent, and for owed
+-- chains that were not sent.
 pub told_three : (round p g : ℕ) (sent owed xs ys zs : List Chain) (old a b d : List Drawn) → xs ≡ filter (is_among owed) sent → ys ≡ filter (λ ch. not (is_among owed ch)) sent → zs ≡ filter (λ ch. not (is_among sent ch)) owed
     → a ≡ old ++ grouped (way round p g true false) xs → b ≡ a ++ grouped (way round p g true true) ys → d ≡ b ++ grouped (way round p g false true) zs
     → d ≡ old ++ told_between round p g sent owed

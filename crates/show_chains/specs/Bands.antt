@@ -1,4 +1,5 @@
--- The bands of a signed campaign's diagram, one for each round, with its accesses and the strokes of its chains.
+-- The bands of a signed campaign's diagram, one for each round, with the accesses and the strokes. A stroke is a line
+-- from a sender to a receiver, for the chains with one order.
 use Rattle.std.specs.Prelude.{ℕ, ◌+◌, ◌*◌, ◌==◌, min, if◌then◌else◌, List, [], ◌++◌, flat_map, codes}
 use Rattle.std.specs.List.{range_with_len}
 use Rattle.board.specs.Board.{Access}
@@ -10,29 +11,29 @@ use Rattle.show_diagram.specs.declared.stroke.Stroke.{Stroke}
 use Rattle.show_chains.specs.Strokes.{Drawn}
 use Rattle.show_chains.specs.Words.{row_words, stroke_words}
 
--- Writes the line of a stroke from its sender to its receiver. Its width is its number of chains, up to 5.
+-- Returns a stroke's line from its sender to its receiver. It is as wide as the stroke has chains, but at most 5.
 abbrev pub stroke_line : ℕ → ℕ → Drawn → List ℕ
 stroke_line n top x =
     let st = x.stroke in
     let end = top + 16 + 16 * n + 6 * min st.row 8 in
     stroke_at (kind st) (min st.labels 5) (column st.teller) top (column st.receiver) end (stroke_words x)
 
--- Writes the row of a signed campaign's stroke in its receiver's list.
+-- Returns a stroke's row in the list of what its receiver received.
 abbrev pub row : ℕ → Drawn → List ℕ
 row top x =
     let st = x.stroke in
     group_at (column st.receiver) (top + 12 + 18 * st.row)
     (title (stroke_words x) ++ mark (kind st) (outline st) ++ text_at (codes "small") 12 4 (row_words x))
 
--- Writes the line and the row of a signed campaign's stroke, if it belongs to this round. The strokes begin at the
--- height `top`, and the lists at `below`.
+-- Returns a stroke's line and its row in the receiver's list if it belongs to this round, otherwise nothing. Strokes
+-- begin at height `top`, and lists at height `below`.
 abbrev pub drawn_at : ℕ → ℕ → ℕ → ℕ → Drawn → List ℕ
 drawn_at n top below round x = if x.stroke.round == round then stroke_line n top x ++ row below x else []
 
 abbrev pub drawn : ℕ → List Access → ℕ → Drawn → List ℕ
 drawn n accesses round x = drawn_at n (fan_top accesses round) (rows_top n accesses round) round x
 
--- Writes the contents of a round's band, in a diagram of this width and a band of this height.
+-- Returns the contents of a round's band of this height, in a diagram of this width.
 abbrev pub inside : ℕ → List Drawn → List Access → ℕ → ℕ → ℕ → List ℕ
 inside n strokes accesses wide height round =
     line (codes "rule") 16 0 wide 0
@@ -41,8 +42,8 @@ inside n strokes accesses wide height round =
     ++ accesses_from n accesses round 0 accesses
     ++ flat_map (drawn n accesses round) strokes
 
--- Writes the band at its place after the first `before` rounds. `plain` are the strokes without their chains, from
--- which the heights are computed.
+-- Returns the band of round `before` + 1. `plain` are the strokes without their chains, from which the heights of the
+-- bands are computed.
 abbrev pub band : ℕ → List Drawn → List Stroke → List Access → ℕ → ℕ → List ℕ
 band n strokes plain accesses wide before =
     group_at 0 (top_of n plain accesses before)

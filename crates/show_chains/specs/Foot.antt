@@ -1,5 +1,5 @@
--- The foot of a signed campaign's diagram, below its bands: the decisions and the verdict (TOPLAS 1982, IC1 and IC2),
--- and the legend.
+-- The foot of a signed campaign's diagram, which is below the bands: the decisions, the verdict (TOPLAS 1982, IC1 and
+-- IC2) and the legend.
 use Rattle.std.specs.Prelude.{ℕ, Bool, true, false, List, ◌++◌, codes}
 use Rattle.world.specs.Chronicle.{Chronicle}
 use Rattle.world.specs.declared.verdict.Verdict.{Verdict}

@@ -18,13 +18,13 @@ use Rattle.show_chains.specs.Owed.{is_among, owed_to, sent_to}
 use Rattle.show_chains.specs.Strokes.{Drawn, bare, between, grouped, is_lie, strokes_of, way, with_rows}
 use Rattle.show_chains.specs.Svg.{signed_svg}
 
--- States that each diagram is one XML element, followed by a line feed.
+-- States that a diagram is always one XML element followed by a line feed.
 abbrev pub SignedDiagramsAreElements : Type 0
 SignedDiagramsAreElements =
     (c : Chronicle) → (text : List ℕ) × IsElement text × (signed_svg c ≡ text ++ codes "\n")
 
--- States that in a finished campaign a loyal general sends each general exactly what a loyal general owes him, and all
--- his strokes are drawn as honest.
+-- States that in a finished campaign a loyal general sends exactly the chains that he should send by SM(m), and that
+-- all his strokes are drawn as honest.
 pub record OnlyTraitorsDiffer : Type 0 where
   pub owed : (s : Scenario) (events : List Event) (round g p : ℕ) → IsScenario s →
       IsFinished (played s events) → g < s.generals → p < s.generals → is_traitor s g ≡ false →
@@ -35,32 +35,33 @@ pub record OnlyTraitorsDiffer : Type 0 where
       between (signed_chronicle_of (played s events)) round p g
       ≡ grouped (way round p g true false) (sent_to (signed_chronicle_of (played s events)) round g p)
 
--- Returns the list of strokes to p in a round: what was sent to him, or withheld from him.
+-- Returns the strokes to `p` in a round, for what was sent to him and for what was withheld from him. Each has a row in
+-- his list.
 abbrev pub list_in : Chronicle → ℕ → ℕ → List Drawn
 list_in c round p = filter (λ x. is_to round p x.stroke) (strokes_of c)
 
--- Returns the strokes that are drawn of what was sent to p, or withheld from him, in a round.
+-- Returns those strokes to `p` in a round that are drawn.
 abbrev pub drawn_in : Chronicle → ℕ → ℕ → List Drawn
 drawn_in c round p = filter (λ x. is_to round p x.stroke) (with_rows (strokes_of c))
 
 abbrev pub is_lie_by : ℕ → Drawn → Bool
 is_lie_by g x = is_lie x && x.stroke.teller == g
 
--- States that what a stroke says of a chain is true: whether the chain was sent, and whether this differs from what a
--- loyal general in the sender's place would have done.
+-- States that a stroke is right about a chain: whether the chain was sent, and whether a loyal general in the sender's
+-- place would have done otherwise.
 pub record IsTold (c : Chronicle) (stroke : Stroke) (ch : Chain) : Type 0 where
   pub sent : is_some stroke.told ≡ is_among (sent_to c stroke.round stroke.teller stroke.receiver) ch
   pub differs : stroke.differs
       ≡ not (beq (is_among (sent_to c stroke.round stroke.teller stroke.receiver) ch)
       (is_among (owed_to c stroke.round stroke.teller stroke.receiver) ch))
 
--- Returns whether general g is the sender of a stroke that has this chain.
+-- Returns whether general `g` is the sender of this stroke, and the stroke has this chain.
 abbrev pub tells_of : ℕ → Chain → Drawn → Bool
 tells_of g ch x = x.stroke.teller == g && is_among x.chains ch
 
--- States that a chain that g sent p in a round, or that a loyal general in g's place would have sent, is in exactly one
--- stroke of that round, sender and receiver, and that any other chain is in none. Each stroke has the number of its
--- chains, and says of each of them what is true.
+-- States that a chain is in exactly one stroke if `g` sent it to `p` in a round, or if a loyal general in his place
+-- would have sent it, and in no stroke otherwise. Each stroke has the number of its chains and is right about each of
+-- them.
 pub record StrokesAreExact : Type 0 where
   pub once : (c : Chronicle) (round g p : ℕ) (ch : Chain) → g < c.scenario.generals → p < c.scenario.generals →
       0 < round → round ≤ c.scenario.bound + 1 →
@@ -69,9 +70,8 @@ pub record StrokesAreExact : Type 0 where
   pub wide : (c : Chronicle) → All (λ x. x.stroke.labels ≡ length x.chains) (strokes_of c)
   pub told : (c : Chronicle) → All (λ x. All (IsTold c x.stroke) x.chains) (strokes_of c)
 
--- States that the rows of each list are numbered, and the first are drawn. If a lie is left out, no honest row is
--- drawn. Each liar has a row that is drawn. The strokes that are drawn and those that are counted as left out are all
--- strokes, and the same holds for the lies.
+-- States that the rows of each list are numbered from 0, and the first ones are drawn. If a lie is left out, no honest
+-- row is drawn. Each general who lies has a row that is drawn. The counts of rows and lies left out are exact.
 pub record RowsAreExact : Type 0 where
   pub numbered : (c : Chronicle) (round p : ℕ) → p < c.scenario.generals → 0 < round →
       round ≤ c.scenario.bound + 1 →

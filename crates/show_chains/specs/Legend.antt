@@ -1,4 +1,4 @@
--- The legend of a signed campaign's diagram, below its foot: the meanings of the marks that occur.
+-- The legend of a signed campaign's diagram: the meanings of the marks that occur in it.
 use Rattle.std.specs.Prelude.{ℕ, List, codes}
 use Rattle.show_diagram.specs.Legend.{legend_of}
 use Rattle.show_diagram.specs.declared.mark.DiagramMarks.{DiagramMarks}

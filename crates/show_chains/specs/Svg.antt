@@ -1,4 +1,4 @@
--- A campaign with signed messages as a diagram in SVG.
+-- The diagram of a signed campaign, as an SVG text.
 use Rattle.std.specs.Prelude.{ℕ, ◌+◌, Bool, List, ◌++◌, flat_map, codes}
 use Rattle.board.specs.Board.{Access}
 use Rattle.round.specs.Scenario.{Scenario}
@@ -15,12 +15,13 @@ use Rattle.show_chains.specs.Foot.{foot}
 use Rattle.show_chains.specs.Strokes.{Drawn, bare, strokes_of, with_rows}
 use Rattle.show_chains.specs.Words.{several_words}
 
--- Writes a description of a campaign, which says that its messages are signed.
+-- Returns a description of the campaign: its number of generals, its bound, its commander, his order, and that messages
+-- are signed.
 abbrev pub signed_words : Scenario → List ℕ
 signed_words s = campaign_words s.generals s.bound s.commander s.order ++ codes "; signed messages"
 
--- The description for readers who do not see the diagram. It includes the strokes and accesses for whose words the
--- diagram has no room.
+-- Returns the description for readers who do not see the diagram. It has the words of those strokes and accesses for
+-- which the diagram has no room.
 unfoldable pub key_start : List ℕ
 key_start =
     codes "<desc>There is a column for each general, and a band for each round, from above. In a band a line leads "
@@ -28,7 +29,7 @@ key_start =
     ++ codes "of chains. Below, in the column of the receiver, is what he received: the order and its signers, the "
     ++ codes "commander first and the sender last."
 
--- Writes the meaning of each mark of strokes that occurs in a signed campaign's diagram.
+-- Returns the meanings of those marks on strokes that occur in the diagram.
 abbrev pub stroke_key : DiagramMarks → List ℕ
 stroke_key marks =
     said_if marks.circle (codes " Circle and plain line: a loyal general in place of the sender would send the same.")
@@ -40,7 +41,8 @@ description strokes accesses marks cut =
     key_start ++ stroke_key marks ++ shape_key marks ++ said_if cut cut_words ++ flat_map several_words strokes
     ++ flat_map copied_words accesses ++ key_end
 
--- Writes what comes before the columns: the title, the description, the style sheet and the headline.
+-- Returns the beginning of the diagram, up to its columns: the title, the description, the style sheet and the
+-- headline.
 abbrev pub headline : Scenario → List ℕ
 headline s =
     text_at (codes "head") 16 28 (campaign_words s.generals s.bound s.commander s.order)
@@ -50,7 +52,7 @@ abbrev pub head : Scenario → List Drawn → List Access → DiagramMarks → B
 head s strokes accesses marks cut =
     title (signed_words s) ++ description strokes accesses marks cut ++ look ++ headline s
 
--- Writes the diagram of a signed campaign with these strokes, of which only those in `drawn` are drawn.
+-- Returns the diagram of a signed campaign with these strokes, of which only those in `drawn` are drawn.
 abbrev pub svg_with : List Drawn → List Drawn → Chronicle → List ℕ
 svg_with strokes drawn c =
     let s = c.scenario in
@@ -64,6 +66,6 @@ svg_with strokes drawn c =
     ++ mores s.generals (bare strokes) (bare drawn) c.accesses (s.bound + 1)
     ++ foot c marks wide bottom)
 
--- Writes the diagram of a chronicle.
+-- Returns the diagram of a chronicle.
 unfoldable pub signed_svg : Chronicle → List ℕ
 signed_svg c = svg_with (strokes_of c) (with_rows (strokes_of c)) c

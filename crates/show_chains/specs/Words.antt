@@ -1,4 +1,4 @@
--- The words of a signed campaign's diagram.
+-- The words of a signed campaign's diagram for chains and strokes.
 use Rattle.std.specs.Prelude.{ℕ, ◌==◌, nat_lt, Bool, true, false, if◌then◌else◌, List, [], ◌∷◌, ◌++◌, flat_map, codes, Option, None, Some}
 use Rattle.std.specs.Fmt.{decimal}
 use Rattle.book.specs.Explained.{dotted}
@@ -6,7 +6,7 @@ use Rattle.show_diagram.specs.Words.{in_full}
 use Rattle.signed.specs.Chains.{Chain}
 use Rattle.show_chains.specs.Strokes.{Drawn}
 
--- Writes a chain: its order, and its signers as a chronicle writes them.
+-- Returns a chain's order and signers, such as `1 signed 0.2`.
 abbrev pub chain_words : Chain → List ℕ
 chain_words ch = decimal ch.order ++ codes " signed " ++ dotted ch.signers
 
@@ -32,7 +32,7 @@ differs_words false told = []
 differs_words true None = codes "; a loyal general would"
 differs_words true (Some order) = codes "; a loyal general would not"
 
--- Writes the full words of a stroke: the sender, the receiver, all chains, and whether a loyal general would do
+-- Returns a stroke's sentence: who sends or withholds which chains, to whom, and whether a loyal general would do
 -- otherwise.
 abbrev pub stroke_words : Drawn → List ℕ
 stroke_words x =
@@ -40,11 +40,13 @@ stroke_words x =
     ++ chains_words x.chains
     ++ differs_words x.stroke.differs x.stroke.told
 
--- Writes a sentence with all chains of a stroke that has several. The receiver's column has only the first of them.
+-- Returns a sentence with all chains of a stroke that has more than one. The receiver's list has room only for the
+-- first.
 abbrev pub several_words : Drawn → List ℕ
 several_words x = if nat_lt 1 x.stroke.labels then in_full (stroke_words x) else []
 
--- Writes the words of a stroke in the receiver's column: its first chain, and the number of its chains.
+-- Returns the text of a stroke's row in the receiver's list: its first chain, and the number of its chains if there are
+-- more, such as `1 by 0.2 (3)`.
 abbrev pub short_words : Chain → List ℕ
 short_words ch = decimal ch.order ++ codes " by " ++ dotted ch.signers
 

@@ -1,4 +1,5 @@
-//! Draws the bands of a signed campaign's diagram, one for each round, with its accesses and the strokes of its chains.
+//! Draws the bands of a signed campaign's diagram, one for each round, with the accesses and the strokes. A stroke is a
+//! line from a sender to a receiver, for the chains with one order.
 ghost use Rattle.std.specs.Prelude.{◌≡◌, ◌++◌, ◌+◌, ◌<◌, ◌^◌, codes, flat_map, string_bytes, OnOk};
 ghost use Rattle.show_diagram.specs.Shapes.{text_at, title};
 ghost use Rattle.show_chains.specs.Bands.{band, bands, drawn, drawn_at, inside, row, stroke_line};
@@ -17,8 +18,8 @@ use show_diagram::shapes::{
 use show_diagram::words::{kind, outline};
 use std::alloc::AllocError;
 
-/// Appends the bands of the first `rounds` rounds. `plain` are the strokes without their chains, from which the heights
-/// are computed.
+/// Appends the bands of the first `rounds` rounds. `plain` are the same strokes without their chains, from which the
+/// heights of the bands are computed. Fails with `AllocError` if memory runs out.
 pub(crate) fn put_bands(
     out: &mut String,
     generals: u8,
@@ -38,7 +39,7 @@ pub(crate) fn put_bands(
     Ok(())
 }
 
-/// Appends the band of the round that follows the first `before` rounds of a signed campaign.
+/// Appends the band of round `before` + 1. Fails with `AllocError` if memory runs out.
 fn put_band(
     out: &mut String,
     generals: u8,
@@ -60,7 +61,8 @@ fn put_band(
     Ok(())
 }
 
-/// Appends the contents of a round's band in a signed campaign's diagram.
+/// Appends the contents of a round's band: its number, the generals' lines, the accesses and the strokes. Fails with
+/// `AllocError` if memory runs out.
 fn put_inside(
     out: &mut String,
     generals: u8,
@@ -80,7 +82,7 @@ fn put_inside(
     put_strokes(out, generals, strokes, accesses, round)
 }
 
-/// Appends the strokes of a round of a signed campaign.
+/// Appends those strokes that belong to this round. Fails with `AllocError` if memory runs out.
 fn put_strokes(
     out: &mut String,
     generals: u8,
@@ -99,8 +101,8 @@ fn put_strokes(
     Ok(())
 }
 
-/// Appends a stroke of a signed campaign and its row in the receiver's list, if it belongs to this round. The strokes
-/// begin at the height `top`, and the lists at `below`.
+/// Appends a stroke if it belongs to this round, with its row in the list of what the receiver received. Strokes begin
+/// at height `top`, and the lists at height `below`. Fails with `AllocError` if memory runs out.
 fn put_drawn(
     out: &mut String,
     generals: u8,
@@ -121,7 +123,8 @@ fn put_drawn(
     put_row(out, below, stroke)
 }
 
-/// Appends the line of a stroke, which begins at the height `top`. Its width is its number of chains, up to 5.
+/// Appends a stroke's line, which begins at height `top` and is as wide as the stroke has chains, but at most 5. Fails
+/// with `AllocError` if memory runs out.
 fn put_stroke(
     out: &mut String,
     generals: u8,
@@ -145,7 +148,8 @@ fn put_stroke(
     put_stroke_end(out)
 }
 
-/// Appends the title of a signed campaign's stroke, which a reader sees by pointing at it.
+/// Appends the title of a stroke, which a reader sees when pointing at it. It says who sends which chains to whom.
+/// Fails with `AllocError` if memory runs out.
 fn put_stroke_title(out: &mut String, stroke: &ChainStroke) -> Result<(), AllocError>
     ensures { OnOk result (string_bytes out.new ≡ string_bytes out.old ++ title (stroke_words stroke.now)) }
 {
@@ -154,7 +158,8 @@ fn put_stroke_title(out: &mut String, stroke: &ChainStroke) -> Result<(), AllocE
     put_title_end(out)
 }
 
-/// Appends the text of a signed campaign's stroke in the receiver's list.
+/// Appends the text of a stroke's row in the list of what the receiver received. Fails with `AllocError` if memory runs
+/// out.
 fn put_row_text(out: &mut String, stroke: &ChainStroke) -> Result<(), AllocError>
     ensures { OnOk result (string_bytes out.new ≡ string_bytes out.old
         ++ text_at (codes "small") 12 4 (row_words stroke.now)) }
@@ -164,7 +169,8 @@ fn put_row_text(out: &mut String, stroke: &ChainStroke) -> Result<(), AllocError
     put_text_end(out)
 }
 
-/// Appends the row of a signed campaign's stroke in the receiver's list, which begins at the height `top`.
+/// Appends a stroke's row in the list of what the receiver received. The list begins at height `top`. Fails with
+/// `AllocError` if memory runs out.
 fn put_row(out: &mut String, top: u128, stroke: &ChainStroke) -> Result<(), AllocError>
     requires { top < 2 ^ 100 }
     ensures { OnOk result (string_bytes out.new ≡ string_bytes out.old ++ row top stroke.now) }

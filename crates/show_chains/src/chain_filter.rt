@@ -1,5 +1,4 @@
-//! Filters lists of signed orders: by signer, by order, and by whether another list contains them. Every function here
-//! that returns a `Result` fails only if memory runs out.
+//! Selects signed orders from a list: by signer, by order, or by whether another list contains them.
 ghost use Rattle.std.specs.Prelude.{◌≡◌, ◌++◌, ◌∷◌, [], cond, not, filter, IfOk, OnOk};
 ghost use Rattle.label.specs.Labels.{on};
 ghost use Rattle.show_chains.specs.Owed.{is_among};
@@ -8,7 +7,7 @@ ghost use Rattle.show_chains.specs.Strokes.{of_order};
 use crate::signed_order::SignedOrder;
 use std::alloc::{AllocError, Global};
 
-/// Returns the signed orders that the general has not signed.
+/// Returns those signed orders that this general has not signed.
 ///
 /// # Errors
 ///
@@ -27,7 +26,7 @@ pub(crate) fn unsigned(
     Ok(kept)
 }
 
-/// Returns the signed orders of `chains` that `others` contains.
+/// Returns those signed orders of `chains` that `others` also contains. Fails with `AllocError` if memory runs out.
 pub(crate) fn among(
     alloc: Global,
     chains: &[SignedOrder],
@@ -42,7 +41,7 @@ pub(crate) fn among(
     Ok(kept)
 }
 
-/// Returns the signed orders of `chains` that `others` does not contain.
+/// Returns those signed orders of `chains` that `others` does not contain. Fails with `AllocError` if memory runs out.
 pub(crate) fn apart(
     alloc: Global,
     chains: &[SignedOrder],
@@ -57,7 +56,7 @@ pub(crate) fn apart(
     Ok(kept)
 }
 
-/// Returns the signed orders of `chains` that have the given order.
+/// Returns those signed orders of `chains` whose order is this one. Fails with `AllocError` if memory runs out.
 pub(crate) fn of_order(
     alloc: Global,
     chains: &[SignedOrder],
@@ -72,7 +71,7 @@ pub(crate) fn of_order(
     Ok(kept)
 }
 
-/// Appends a copy of the signed order if it is wanted.
+/// Appends a copy of the signed order if `is_wanted`. Fails with `AllocError` if memory runs out.
 fn push_if(
     alloc: Global,
     kept: &mut Vec<SignedOrder>,

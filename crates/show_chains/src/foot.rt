@@ -1,4 +1,4 @@
-//! Draws the foot of a signed campaign's diagram, below its bands: the decisions, the verdict, and the legend.
+//! Draws the foot of a signed campaign's diagram, which is below the bands: the decisions, the verdict and the legend.
 ghost use Rattle.std.specs.Prelude.{◌≡◌, ◌++◌, string_bytes, OnOk};
 ghost use Rattle.show_chains.specs.Foot.{bound_words, foot, verdict_lines};
 
@@ -12,8 +12,8 @@ use signed::SignedChronicle;
 use std::alloc::AllocError;
 use world::Verdict;
 
-/// Appends the foot of a signed campaign's diagram: the decisions, the verdict and the meanings of these marks. The
-/// foot begins at the height `top`.
+/// Appends the foot of a signed campaign's diagram: the decisions, the verdict, and the legend for those marks that
+/// occur. The foot begins at height `top`. Fails with `AllocError` if memory runs out.
 pub(crate) fn put_foot(
     out: &mut String,
     chronicle: &SignedChronicle,
@@ -33,7 +33,8 @@ pub(crate) fn put_foot(
     put_group_end(out)
 }
 
-/// Appends the verdict on a signed campaign, with a line for each of its parts.
+/// Appends three lines for the verdict on a signed campaign: whether IC1, IC2 and the bound hold. Fails with
+/// `AllocError` if memory runs out.
 fn put_verdict(out: &mut String, verdict: Verdict) -> Result<(), AllocError>
     ensures { OnOk result (string_bytes out.new ≡ string_bytes out.old ++ verdict_lines verdict) }
 {
@@ -42,8 +43,7 @@ fn put_verdict(out: &mut String, verdict: Verdict) -> Result<(), AllocError>
     put_words(out, "name", 120, 104, bound_words(verdict.bound))
 }
 
-/// Returns the sentence that says whether the bound for signed messages holds, under which the algorithm promises
-/// agreement.
+/// Returns the sentence that says whether the bound for signed messages holds. If it holds, SM(m) guarantees agreement.
 pub fn bound_words(bound: bool) -> &'static str
     ensures { result.now ≡ bound_words bound }
 {

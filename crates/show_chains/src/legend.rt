@@ -1,4 +1,4 @@
-//! Draws the legend of a signed campaign's diagram, below its foot.
+//! Draws the legend of a signed campaign's diagram, which explains its marks.
 ghost use Rattle.std.specs.Prelude.{◌≡◌, ◌++◌, string_bytes, OnOk};
 ghost use Rattle.show_chains.specs.Legend.{differs_meaning, legend, missing_meaning, sent_meaning, wide_meaning};
 
@@ -6,7 +6,7 @@ use show_diagram::DiagramMarks;
 use show_diagram::legend::put_legend_of;
 use std::alloc::AllocError;
 
-/// Appends the meanings of those marks that occur in the diagram.
+/// Appends the meanings of those marks that occur in the diagram. Fails with `AllocError` if memory runs out.
 pub(crate) fn put_legend(out: &mut String, marks: DiagramMarks) -> Result<(), AllocError>
     ensures { OnOk result (string_bytes out.new ≡ string_bytes out.old ++ legend marks) }
 {
@@ -20,7 +20,7 @@ pub(crate) fn put_legend(out: &mut String, marks: DiagramMarks) -> Result<(), Al
     )
 }
 
-/// Returns the meaning of a stroke that a loyal general would send too.
+/// Returns the legend's words for a stroke whose chains a loyal general would also have sent.
 #[tactic(auto, unfolding(crate::specs::Legend::sent_meaning))]
 fn sent_meaning() -> &'static str
     ensures { result.now ≡ sent_meaning }
@@ -28,7 +28,7 @@ fn sent_meaning() -> &'static str
     "sent as a loyal general would send it"
 }
 
-/// Returns the meaning of a stroke that a loyal general would not send.
+/// Returns the legend's words for a stroke whose chains were sent, but would not have been sent by a loyal general.
 #[tactic(auto, unfolding(crate::specs::Legend::differs_meaning))]
 fn differs_meaning() -> &'static str
     ensures { result.now ≡ differs_meaning }
@@ -36,7 +36,7 @@ fn differs_meaning() -> &'static str
     "sent, but a loyal general would not send it"
 }
 
-/// Returns the meaning of a stroke that was not sent, although a loyal general would send it.
+/// Returns the legend's words for a stroke whose chains were not sent, but would have been sent by a loyal general.
 #[tactic(auto, unfolding(crate::specs::Legend::missing_meaning))]
 fn missing_meaning() -> &'static str
     ensures { result.now ≡ missing_meaning }
@@ -44,8 +44,7 @@ fn missing_meaning() -> &'static str
     "not sent, but a loyal general would send it"
 }
 
-/// Returns the legend's words about the width of a line in a signed campaign's diagram, which is the stroke's number of
-/// chains, up to 5.
+/// Returns the legend's words about the width of a stroke's line, which is the number of its chains, at most 5.
 #[tactic(auto, unfolding(crate::specs::Legend::wide_meaning))]
 fn wide_meaning() -> &'static str
     ensures { result.now ≡ wide_meaning }

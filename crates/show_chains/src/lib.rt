@@ -1,5 +1,5 @@
-//! Draws a campaign with signed messages in SVG as a space-time diagram, with a column for each general and the board,
-//! a band for each round, and the chains that each general sends each other.
+//! Draws a campaign with signed messages as a space-time diagram in SVG. It has a column for each general and the
+//! board, and a band for each round. Strokes (lines between columns) show the chains that the generals send each other.
 #![tactic(auto)]
 
 mod bands;

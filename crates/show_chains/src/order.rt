@@ -1,5 +1,4 @@
-//! Sorts the strokes of a list into rows, and selects those that are drawn. Every function here that returns a `Result`
-//! fails only if memory runs out.
+//! Sorts the strokes to one receiver in a round into the rows of a list, and selects those that are drawn.
 ghost use Rattle.std.specs.Prelude.{◌≡◌, ◌++◌, ◌∷◌, [], cond, IfOk, OnOk};
 ghost use Rattle.std.specs.List.{list_any};
 ghost use Rattle.show_diagram.specs.Lists.{has_row};
@@ -11,12 +10,13 @@ use show_diagram::order::MOST;
 use show_diagram::overflow::has_row;
 use std::alloc::{AllocError, Global};
 
-/// Returns the list in the order of its rows. A list of at most `MOST` rows keeps its order. A longer one has the first
-/// lie of each sender, then the other lies, then the honest strokes.
+/// Returns the strokes to one receiver in the order of their rows. If there are at most `MOST`, the order does not
+/// change. Otherwise the first lie of each sender comes first, then the other lies, then the honest strokes. A lie is a
+/// stroke that differs from what a loyal general would have done.
 ///
 /// # Errors
 ///
-/// Fails if there is no memory for the list.
+/// Fails with `AllocError` if there is no memory for the list.
 pub(crate) fn arranged(
     alloc: Global,
     list: Vec<ChainStroke>,
@@ -29,7 +29,8 @@ pub(crate) fn arranged(
     lies_first(alloc, list)
 }
 
-/// Returns the first lie of each sender, then the other lies, then the honest strokes.
+/// Returns the strokes in a new order: the first lie of each sender, then the other lies, then the honest strokes. A
+/// lie is a stroke that differs from what a loyal general would have done. Fails with `AllocError` if memory runs out.
 #[tactic(auto, unfolding(show_diagram::specs::Order::firsts, show_diagram::specs::Order::repeats))]
 fn lies_first(alloc: Global, list: Vec<ChainStroke>) -> Result<Vec<ChainStroke>, AllocError>
     ensures { IfOk result (λ rows. rows.items ≡ lies_first is_lie sender list.items) }
@@ -45,8 +46,9 @@ fn lies_first(alloc: Global, list: Vec<ChainStroke>) -> Result<Vec<ChainStroke>,
     Ok(rows)
 }
 
-/// Appends a stroke to one of three lists: to `rows` if it is the first lie of its sender, to `others` if it is another
-/// lie, and else to `honest`.
+/// Appends a stroke to one of three lists: to `rows` if it is its sender's first lie, to `others` if it is a further
+/// lie, and to `honest` if it is no lie. A lie is a stroke that differs from what a loyal general would have done.
+/// Fails with `AllocError` if memory runs out.
 fn push_part(
     rows: &mut Vec<ChainStroke>,
     others: &mut Vec<ChainStroke>,
@@ -71,7 +73,7 @@ fn push_part(
     Ok(())
 }
 
-/// Checks whether one of these strokes has the same sender as the given one.
+/// Returns whether one of `strokes` has the same sender as `stroke`.
 fn is_by_one_of(strokes: &[ChainStroke], stroke: &ChainStroke) -> bool
     ensures { result ≡ list_any (is_by_one sender stroke.now) strokes.now }
 {
@@ -79,7 +81,8 @@ fn is_by_one_of(strokes: &[ChainStroke], stroke: &ChainStroke) -> bool
     strokes.iter().any(|x| teller == x.stroke().teller)
 }
 
-/// Returns the strokes with their rows numbered from 0.
+/// Returns the strokes of a list with their row numbers, which are counted from 0. Fails with `AllocError` if memory
+/// runs out.
 pub(crate) fn numbered(
     alloc: Global,
     list: Vec<ChainStroke>,
@@ -94,7 +97,8 @@ pub(crate) fn numbered(
     Ok(rows)
 }
 
-/// Returns the strokes that are drawn.
+/// Returns those strokes whose rows are drawn. A long list has rows for which there is no room. Fails with `AllocError`
+/// if memory runs out.
 pub(crate) fn with_rows(
     alloc: Global,
     list: Vec<ChainStroke>,
@@ -108,7 +112,7 @@ pub(crate) fn with_rows(
     Ok(drawn)
 }
 
-/// Appends a stroke if it is drawn.
+/// Appends a stroke if its row is drawn. Fails with `AllocError` if memory runs out.
 fn push_drawn(drawn: &mut Vec<ChainStroke>, stroke: ChainStroke) -> Result<(), AllocError>
     ensures { OnOk result (drawn.new.items ≡ drawn.old.items ++ cond (has_row stroke.stroke) (stroke ∷ []) []) }
 {

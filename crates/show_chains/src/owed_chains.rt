@@ -1,5 +1,5 @@
-//! Computes what a general sent another in a round, and what a loyal general in his place would have sent by algorithm
-//! SM(m). Every function here that returns a `Result` fails only if memory runs out.
+//! Computes which chains a general sent another in a round, and which ones a loyal general in his place would have sent
+//! by SM(m).
 ghost use Rattle.std.specs.Prelude.{◌≡◌, ◌<◌, ◌==◌, ◌++◌, cond, map, nat_le, suc, [], ◌∷◌, IfOk, OnOk};
 ghost use Rattle.std.specs.Int.{bit_at};
 ghost use Rattle.signed.specs.Accepted.{added};
@@ -14,7 +14,7 @@ use crate::signed_order::SignedOrder;
 use signed::{Chain, SignedChronicle, bringing_in};
 use std::alloc::{AllocError, Global};
 
-/// Returns the chains that a general sent a receiver in a round.
+/// Returns the chains that `general` sent `receiver` in a round, counted from 1.
 ///
 /// # Errors
 ///
@@ -32,8 +32,8 @@ pub(crate) fn sent_to(
     received(alloc, chronicle.sent(general, round), receiver)
 }
 
-/// Returns those of the given chains that were sent to this receiver. Each chain is given with the set of its
-/// receivers, bit g for general g.
+/// Returns those chains that were sent to this receiver. With each chain goes the set of its receivers, in which bit g
+/// means general g. Fails with `AllocError` if memory runs out.
 fn received(
     alloc: Global,
     sending: &[(Chain, u16)],
@@ -49,7 +49,7 @@ fn received(
     Ok(came)
 }
 
-/// Appends the signed order of a chain if it is wanted.
+/// Appends a chain, as a signed order, if `is_wanted`. Fails with `AllocError` if memory runs out.
 fn push_if(
     alloc: Global,
     came: &mut Vec<SignedOrder>,
@@ -64,7 +64,7 @@ fn push_if(
     Ok(())
 }
 
-/// Checks whether a set contains the general, who is bit `general` of it.
+/// Returns whether the set `bits` contains this general. Bit g means general g.
 fn has(bits: u16, general: u8) -> bool
     requires { general < 16 }
     ensures { result ≡ (bit_at bits general == 1) }
@@ -72,7 +72,8 @@ fn has(bits: u16, general: u8) -> bool
     (bits >> general) & 1 == 1
 }
 
-/// Returns what a loyal general in the place of `general` would have sent the receiver in a round.
+/// Returns the chains that a loyal general in the place of `general` would have sent `receiver` in a round, counted
+/// from 1. Fails with `AllocError` if memory runs out.
 pub(crate) fn owed_to(
     alloc: Global,
     chronicle: &SignedChronicle,
@@ -87,7 +88,8 @@ pub(crate) fn owed_to(
     unsigned(alloc, owed.as_slice(), receiver)
 }
 
-/// Returns what a loyal general in the place of `general` would have signed in a round.
+/// Returns the chains that a loyal general in the place of `general` would have signed in a round, counted from 1.
+/// Fails with `AllocError` if memory runs out.
 #[tactic(auto, using(crate::proofs::OwedLemmas::owed_none))]
 fn owed(
     alloc: Global,
@@ -107,8 +109,8 @@ fn owed(
     later(alloc, chronicle, round - 2, general)
 }
 
-/// Returns what a loyal general would have signed in the first round: his order if he is the commander, and nothing
-/// otherwise.
+/// Returns what a loyal general in the place of `general` would have signed in round 1: his order if he is the
+/// commander, otherwise nothing. Fails with `AllocError` if memory runs out.
 fn begun(
     alloc: Global,
     chronicle: &SignedChronicle,
@@ -123,7 +125,8 @@ fn begun(
     alone_if(alloc, scenario.order(), commander, general == commander)
 }
 
-/// Returns the order with only the commander's signature if it is wanted, and nothing otherwise.
+/// Returns the order with only the commander's signature if `is_wanted`, otherwise an empty list. Fails with
+/// `AllocError` if memory runs out.
 fn alone_if(
     alloc: Global,
     order: u32,
@@ -139,8 +142,9 @@ fn alone_if(
     Ok(signed)
 }
 
-/// Returns what a loyal general would have signed in round `rounds + 2`. It is nothing if he is the commander, or if
-/// that round is after the last one, `bound + 1`.
+/// Returns the chains that a loyal general in the place of `general` would have signed in round `rounds` + 2. The
+/// commander would have signed none, and nobody would have signed any after the last round. Fails with `AllocError` if
+/// memory runs out.
 #[tactic(auto, using(crate::proofs::OwedLemmas::later_commander, crate::proofs::OwedLemmas::later_none))]
 fn later(
     alloc: Global,
@@ -166,7 +170,8 @@ fn later(
     prolonged(alloc, chronicle, rounds, general)
 }
 
-/// Returns the chains by which the general accepts new orders in round `rounds + 1`, each with his signature added.
+/// Returns the chains by which `general` accepted new orders in round `rounds` + 1, each with his signature added.
+/// Fails with `AllocError` if memory runs out.
 fn prolonged(
     alloc: Global,
     chronicle: &SignedChronicle,
@@ -187,7 +192,8 @@ fn prolonged(
     signed_also(alloc, added, general)
 }
 
-/// Returns the signed orders of these chains, each with the general's signature added.
+/// Returns these chains as signed orders, each with the general's signature added. Fails with `AllocError` if memory
+/// runs out.
 fn signed_also(
     alloc: Global,
     chains: &[&Chain],

@@ -1,5 +1,4 @@
-//! A signed order: an order with the list of its signers, which need not be a valid chain. Every function here that
-//! returns a `Result` fails only if memory runs out.
+//! Defines signed orders: an order with a list of signers, which may differ from every chain that was really signed.
 ghost use Rattle.std.specs.Prelude.{◌≡◌, IfOk};
 ghost use Rattle.label.specs.Labels.{on};
 ghost use Rattle.signed.specs.Chains.{signed_alone, signed_also};
@@ -9,8 +8,8 @@ use signed::Chain;
 use std::alloc::{AllocError, Global};
 use std::marker::Model;
 
-/// A signed order: an order, then its signers from the first to the last. It has the contents of a chain, but may have
-/// signatures that nobody gave. It is not a `Chain`, so it proves nothing to anybody.
+/// An order with a list of signers, the first signer first. Unlike a `Chain`, anyone can make one with any signers. It
+/// is used for what a loyal general would have signed.
 #[derive(Drop)]
 pub struct SignedOrder {
     order: u32,
@@ -39,7 +38,7 @@ impl SignedOrder {
         Ok(SignedOrder { order, signers })
     }
 
-    /// Copies a chain's order and signers. Fails if memory runs out.
+    /// Returns a chain's order with its signers. Fails with `AllocError` if memory runs out.
     pub(crate) fn of(alloc: Global, chain: &Chain) -> Result<SignedOrder, AllocError>
         ensures { IfOk result (λ signed. signed ≡ chain.now) }
     {
@@ -49,7 +48,8 @@ impl SignedOrder {
         })
     }
 
-    /// Returns the order and the signers of a chain, with the general as one more signer.
+    /// Returns a chain's order with its signers and `general` as one more signer. Fails with `AllocError` if memory
+    /// runs out.
     pub(crate) fn also(alloc: Global, chain: &Chain, general: u8) -> Result<SignedOrder, AllocError>
         ensures { IfOk result (λ signed. signed ≡ signed_also chain.now general) }
     {
@@ -61,7 +61,7 @@ impl SignedOrder {
         })
     }
 
-    /// Returns a copy of the signed order.
+    /// Returns a copy of the signed order. Fails with `AllocError` if memory runs out.
     pub(crate) fn copied(&self, alloc: Global) -> Result<SignedOrder, AllocError>
         ensures { IfOk result (λ signed. signed ≡ self.now) }
     {
@@ -71,35 +71,35 @@ impl SignedOrder {
         })
     }
 
-    /// Returns the order.
+    /// Returns the order that was signed.
     pub(crate) fn order(&self) -> u32
         ensures { result ≡ self.now.order }
     {
         self.order
     }
 
-    /// Returns the signers, from the first to the last.
+    /// Returns the signers, the first signer first.
     pub(crate) fn signers(&self) -> &[u8]
         ensures { result.now ≡ self.now.signers }
     {
         self.signers.as_slice()
     }
 
-    /// Checks whether the general is one of the signers.
+    /// Returns whether this general is one of the signers.
     pub(crate) fn has(&self, general: u8) -> bool
         ensures { result ≡ on self.now.signers general }
     {
         self.signers.as_slice().iter().any(|x| *x == general)
     }
 
-    /// Checks whether both have the same order and the same signers in the same sequence.
+    /// Returns whether both have the same order, and the same signers in the same sequence.
     pub(crate) fn is_same(&self, other: &SignedOrder) -> bool
         ensures { result ≡ is_same self.now other.now }
     {
         self.order == other.order && self.signers() == other.signers()
     }
 
-    /// Checks whether `others` contains the same signed order.
+    /// Returns whether `others` contains this signed order.
     pub(crate) fn is_among(&self, others: &[SignedOrder]) -> bool
         ensures { result ≡ is_among others.now self.now }
     {

@@ -1,4 +1,5 @@
-//! A stroke of a signed campaign's diagram, with its chains.
+//! Defines the strokes of a signed campaign's diagram. A stroke is a line from a sender to a receiver, for the chains
+//! with one order.
 ghost use Rattle.std.specs.Prelude.{◌≡◌};
 ghost use Rattle.show_chains.specs.Strokes.{in_row};
 
@@ -6,22 +7,23 @@ use crate::signed_order::SignedOrder;
 use show_diagram::Stroke;
 use std::marker::Model;
 
-/// A way: the round, the sender and the receiver of a stroke, whether it was sent, and whether it differs.
+/// What the strokes between two generals in a round have in common: the round, the sender, the receiver, whether the
+/// chains were sent, and whether a loyal general would have done otherwise.
 #[derive(Clone, Copy, Drop)]
 pub struct Way {
     /// The round, counted from 1.
     pub round: usize,
-    /// The general who sends.
+    /// The general who sends or withholds the chains.
     pub teller: u8,
-    /// The general who receives.
+    /// The general who receives the chains, or would receive them.
     pub receiver: u8,
-    /// Whether the general sends the chains. If not, only a loyal general in his place would send them.
+    /// Whether the chains were sent. If not, a loyal general in the sender's place would have sent them.
     pub sent: bool,
-    /// Whether a loyal general in his place would do otherwise.
+    /// Whether a loyal general in the sender's place would have done otherwise.
     pub differs: bool,
 }
 
-/// A stroke with its chains: the chains with one order that one general sent another in a round, or that he withheld.
+/// A stroke with its chains: all chains with one order that one general sent or withheld from another in a round.
 #[derive(Drop)]
 pub struct ChainStroke {
     pub(crate) stroke: Stroke,
@@ -37,14 +39,14 @@ impl Model for ChainStroke {
 }
 
 impl ChainStroke {
-    /// Returns a reference to the stroke without its chains.
+    /// Returns the stroke without its chains.
     pub(crate) fn stroke(&self) -> &Stroke
         ensures { result.now ≡ self.now.stroke }
     {
         &self.stroke
     }
 
-    /// Returns the stroke with the given row number.
+    /// Returns the stroke with this number as its row in the receiver's list.
     pub(crate) fn in_row(self, row: usize) -> ChainStroke
         ensures { result ≡ in_row self row }
     {

@@ -1,5 +1,5 @@
-//! Collects the strokes of a signed campaign. Every function here that returns a `Result` fails only if memory runs
-//! out.
+//! Collects the strokes of a signed campaign's diagram. A stroke is for the chains with one order from one sender to
+//! one receiver in a round.
 ghost use Rattle.std.specs.Prelude.{◌≡◌, ◌<◌, ◌++◌, [], IfOk, OnOk};
 ghost use Rattle.label.specs.Labels.{on};
 ghost use Rattle.signed.specs.Accepted.{firsts};
@@ -16,8 +16,9 @@ use show_diagram::Stroke;
 use signed::SignedChronicle;
 use std::alloc::{AllocError, Global};
 
-/// Returns the strokes of a campaign, by round and then by receiver. If a list is too long to be drawn, its lies come
-/// first; otherwise it is sorted by sender.
+/// Returns the strokes of a campaign, by round, and within a round by receiver. The strokes to one receiver are sorted
+/// by sender. If there are too many to be drawn, the lies come first: strokes that differ from what a loyal general
+/// would have done.
 ///
 /// # Errors
 ///
@@ -36,7 +37,7 @@ pub(crate) fn strokes(
     Ok(strokes)
 }
 
-/// Appends the strokes of a round.
+/// Appends the strokes of a round, by receiver. Fails with `AllocError` if memory runs out.
 fn push_round(
     alloc: Global,
     strokes: &mut Vec<ChainStroke>,
@@ -52,7 +53,8 @@ fn push_round(
     Ok(())
 }
 
-/// Returns the strokes to one receiver in a round, with their rows in order.
+/// Returns the strokes to one receiver in a round, in the order of their rows in his list, with their row numbers.
+/// Fails with `AllocError` if memory runs out.
 fn list_to(
     alloc: Global,
     chronicle: &SignedChronicle,
@@ -67,7 +69,7 @@ fn list_to(
     numbered(alloc, rows)
 }
 
-/// Returns the strokes to one receiver in a round, sorted by sender.
+/// Returns the strokes to one receiver in a round, sorted by sender. Fails with `AllocError` if memory runs out.
 fn told_to(
     alloc: Global,
     chronicle: &SignedChronicle,
@@ -84,7 +86,7 @@ fn told_to(
     Ok(list)
 }
 
-/// Appends the strokes from one sender to one receiver in a round.
+/// Appends the strokes from `general` to `receiver` in a round. Fails with `AllocError` if memory runs out.
 fn push_between(
     alloc: Global,
     list: &mut Vec<ChainStroke>,
@@ -111,8 +113,9 @@ fn push_between(
     Ok(())
 }
 
-/// Appends the strokes of the chains that were sent, and of those that were not sent although a loyal general would
-/// have sent them. `owed` are the chains that a loyal general would have sent.
+/// Appends the strokes from `general` to `receiver` in a round: for chains in `sent`, and for chains that are only in
+/// `owed`. `sent` are the chains that he sent, and `owed` those that a loyal general in his place would have sent.
+/// Fails with `AllocError` if memory runs out.
 fn push_told(
     alloc: Global,
     list: &mut Vec<ChainStroke>,
@@ -149,7 +152,8 @@ fn push_told(
     Ok(())
 }
 
-/// Appends a stroke for each order of these chains.
+/// Appends a stroke for each order of these chains. `way` says what the strokes have in common, such as sender and
+/// receiver. Fails with `AllocError` if memory runs out.
 fn push_grouped(
     alloc: Global,
     list: &mut Vec<ChainStroke>,
@@ -166,7 +170,8 @@ fn push_grouped(
     Ok(())
 }
 
-/// Returns the orders of these chains without repetitions, in the order of their first occurrence.
+/// Returns the orders of these chains, each once, in the order of first occurrence. Fails with `AllocError` if memory
+/// runs out.
 fn orders_of(alloc: Global, chains: &[SignedOrder]) -> Result<Vec<u32>, AllocError>
     ensures { IfOk result (λ found. found.items ≡ orders (firsts [] chains.now)) }
 {
@@ -177,7 +182,7 @@ fn orders_of(alloc: Global, chains: &[SignedOrder]) -> Result<Vec<u32>, AllocErr
     Ok(found)
 }
 
-/// Appends an order if the list does not contain it.
+/// Appends an order, unless the list has it already. Fails with `AllocError` if memory runs out.
 fn add_order(found: &mut Vec<u32>, order: u32) -> Result<(), AllocError>
     ensures { OnOk result (found.new.items ≡ added_also found.old.items order) }
 {
@@ -187,14 +192,15 @@ fn add_order(found: &mut Vec<u32>, order: u32) -> Result<(), AllocError>
     Ok(())
 }
 
-/// Checks whether the list contains the order.
+/// Returns whether the list contains the order.
 fn is_there(orders: &[u32], order: u32) -> bool
     ensures { result ≡ on orders.now order }
 {
     orders.iter().any(|x| *x == order)
 }
 
-/// Returns the stroke of those chains that have the given order.
+/// Returns the stroke for those chains that have this order. `way` has its round, sender and receiver. Fails with
+/// `AllocError` if memory runs out.
 fn made(
     alloc: Global,
     way: Way,
@@ -210,7 +216,8 @@ fn made(
     })
 }
 
-/// Returns a stroke of `labels` chains with the given order, in row 0.
+/// Returns the stroke for `labels` chains with this order, without the chains, in row 0. `way` has its round, sender
+/// and receiver.
 fn plain(way: Way, order: u32, labels: usize) -> Stroke
     ensures { result ≡ plain way order labels }
 {
@@ -225,14 +232,14 @@ fn plain(way: Way, order: u32, labels: usize) -> Stroke
     }
 }
 
-/// Returns the order if it was sent, and `None` otherwise.
+/// Returns the order if `is_sent`, otherwise `None`.
 fn told_if(is_sent: bool, order: u32) -> Option<u32>
     ensures { result ≡ told_if is_sent order }
 {
     if is_sent { Some(order) } else { None }
 }
 
-/// Returns the strokes without their chains.
+/// Returns the same strokes without their chains. Fails with `AllocError` if memory runs out.
 pub(crate) fn bare(alloc: Global, strokes: &[ChainStroke]) -> Result<Vec<Stroke>, AllocError>
     ensures { IfOk result (λ plain. plain.items ≡ bare strokes.now) }
 {

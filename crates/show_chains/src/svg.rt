@@ -1,4 +1,4 @@
-//! Draws a campaign with signed messages in SVG.
+//! Draws a campaign with signed messages as an SVG picture.
 ghost use Rattle.std.specs.Prelude.{◌≡◌, ◌++◌, string_bytes, IfOk, OnOk};
 ghost use Rattle.show_diagram.specs.Shapes.{title};
 ghost use Rattle.show_diagram.specs.Svg.{campaign_words};
@@ -24,13 +24,13 @@ use show_diagram::words::put_copied;
 use signed::SignedChronicle;
 use std::alloc::{AllocError, Global};
 
-/// Returns the signed campaign of a chronicle as a diagram in SVG. It shows the chains that each general sent each
-/// other in each round, and those that a loyal general would have sent or would not have sent. It also shows the
-/// accesses to the board, the decisions and the verdict.
+/// Returns the diagram of a signed campaign as an SVG text. It shows the chains that the generals sent each other in
+/// each round, and where a loyal general would have sent others. It also shows the accesses to the board, the decisions
+/// and the verdict.
 ///
 /// # Errors
 ///
-/// Fails if there is no memory for the text.
+/// Fails with `AllocError` if there is no memory for the text.
 #[tactic(auto, unfolding(crate::specs::Svg::signed_svg))]
 pub fn signed_campaign_svg(alloc: Global, chronicle: &SignedChronicle) -> Result<String, AllocError>
     ensures { IfOk result (λ text. string_bytes text ≡ signed_svg chronicle.now) }
@@ -73,8 +73,8 @@ pub fn signed_campaign_svg(alloc: Global, chronicle: &SignedChronicle) -> Result
     Ok(text)
 }
 
-/// Appends what comes before the columns of a signed campaign's diagram: the title, the description, the style sheet
-/// and the headline.
+/// Appends the beginning of a signed campaign's diagram, up to its columns: the title, the description, the style sheet
+/// and the headline. Fails with `AllocError` if memory runs out.
 fn put_head(
     out: &mut String,
     scenario: &Scenario,
@@ -93,7 +93,8 @@ fn put_head(
     Ok(())
 }
 
-/// Appends the title of a signed campaign's diagram, which describes the campaign.
+/// Appends the title element of a signed campaign's diagram, which describes the campaign. Fails with `AllocError` if
+/// memory runs out.
 fn put_title_of(out: &mut String, scenario: &Scenario) -> Result<(), AllocError>
     ensures { OnOk result (string_bytes out.new ≡ string_bytes out.old ++ title (signed_words scenario.now)) }
 {
@@ -102,7 +103,8 @@ fn put_title_of(out: &mut String, scenario: &Scenario) -> Result<(), AllocError>
     put_title_end(out)
 }
 
-/// Appends the headline, which describes the campaign, and to the left of the columns the words `signed messages`.
+/// Appends the headline, which describes the campaign, and the words `signed messages` to the left of the columns.
+/// Fails with `AllocError` if memory runs out.
 fn put_headline(out: &mut String, scenario: &Scenario) -> Result<(), AllocError>
     ensures { OnOk result (string_bytes out.new ≡ string_bytes out.old ++ headline scenario.now) }
 {
@@ -113,7 +115,8 @@ fn put_headline(out: &mut String, scenario: &Scenario) -> Result<(), AllocError>
     put_words(out, "small", 16, 72, "messages")
 }
 
-/// Appends a description of the campaign: its number of generals, its bound, its commander and his order.
+/// Appends a description of the campaign: its number of generals, its bound, its commander and his order. Fails with
+/// `AllocError` if memory runs out.
 fn put_campaign_of(out: &mut String, scenario: &Scenario) -> Result<(), AllocError>
     ensures { OnOk result (string_bytes out.new ≡ string_bytes out.old
         ++ campaign_words scenario.now.generals scenario.now.bound scenario.now.commander scenario.now.order) }
@@ -127,11 +130,12 @@ fn put_campaign_of(out: &mut String, scenario: &Scenario) -> Result<(), AllocErr
     )
 }
 
-/// Appends a description of a campaign, which says that its messages are signed.
+/// Appends a description of the campaign: its number of generals, its bound, its commander, his order, and that
+/// messages are signed.
 ///
 /// # Errors
 ///
-/// Fails if there is no memory for the text.
+/// Fails with `AllocError` if there is no memory for the text.
 pub fn put_signed_words(out: &mut String, scenario: &Scenario) -> Result<(), AllocError>
     ensures { OnOk result (string_bytes out.new ≡ string_bytes out.old ++ signed_words scenario.now) }
 {
@@ -139,8 +143,8 @@ pub fn put_signed_words(out: &mut String, scenario: &Scenario) -> Result<(), All
     out.push_str("; signed messages")
 }
 
-/// Appends a description for readers who do not see the diagram. It includes the strokes and accesses for whose words
-/// the diagram has no room.
+/// Appends a description for readers who do not see the diagram. It explains the marks, and has the words of those
+/// strokes and accesses for which the diagram has no room. Fails with `AllocError` if memory runs out.
 fn put_description(
     out: &mut String,
     strokes: &[ChainStroke],
@@ -160,7 +164,8 @@ fn put_description(
     put_key_end(out)
 }
 
-/// Returns the start of the description of a signed campaign's diagram, which explains columns, bands and lines.
+/// Returns the beginning of the description for readers who do not see the diagram. It says what columns, bands and
+/// lines mean.
 #[tactic(auto, unfolding(crate::specs::Svg::key_start))]
 fn key_start() -> &'static str
     ensures { result.now ≡ key_start }
@@ -171,7 +176,8 @@ fn key_start() -> &'static str
      sender last."
 }
 
-/// Appends the meanings of the marks of strokes in a signed campaign's diagram.
+/// Appends the meanings of those marks on strokes that occur in the diagram, for readers who do not see it. Fails with
+/// `AllocError` if memory runs out.
 fn put_stroke_key(out: &mut String, marks: DiagramMarks) -> Result<(), AllocError>
     ensures { OnOk result (string_bytes out.new ≡ string_bytes out.old ++ stroke_key marks) }
 {

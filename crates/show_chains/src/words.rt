@@ -1,4 +1,4 @@
-//! The words of a signed campaign's diagram: for chains and for strokes.
+//! Writes the words of a signed campaign's diagram for chains and strokes.
 ghost use Rattle.std.specs.Prelude.{◌≡◌, ◌++◌, codes, flat_map, string_bytes, OnOk};
 ghost use Rattle.std.specs.Fmt.{decimal};
 ghost use Rattle.book.specs.Explained.{dotted};
@@ -8,7 +8,7 @@ use crate::signed_order::SignedOrder;
 use crate::stroke::ChainStroke;
 use std::alloc::AllocError;
 
-/// Appends generals, joined by dots.
+/// Appends the generals' numbers joined by dots, such as `0.2.5`. Fails with `AllocError` if memory runs out.
 fn put_signers(out: &mut String, generals: &[u8]) -> Result<(), AllocError>
     ensures { OnOk result (string_bytes out.new ≡ string_bytes out.old ++ dotted generals.now) }
 {
@@ -21,7 +21,7 @@ fn put_signers(out: &mut String, generals: &[u8]) -> Result<(), AllocError>
     }
 }
 
-/// Appends generals, each after a dot.
+/// Appends each general's number with a dot before it, such as `.2.5`. Fails with `AllocError` if memory runs out.
 fn put_further_signers(out: &mut String, generals: &[u8]) -> Result<(), AllocError>
     ensures { OnOk result (string_bytes out.new ≡ string_bytes out.old
         ++ flat_map (λ g. codes "." ++ decimal g) generals.now) }
@@ -32,7 +32,7 @@ fn put_further_signers(out: &mut String, generals: &[u8]) -> Result<(), AllocErr
     Ok(())
 }
 
-/// Appends a chain: its order and its signers.
+/// Appends a chain's order and signers, such as `1 signed 0.2`. Fails with `AllocError` if memory runs out.
 fn put_chain(out: &mut String, chain: &SignedOrder) -> Result<(), AllocError>
     ensures { OnOk result (string_bytes out.new ≡ string_bytes out.old ++ chain_words chain.now) }
 {
@@ -41,7 +41,7 @@ fn put_chain(out: &mut String, chain: &SignedOrder) -> Result<(), AllocError>
     put_signers(out, chain.signers())
 }
 
-/// Appends chains, joined by commas.
+/// Appends chains joined by commas, such as `1 signed 0.2, 1 signed 0.3`. Fails with `AllocError` if memory runs out.
 fn put_chains(out: &mut String, chains: &[SignedOrder]) -> Result<(), AllocError>
     ensures { OnOk result (string_bytes out.new ≡ string_bytes out.old ++ chains_words chains.now) }
 {
@@ -54,7 +54,7 @@ fn put_chains(out: &mut String, chains: &[SignedOrder]) -> Result<(), AllocError
     }
 }
 
-/// Appends chains, each after a comma.
+/// Appends each chain with a comma before it, such as `, 1 signed 0.2`. Fails with `AllocError` if memory runs out.
 fn put_further(out: &mut String, chains: &[SignedOrder]) -> Result<(), AllocError>
     ensures { OnOk result (string_bytes out.new ≡ string_bytes out.old ++ flat_map further_words chains.now) }
 {
@@ -64,7 +64,7 @@ fn put_further(out: &mut String, chains: &[SignedOrder]) -> Result<(), AllocErro
     Ok(())
 }
 
-/// Appends a chain after a comma.
+/// Appends a comma and a chain, such as `, 1 signed 0.2`. Fails with `AllocError` if memory runs out.
 fn put_one_further(out: &mut String, chain: &SignedOrder) -> Result<(), AllocError>
     ensures { OnOk result (string_bytes out.new ≡ string_bytes out.old ++ further_words chain.now) }
 {
@@ -72,7 +72,8 @@ fn put_one_further(out: &mut String, chain: &SignedOrder) -> Result<(), AllocErr
     put_chain(out, chain)
 }
 
-/// Appends `general G sends general P: `, which comes before the chains that were sent.
+/// Appends `general G sends general P: `, after which the chains that were sent follow. Fails with `AllocError` if
+/// memory runs out.
 #[tactic(auto, unfolding(crate::specs::Words::sends_words))]
 fn put_sends(out: &mut String, general: u8, receiver: u8) -> Result<(), AllocError>
     ensures { OnOk result (string_bytes out.new ≡ string_bytes out.old ++ sends_words general receiver) }
@@ -80,7 +81,8 @@ fn put_sends(out: &mut String, general: u8, receiver: u8) -> Result<(), AllocErr
     write!(out, "general {general} sends general {receiver}: ")
 }
 
-/// Appends `general G does not send general P: `, which comes before the chains that were withheld.
+/// Appends `general G does not send general P: `, after which the chains that were withheld follow. Fails with
+/// `AllocError` if memory runs out.
 #[tactic(auto, unfolding(crate::specs::Words::withholds_words))]
 fn put_withholds(out: &mut String, general: u8, receiver: u8) -> Result<(), AllocError>
     ensures { OnOk result (string_bytes out.new ≡ string_bytes out.old ++ withholds_words general receiver) }
@@ -88,7 +90,8 @@ fn put_withholds(out: &mut String, general: u8, receiver: u8) -> Result<(), Allo
     write!(out, "general {general} does not send general {receiver}: ")
 }
 
-/// Appends the start of a stroke's words, which says that one general sends or does not send another its chains.
+/// Appends the beginning of a stroke's sentence, such as `general 1 sends general 2: `. If `told` is `None`, it says
+/// that the general does not send the chains. Fails with `AllocError` if memory runs out.
 fn put_lead(
     out: &mut String,
     general: u8,
@@ -103,7 +106,8 @@ fn put_lead(
     }
 }
 
-/// Returns the words for what a loyal general would do instead, or nothing if he would do the same.
+/// Returns the end of a stroke's sentence, which says that a loyal general would do otherwise. It is empty if `differs`
+/// is false. `told` is `None` if the chains were not sent.
 fn differs_words(differs: bool, told: Option<u32>) -> &'static str
     ensures { result.now ≡ differs_words differs told }
 {
@@ -114,8 +118,8 @@ fn differs_words(differs: bool, told: Option<u32>) -> &'static str
     }
 }
 
-/// Appends the full words of a stroke: the sender, the receiver, all chains, and whether a loyal general would do
-/// otherwise.
+/// Appends a stroke's sentence: who sends or withholds which chains, to whom, and whether a loyal general would do
+/// otherwise. Fails with `AllocError` if memory runs out.
 pub(crate) fn put_stroke_words(out: &mut String, stroke: &ChainStroke) -> Result<(), AllocError>
     ensures { OnOk result (string_bytes out.new ≡ string_bytes out.old ++ stroke_words stroke.now) }
 {
@@ -125,11 +129,12 @@ pub(crate) fn put_stroke_words(out: &mut String, stroke: &ChainStroke) -> Result
     out.push_str(differs_words(plain.differs, plain.told))
 }
 
-/// Appends the words for which the diagram has no room: a sentence with all chains of each stroke that has several.
+/// Appends a sentence with all chains for each stroke that has more than one chain. The diagram itself has room only
+/// for the first.
 ///
 /// # Errors
 ///
-/// Fails if there is no memory for the text.
+/// Fails with `AllocError` if there is no memory for the text.
 pub(crate) fn put_several(out: &mut String, strokes: &[ChainStroke]) -> Result<(), AllocError>
     ensures { OnOk result (string_bytes out.new ≡ string_bytes out.old ++ flat_map several_words strokes.now) }
 {
@@ -139,7 +144,8 @@ pub(crate) fn put_several(out: &mut String, strokes: &[ChainStroke]) -> Result<(
     Ok(())
 }
 
-/// Appends a sentence with all chains of a stroke, if it has several.
+/// Appends a sentence with all chains of a stroke if it has more than one chain. Fails with `AllocError` if memory runs
+/// out.
 fn put_several_of(out: &mut String, stroke: &ChainStroke) -> Result<(), AllocError>
     ensures { OnOk result (string_bytes out.new ≡ string_bytes out.old ++ several_words stroke.now) }
 {
@@ -152,7 +158,7 @@ fn put_several_of(out: &mut String, stroke: &ChainStroke) -> Result<(), AllocErr
     out.push_str(".")
 }
 
-/// Appends a chain in a few words, for which a column has room.
+/// Appends a chain in the short form for a column, such as `1 by 0.2`. Fails with `AllocError` if memory runs out.
 fn put_short(out: &mut String, chain: &SignedOrder) -> Result<(), AllocError>
     ensures { OnOk result (string_bytes out.new ≡ string_bytes out.old ++ short_words chain.now) }
 {
@@ -161,7 +167,8 @@ fn put_short(out: &mut String, chain: &SignedOrder) -> Result<(), AllocError>
     put_signers(out, chain.signers())
 }
 
-/// Appends the first of these chains in a few words, if there is one.
+/// Appends the first chain in the short form for a column, such as `1 by 0.2`. Appends nothing if there are no chains.
+/// Fails with `AllocError` if memory runs out.
 fn put_first(out: &mut String, chains: &[SignedOrder]) -> Result<(), AllocError>
     ensures { OnOk result (string_bytes out.new ≡ string_bytes out.old ++ first_words chains.now) }
 {
@@ -171,7 +178,8 @@ fn put_first(out: &mut String, chains: &[SignedOrder]) -> Result<(), AllocError>
     }
 }
 
-/// Appends a number of chains in parentheses, or nothing if it is 1.
+/// Appends the number of chains in parentheses, such as ` (3)`. Appends nothing if it is 1. Fails with `AllocError` if
+/// memory runs out.
 fn put_count(out: &mut String, chains: usize) -> Result<(), AllocError>
     ensures { OnOk result (string_bytes out.new ≡ string_bytes out.old ++ count_words chains) }
 {
@@ -181,7 +189,8 @@ fn put_count(out: &mut String, chains: usize) -> Result<(), AllocError>
     write!(out, " ({chains})")
 }
 
-/// Appends the words of a stroke in its receiver's column: the first chain, and the number of chains.
+/// Appends the text of a stroke's row in the receiver's list: its first chain, and the number of its chains if there
+/// are more, such as `1 by 0.2 (3)`. Fails with `AllocError` if memory runs out.
 pub(crate) fn put_row_words(out: &mut String, stroke: &ChainStroke) -> Result<(), AllocError>
     ensures { OnOk result (string_bytes out.new ≡ string_bytes out.old ++ row_words stroke.now) }
 {

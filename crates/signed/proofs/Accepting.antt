@@ -1,4 +1,4 @@
--- What came, what counts, what is accepted, and what a loyal general sends.
+-- Which chains a general receives, which count and are accepted, and what a loyal general sends.
 use Rattle.std.proofs.Common.{◌≡◌, ◌≢◌, ℕ, zero, suc, ◌<◌, ◌≤◌, Bool, true, false, not, cond, [], ◌∷◌, map, length, refl, sym, ap, ◌∙◌, arith, inl, inr, length-append}
 use Rattle.std.specs.Prelude.{◌==◌, ◌⊎◌, nat_le}
 use Rattle.std.proofs.lemmas.Bool.{cases_Bool, cases_eq, or_left, or_right, or_cases, and_parts, and_from, eq-eqb, eqb-true, eqb-false, leb-true, not-true, not_from_false}
@@ -42,7 +42,7 @@ accepted_within n S p v (suc s) r l h = elim (cases_eq r (suc s)) [
   | inr ne ↦ accepted_step n S s p v (accepted_within n S p v s r (let d : r ≢ suc s = ne in omega arith) h)
 ]
 
--- what counts is accepted
+-- The order of a chain that counts is accepted.
 pub counted_accepted : (n : ℕ) (S : Deliveries) (r p : ℕ) (ch : Chain) → Among ch (counted n S (suc r) p) → on (accepted n S (suc r) p) ch.order ≡ true
 unfolding accepted
 counted_accepted n S r p ch h = elim (cases_Bool (on (accepted n S r p) ch.order)) [
@@ -50,7 +50,7 @@ counted_accepted n S r p ch h = elim (cases_Bool (on (accepted n S r p) ch.order
   | inr new ↦ on_append (accepted n S r p) (orders (added n S r p)) ch.order ∙ or_right (on (accepted n S r p) ch.order) (on (orders (added n S r p)) ch.order) (firsts_in (accepted n S r p) (counted n S (suc r) p) ch.order (orders_in (counted n S (suc r) p) ch h) new)
 ]
 
--- the chain that brought an order
+-- The chain that brought an order.
 pub record IsBrought (n : ℕ) (S : Deliveries) (r p v : ℕ) : Type 0 where
   pub round : ℕ
   pub chain : Chain
@@ -69,7 +69,7 @@ accepted_out n S p v (suc r) h = elim (or_cases (on (accepted n S r p) v) (on (o
 pub added_out : (n : ℕ) (S : Deliveries) (r p : ℕ) (ch : Chain) → Among ch (added n S r p) → IsCounted n S (suc r) p ch
 added_out n S r p ch h = counted_out n S (suc r) p ch (firsts_out (accepted n S r p) (counted n S (suc r) p) ch h).0
 
--- a chain that a loyal lieutenant passes on
+-- A chain that a loyal lieutenant passes on.
 pub record IsRelayed (n c m : ℕ) (S : Deliveries) (r g : ℕ) (ch : Chain) : Type 0 where
   pub round : ℕ
   pub held : Chain
@@ -104,17 +104,17 @@ chains_size n c m order S r g ch h = elim (chains_out n c m order S r g ch h) [
       rw (e, ← rel.signed) (omega (arith, length-append rel.held.signers (g ∷ [])))
 ]
 
--- a loyal general sent a chain: it is one of his loyal_chains, and the receiver is not on it
+-- A chain that a loyal general sent is one that SM(m) has him sign, and its receiver has not signed it.
 pub sent_out : (n c m order : ℕ) (S : Deliveries) (g : ℕ) → IsLoyal n c m order S g → (r q : ℕ) (ch : Chain) → q < n → Among ch (S r g q) → Among ch (loyal_chains n c m order S r g) × (on ch.signers q ≡ false)
 sent_out n c m order S g loyal r q ch l h =
     let f = filter_out (λ x. not (on x.signers q)) (loyal_chains n c m order S r g) ch (rw (loyal r q l) at h) in
     (f.0, not-true (on ch.signers q) f.1)
 
--- and he sent it to each that is not on it
+-- He sent it to everybody who has not signed it.
 pub sent_in : (n c m order : ℕ) (S : Deliveries) (g : ℕ) → IsLoyal n c m order S g → (r q : ℕ) (ch : Chain) → q < n → Among ch (loyal_chains n c m order S r g) → on ch.signers q ≡ false → Among ch (S r g q)
 sent_in n c m order S g loyal r q ch l h o = rw (loyal r q l) (filter_in (λ x. not (on x.signers q)) (loyal_chains n c m order S r g) ch h (not_from_false (on ch.signers q) o))
 
--- what a loyal general signs is an order of his own, if he is the commander, or a chain that he holds
+-- A loyal general signs his own order, if he is the commander, or a chain that he holds.
 pub loyal_signs : (n c m order : ℕ) (S : Deliveries) (r g : ℕ) (ch : Chain) → Among ch (loyal_chains n c m order S r g) → ((g ≡ c) × (ch.signers ≡ g ∷ [])) ⊎ IsPassedOn n S r g ch
 loyal_signs n c m order S r g ch h =
     elim (chains_out n c m order S r g ch h) [
@@ -126,6 +126,6 @@ loyal_signs n c m order S r g ch h =
           inr (record { held = rel.held; there = record { round = suc rel.round; sender = from.0; earlier = omega arith; general = from.1.0; came = from.1.1 }; once = k.off; signed = sym rel.signed })
     ]
 
--- a loyal general forges nothing
+-- A loyal general signs only in his own name.
 pub loyal_signed : (n c m order : ℕ) (S : Deliveries) (g : ℕ) → IsLoyal n c m order S g → SignsForHimself n c S g
 loyal_signed n c m order S g loyal r p ch l h = loyal_signs n c m order S r g ch (sent_out n c m order S g loyal r p ch l h).0

@@ -14,7 +14,7 @@ use Rattle.signed.specs.Sent.{Sent, delivered}
 use Rattle.signed.specs.Sending.{added_also, added_by, dispatch_of, received_in}
 use Rattle.signed.proofs.Lending.{came_of, came_then, came_else, received_more, received_in_more}
 
--- chains one after another
+-- The chains of two lists are considered one after another.
 pub added_by-append : (k p : ℕ) (seen : List ℕ) (xs ys : List Chain) → added_by k p seen (xs ++ ys) ≡ added_by k p (added_by k p seen xs) ys
 added_by-append k p seen [] ys = refl
 added_by-append k p seen (x ∷ xs) ys = added_by-append k p (cond (counts k p x) (added_also seen x.order) seen) xs ys
@@ -26,7 +26,7 @@ firsts_alike_more s t x xs old new false false e = ap (λ ys. x ∷ ys) new
 firsts_alike_more s t x xs old new true false e = absurd cc
 firsts_alike_more s t x xs old new false true e = absurd cc
 
--- which chains are first, the orders seen decide, in any order
+-- Which chains are the first with a new order depends only on which orders are known, not on their sequence.
 pub firsts_alike : (s t : List ℕ) (xs : List Chain) → ((v : ℕ) → on s v ≡ on t v) → firsts s xs ≡ firsts t xs
 firsts_alike s t [] h = refl
 firsts_alike s t (x ∷ xs) h =
@@ -52,7 +52,7 @@ added_first k p seen x xs ih true false e =
     ∙ (ap (λ (ys : List Chain). seen ++ x.order ∷ orders ys) (firsts_alike (seen ++ x.order ∷ []) (x.order ∷ seen) (filter (counts k p) xs) (λ v. at_the_end seen x.order v))
     ∙ ap (λ (c : Bool). seen ++ orders (cond c (firsts seen (filter (counts k p) xs)) (x ∷ firsts (x.order ∷ seen) (filter (counts k p) xs)))) (sym e)))
 
--- one chain after another adds the orders of the first chains that count
+-- Considering chains one after another adds the orders of the first chains that count.
 pub added_by_is : (k p : ℕ) (seen : List ℕ) (xs : List Chain) → added_by k p seen xs ≡ seen ++ orders (firsts seen (filter (counts k p) xs))
 added_by_is k p seen [] = sym (append-nil seen)
 added_by_is k p seen (x ∷ xs) = added_first k p seen x xs (λ s. added_by_is k p s xs) (counts k p x) (on seen x.order) refl
@@ -65,7 +65,7 @@ pub accepted_none : (n : ℕ) (S : Deliveries) (p : ℕ) → accepted n S 0 p �
 unfolding accepted
 accepted_none n S p = refl
 
--- a list is what stands at its places
+-- A list consists of its elements by index.
 places_of : {X : Type 0} (xs : List X) (d : X) → map (λ i. get_or xs i d) (generals (length xs)) ≡ xs
 places_of xs d =
     same_lists (map (λ i. get_or xs i d) (generals (length xs))) xs (length-map-range_with_len (λ i. get_or xs i d) 0 (length xs))
@@ -77,14 +77,14 @@ places_of xs d =
     default (x ∷ xs) zero d e l = refl
     default (x ∷ xs) (suc i) d e l = default xs i d e (omega arith)
 
--- what comes to a general in a round comes from all who sent in it
+-- A general receives in a round the chains from all who sent in it.
 pub came_is : (n : ℕ) (sent : Sent) (r p : ℕ) → length (get_or sent r []) ≡ n → came n (delivered sent) (suc r) p ≡ received_in p (get_or sent r [])
 came_is n sent r p rows =
     ap (λ (m : ℕ). flat_map (λ g. received p (get_or (get_or sent r []) g [])) (generals m)) (sym rows)
     ∙ (sym (flat_map-map (received p) (λ g. get_or (get_or sent r []) g []) (generals (length (get_or sent r []))))
     ∙ ap (flat_map (received p)) (places_of (get_or sent r []) []))
 
--- a round more
+-- One more round is considered.
 pub accepted_by : (n : ℕ) (sent : Sent) (r p : ℕ) → length (get_or sent r []) ≡ n →
     accepted n (delivered sent) (r + 1) p ≡ added_by (r + 1) p (accepted n (delivered sent) r p) (received_in p (get_or sent r []))
 accepted_by n sent r p rows =
@@ -94,7 +94,7 @@ accepted_by n sent r p rows =
     ∙ (ap (added_by (suc r) p (accepted n (delivered sent) r p)) (came_is n sent r p rows)
     ∙ ap (λ (k : ℕ). added_by k p (accepted n (delivered sent) r p) (received_in p (get_or sent r []))) (sym next)))
 
--- one more of the chains that a general sent
+-- One more of the chains that a general sent is considered.
 pub one_added : (k p : ℕ) (seen : List ℕ) (xs : List (Chain × ℕ)) (i : ℕ) (x : Chain × ℕ) → p < 13 → i < length xs → x ≡ get_or xs i x →
     added_by k p seen (received p (map dispatch_of (take (i + 1) xs))) ≡ added_by k p (added_by k p seen (received p (map dispatch_of (take i xs)))) (came_of p x)
 one_added k p seen xs i x below inside is =
@@ -102,7 +102,7 @@ one_added k p seen xs i x below inside is =
     ∙ (added_by-append k p seen (received p (map dispatch_of (take i xs))) (came_of p (get_or xs i x))
     ∙ ap (λ (y : Chain × ℕ). added_by k p (added_by k p seen (received p (map dispatch_of (take i xs)))) (came_of p y)) (sym is))
 
--- it comes and counts, it comes and does not count, or it does not come
+-- A chain is received and counts, is received and does not count, or is not received.
 pub came_counts : (k p : ℕ) (seen : List ℕ) (x : Chain × ℕ) → (bit_at x.1 p == 1) ≡ true → counts k p x.0 ≡ true → added_by k p seen (came_of p x) ≡ added_also seen x.0.order
 came_counts k p seen x e f = ap (added_by k p seen) (came_then p x e) ∙ ap (λ (b : Bool). cond b (added_also seen x.0.order) seen) f
 
@@ -112,7 +112,7 @@ came_idle k p seen x e f = ap (added_by k p seen) (came_then p x e) ∙ ap (λ (
 pub came_not : (k p : ℕ) (seen : List ℕ) (x : Chain × ℕ) → (bit_at x.1 p == 1) ≡ false → added_by k p seen (came_of p x) ≡ seen
 came_not k p seen x e = ap (added_by k p seen) (came_else p x e)
 
--- one more of the generals who sent
+-- One more of the generals who sent is considered.
 pub one_sent : (k p : ℕ) (seen : List ℕ) (row : List (List Dispatch)) (i : ℕ) (x : List Dispatch) → i < length row → x ≡ get_or row i x →
     added_by k p seen (received_in p (take (i + 1) row)) ≡ added_by k p (added_by k p seen (received_in p (take i row))) (received p x)
 one_sent k p seen row i x inside is =

@@ -29,7 +29,7 @@ pub record Signing : Type 0 where
 all_signed : (x : Signing) (g : ℕ) → g < x.n → SignsForHimself x.n x.c x.S g
 all_signed x g l = elim (cases_Bool (x.traitor g)) [ inl bad ↦ x.bad g l bad | inr good ↦ loyal_signed x.n x.c x.m x.order x.S g (x.good g l good) ]
 
--- what a loyal general signs and sends, each who is not on it accepts
+-- If a loyal general signs and sends a chain, everybody who has not signed it accepts its order.
 relay : (x : Signing) (r h q : ℕ) (ch : Chain) → h < x.n → x.traitor h ≡ false → q < x.n → Among ch (loyal_chains x.n x.c x.m x.order x.S r h) → length ch.signers ≤ suc x.m → on ch.signers q ≡ false → on (accepted x.n x.S (suc x.m) q) ch.order ≡ true
 relay x zero h q ch hn loyal qn entry size off = elim (chains_out x.n x.c x.m x.order x.S zero h ch entry) [ inl own ↦ absurd (let e : 0 ≡ 1 = own.0 in cc) | inr rel ↦ absurd (let e : 0 ≡ suc (suc rel.round) = rel.here in cc) ]
 relay x (suc k) h q ch hn loyal qn entry size off =
@@ -38,7 +38,7 @@ relay x (suc k) h q ch hn loyal qn entry size off =
     let now = counted_accepted x.n x.S k q ch (counted_in x.n x.S (suc k) q ch (record { came = came_in x.n x.S (suc k) h q ch hn there; size = long; off = off })) in
     accepted_within x.n x.S q ch.order (suc x.m) (suc k) (omega arith) now
 
--- what a loyal lieutenant signed he has accepted
+-- A loyal lieutenant has accepted the order of each chain that he signed.
 own : (x : Signing) (r q : ℕ) (ch : Chain) → q ≢ x.c → Among ch (loyal_chains x.n x.c x.m x.order x.S r q) → on (accepted x.n x.S (suc x.m) q) ch.order ≡ true
 own x r q ch ne entry = elim (chains_out x.n x.c x.m x.order x.S r q ch entry) [
   | inl mine ↦ absurd (ne mine.1.0)
@@ -62,7 +62,7 @@ front_off u h w q o =
 front_short : (u : List ℕ) (h : ℕ) (w xs : List ℕ) → xs ≡ u ++ h ∷ w → length (u ++ h ∷ []) ≤ length xs
 front_short u h w xs e = rw e (omega (arith, length-append u (h ∷ []), length-append u (h ∷ w)))
 
--- a chain that brought p an order
+-- A chain that brought `p` an order.
 pub record IsCome (x : Signing) (p v k : ℕ) : Type 0 where
   pub chain : Chain
   pub early : suc k ≤ suc x.m
@@ -80,11 +80,11 @@ come x p v h =
     let f = came_out x.n x.S (suc b.round) p b.chain k.came in
     (b.round, record { chain = b.chain; early = b.early; added = b.there; counts = k; sender = f.0; general = f.1.0; there = f.1.1; brings = b.brings })
 
--- of a chain that came, each beginning was sent by its last signer
+-- Each beginning of such a chain was sent by its last signer.
 front : (x : Signing) (p v k : ℕ) → p < x.n → (i : IsCome x p v k) → (u : List ℕ) (h : ℕ) (w : List ℕ) → i.chain.signers ≡ u ++ h ∷ w → IsSent x.n x.S h (suc k) (record { order = i.chain.order; signers = u ++ h ∷ [] })
 front x p v k pn i u h w split = unforged x.n x.c x.S (all_signed x) (suc (suc k)) (suc k) (omega arith) i.sender p i.chain i.general pn i.there u h w split
 
--- the front of a chain that came, signed by a loyal general, reaches q
+-- If a loyal general has signed the chain, it reaches `q`.
 loyal_front : (x : Signing) (p q v k : ℕ) → p < x.n → q < x.n → (i : IsCome x p v k) → on i.chain.signers q ≡ false → (h : ℕ) → on i.chain.signers h ≡ true → h < x.n → x.traitor h ≡ false → on (accepted x.n x.S (suc x.m) q) v ≡ true
 loyal_front x p q v k pn qn i off h stand hn loyal =
     let s = stands i.chain.signers h stand in
@@ -95,7 +95,7 @@ loyal_front x p q v k pn qn i off h stand hn loyal =
     let short : length (s.0 ++ h ∷ []) ≤ suc x.m = omega (arith, front_short s.0 h s.1.0 i.chain.signers s.1.1) in
     rw i.brings at (relay x sent.round h q (record { order = i.chain.order; signers = s.0 ++ h ∷ [] }) hn loyal qn entry short (front_off s.0 h s.1.0 q (rw s.1.1 at off)))
 
--- q stands on the chain: he signed it, so he has accepted it
+-- If `q` has signed the chain, he has accepted its order.
 on_chain : (x : Signing) (p q v k : ℕ) → p < x.n → IsLoyalLieutenant x.n x.c x.traitor q → (i : IsCome x p v k) → on i.chain.signers q ≡ true → on (accepted x.n x.S (suc x.m) q) v ≡ true
 on_chain x p q v k pn lq i stand =
     let s = stands i.chain.signers q stand in
@@ -103,7 +103,7 @@ on_chain x p q v k pn lq i stand =
     let entry = (sent_out x.n x.c x.m x.order x.S q (x.good q lq.general lq.loyal) sent.round sent.receiver (record { order = i.chain.order; signers = s.0 ++ q ∷ [] }) sent.general sent.there).0 in
     rw i.brings at (own x sent.round q (record { order = i.chain.order; signers = s.0 ++ q ∷ [] }) lq.lieutenant entry)
 
--- p passes it on to q in time
+-- `p` passes the chain on to `q` in time.
 passed_on : (x : Signing) (p q v k : ℕ) → IsLoyalLieutenant x.n x.c x.traitor p → q < x.n → p ≢ q → (i : IsCome x p v k) → on i.chain.signers q ≡ false → suc k ≤ x.m → on (accepted x.n x.S (suc x.m) q) v ≡ true
 passed_on x p q v k lp qn ne i off time =
     let entry = chains_in x k p i.chain lp.lieutenant time i.added in
@@ -112,7 +112,7 @@ passed_on x p q v k lp qn ne i off time =
     let away : on (i.chain.signers ++ p ∷ []) q ≡ false = on-push i.chain.signers p q ∙ or_from (on i.chain.signers q) (p == q) off (ne_eqb p q ne) in
     rw i.brings at (relay x (suc (suc k)) p q (signed_also i.chain p) lp.general lp.loyal qn entry short away)
 
--- it came in the last round: one of more than m signers is loyal
+-- If the chain came in the last round, one of its more than m signers is loyal.
 last_round : (x : Signing) (p q v k : ℕ) → p < x.n → q < x.n → (i : IsCome x p v k) → on i.chain.signers q ≡ false → x.m < suc k → on (accepted x.n x.S (suc x.m) q) v ≡ true
 last_round x p q v k pn qn i off late =
     let label = labelled x.n x.c x.S x.inside (all_signed x) (suc (suc k)) (suc k) (omega arith) i.sender p i.chain i.general pn i.there in
@@ -139,7 +139,7 @@ begins_cons : (c : ℕ) (w : List ℕ) → BeginsWith c w → (t : List ℕ) × 
 begins_cons c [] b = absurd b
 begins_cons c (x ∷ w) b = (w, rw b refl)
 
--- of a loyal commander only his order is accepted
+-- If the commander is loyal, only his order is accepted.
 only_order : (x : Signing) (p v : ℕ) → p < x.n → x.traitor x.c ≡ false → on (accepted x.n x.S (suc x.m) p) v ≡ true → v ≡ x.order
 only_order x p v pn loyal h =
     let f = come x p v h in

@@ -1,4 +1,4 @@
--- What was sent, round by round.
+-- The chains that were sent, round by round.
 use Rattle.std.proofs.Common.{◌≡◌, ℕ, suc, ◌+◌, List, [], ◌∷◌, ◌++◌, length, refl, ◌∙◌, arith, length-append}
 use Rattle.round.specs.Scenario.{Scenario}
 use Rattle.round.specs.Letters.{Letter}
@@ -22,7 +22,7 @@ pub sent_none : (s : Scenario) → sent_in s [] ≡ []
 unfolding sent_in
 sent_none s = refl
 
--- a round more
+-- One more round is closed.
 pub sent_more : (s : Scenario) (closed : List (List Letter)) (row : List Letter) → sent_in s (closed ++ row ∷ []) ≡ sent_in s closed ++ round_sent s (sent_in s closed) row ∷ []
 unfolding sent_in
 sent_more s closed row = along_more s [] closed row

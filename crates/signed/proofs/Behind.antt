@@ -1,4 +1,4 @@
--- What is told, relayed, written and begun behind what the closed letters sent is what the kind says of these letters.
+-- Contexts, relays, letters and parts that are made from the chains sent are those that the kind gives for the letters.
 use Rattle.std.proofs.Common.{◌≡◌, ℕ, zero, suc, List, [], ◌∷◌, ◌++◌, length, map, cond, refl, ap, arith, Option, Some, None}
 use Rattle.std.specs.Prelude.{nat_lt}
 use Rattle.std.proofs.lemmas.List.Elements.{All-append}
@@ -55,7 +55,7 @@ module _ (s : Scenario) (closed : List (List Letter)) where
       (λ g. ap (λ (p : Progress). p ∷ []) (begun_behind g (program_of s g))) in
       (λ i. cond (nat_lt (sent_length s closed i) (suc s.bound)) (same i) [])
 
--- each round has a list for each general
+-- Each round has a list for each general.
 one_row : (n : ℕ) (row : List (List Dispatch)) → length row ≡ n → AreRows n (row ∷ [])
 one_row n row e zero d lt = e
 one_row n row e (suc k) d lt = absurd (omega arith)

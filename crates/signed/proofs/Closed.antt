@@ -1,4 +1,4 @@
--- What a signed world keeps, and what its events leave.
+-- What holds in a signed world, and what its events change.
 use Rattle.std.proofs.Common.{◌≡◌, ℕ, suc, ◌<◌, ◌≤◌, List, [], ◌∷◌, ◌++◌, length, drop, Bool, true, refl, sym, ap, subst, ◌∙◌, Result, arith}
 use Rattle.std.specs.Prelude.{OnOk, OnErr, slice_get, replicate, ◌&&◌}
 use Rattle.std.specs.List.{list_all}
@@ -26,7 +26,7 @@ use Rattle.world.proofs.Holding.{ahead_is, close_is, held_few, held_letters, hel
 use Rattle.signed.proofs.Telling.{signed_relays}
 use Rattle.signed.proofs.Worlds.{signed_campaigns}
 
--- before any event
+-- Before any event nothing was sent.
 pub none_sent : (s : Scenario) → IsSent s []
 none_sent s = ([], sym (sent_none s))
 
@@ -44,14 +44,14 @@ opened_held s k ps sent signers begun words ledger parts none all = record {
   signing = all;
 }
 
--- by what was lent of the world
+-- The same from borrowed contents of the world.
 pub drafts_same : (s : Scenario) (x x' : Sent) (a a' : List Access) (p p' : List Progress) (ds : List LetterDraft) → ds ≡ drafts_behind s x' a' p' → x' ≡ x → a' ≡ a → p' ≡ p → ds ≡ drafts_behind s x a p
 drafts_same s x x' a a' p p' ds is e f g = is ∙ (λ i. drafts_behind s (e i) (f i) (g i))
 
 pub sendings_same : (s : Scenario) (x x' : Sent) (d d' : List LetterDraft) (p p' : List Progress) (sendings : List (List Dispatch)) → sendings ≡ sent_drafted s x' d' p' → x' ≡ x → d' ≡ d → p' ≡ p → sendings ≡ sent_drafted s x d p
 sendings_same s x x' d d' p p' sendings is e f g = is ∙ (λ i. sent_drafted s (e i) (f i) (g i))
 
--- what was sent was sent by events
+-- The chains sent are those of some list of events.
 pub is_sent : (s : Scenario) (closed : List (List Letter)) (k : RecordedBoard) (opened : ℕ) (ps : List Progress) (full : Bool) (sent : Sent) (signers : List Signature) → IsSignedHeld s closed k opened ps full sent signers → IsSent s sent
 is_sent s closed k opened ps full sent signers h = (h.reached.0, h.chains ∙ ap (λ (w : World). sent_in s w.closed) (sym h.reached.1))
 
@@ -65,13 +65,13 @@ module _ (s : Scenario) (closed : List (List Letter)) (k : RecordedBoard) (opene
   pub few_rounds : IsScenario s → length closed ≤ suc s.bound
   few_rounds is = held_few signed_kind s closed k opened ps full is as_held
 
-  -- where no round is open and it is full
+  -- The world is finished if no round is open and every loyal general had posted in each.
   pub is_finished : (w : World) (len from : ℕ) → IsScenario s → world_of s closed k opened ps full ≡ w → len ≡ length closed → from ≡ s.bound → from < len → full ≡ true → IsFinished w
   is_finished w len from is same counted bound past filled =
       let few = few_rounds is in
       subst (λ (v : World). IsFinished v) same (record { closed = omega arith; full = filled })
 
-  -- events that close no round leave what was sent
+  -- Events that close no round do not change the chains sent.
   pub kept : (k' : RecordedBoard) (ps' : List Progress) → IsHeld signed_kind s closed k' opened ps' full → IsSignedHeld s closed k' opened ps' full sent signers
   kept k' ps' held = record { reached = held.reached; opening = held.opening; chains = h.chains; signing = h.signing }
 
@@ -86,14 +86,14 @@ module _ (s : Scenario) (closed : List (List Letter)) (k : RecordedBoard) (opene
   ahead_kept limit taken g ps' ahead =
       kept k ps' (held_on signed_kind s closed k opened ps full closed k opened ps' full (replicate taken (Tick g)) as_held (sym (ahead_is signed_kind s closed k opened full limit taken g ps ps' (slice_get ps g) refl ahead)) refl)
 
-  -- the letters of the open round, as they stand
+  -- Returns the letters of the open round, as they are now.
   abbrev pub row_now : List Letter
   row_now = letters_held signed_kind s closed (drop opened k.ledger) ps
 
   abbrev pub closed_now : List (List Letter)
   closed_now = closed ++ row_now ∷ []
 
-  -- the drafts, the row that is written of them, and what they send
+  -- The drafts, the letters written from them, and the chains that these send.
   module _ (ds : List LetterDraft) (drafted : ds ≡ drafts_behind s sent (drop opened k.ledger) ps) where
     drafted_in : ds ≡ drafts_behind s (sent_in s closed) (drop opened k.ledger) ps
     drafted_in = drafted ∙ ap (λ (x : Sent). drafts_behind s x (drop opened k.ledger) ps) h.chains
@@ -121,7 +121,7 @@ module _ (s : Scenario) (closed : List (List Letter)) (k : RecordedBoard) (opene
     sent_now : (closed' : List (List Letter)) → closed' ≡ closed_now → sent' ≡ sent_in s closed'
     sent_now closed' rounds = now ∙ ((λ i. h.chains i ++ round_sent s (h.chains i) row_now ∷ []) ∙ (sym (sent_more s closed row_now) ∙ ap (sent_in s) (sym rounds)))
 
-    -- what closing makes is the event
+    -- The code's close is the event.
     pub closed_is : (closed' : List (List Letter)) (opened' : ℕ) (ps' : List Progress) (full' : Bool) → closed' ≡ closed_now → ps' ≡ beginnings_behind s sent' → opened' ≡ length k.ledger → full' ≡ (full && list_all owes_no_letter ps) →
         world_of s closed' k opened' ps' full' ≡ happen signed_kind (world_of s closed k opened ps full) Close
     closed_is closed' opened' ps' full' rounds parts since posted =
@@ -134,6 +134,6 @@ module _ (s : Scenario) (closed : List (List Letter)) (k : RecordedBoard) (opene
         let held = held_on signed_kind s closed k opened ps full closed' k opened' ps' full' (Close ∷ []) as_held (closed_is closed' opened' ps' full' rounds parts since posted) refl in
         record { reached = held.reached; opening = held.opening; chains = sent_now closed' rounds; signing = h.signing }
 
-    -- the next round is begun behind this
+    -- The next round begins with these chains sent.
     pub closing_sent : IsSent s sent'
     closing_sent = is_sent s closed_now k (length k.ledger) (beginnings_behind s sent') (full && list_all owes_no_letter ps) sent' signers (closed_kept closed_now (length k.ledger) (beginnings_behind s sent') (full && list_all owes_no_letter ps) refl refl refl refl)

@@ -1,4 +1,4 @@
--- What follows for signed worlds: the laws of this crate.
+-- The laws of signed worlds follow.
 use Rattle.std.proofs.Common.{◌≡◌, ℕ, suc, ◌<◌, true, false, List, length, refl, sym, ap, subst, ◌∙◌, Option, None, Some, arith}
 use Rattle.std.specs.Prelude.{is_some}
 use Rattle.insn.specs.declared.insn.Insn.{Insn}
@@ -28,7 +28,7 @@ none_of (Some p) e = cc
 pub same_scenario : (s : Scenario) (events : List Event) → (played s events).scenario ≡ s
 same_scenario s events = run_scenario signed_kind events (opening signed_kind s)
 
--- in a full world the loyal generals' letters are there
+-- If every loyal general has posted in each closed round, the loyal generals' letters are all there.
 pub told_in : (s : Scenario) (events : List Event) → IsScenario s → (played s events).full ≡ true → (g : ℕ) → g < s.generals → is_traitor s g ≡ false → Tells signed_kind s (played s events).closed g
 told_in s events is full g gn loyal =
     let w = played s events in

@@ -1,4 +1,4 @@
--- Lists of orders without repeats, and the decision.
+-- Lists of different orders, and the decision from them.
 use Rattle.std.proofs.Common.{◌≡◌, ℕ, zero, suc, Bool, true, false, not, cond, List, [], ◌∷◌, ◌++◌, refl, sym, ◌∙◌, inl, inr}
 use Rattle.std.specs.Prelude.{◌==◌}
 use Rattle.std.proofs.lemmas.Bool.{or_right, or_cases, or_parts, or_from, and_parts, and_from, eq-eqb, eqb-true, not-true, not_from_false, false_from_ne_true}
@@ -31,7 +31,7 @@ pub firsts_distinct : (seen : List ℕ) (xs : List Chain) → is_distinct (order
 firsts_distinct seen [] = refl
 firsts_distinct seen (x ∷ xs) = firsts_distinct_more seen x xs (on seen x.order) (firsts_distinct seen xs) (firsts_distinct (x.order ∷ seen) xs)
 
--- no order is accepted twice
+-- No order is accepted twice.
 pub accepted_distinct : (n : ℕ) (S : Deliveries) (p r : ℕ) → is_distinct (accepted n S r p) ≡ true
 unfolding accepted
 accepted_distinct n S p zero = refl
@@ -57,7 +57,7 @@ decided_one (x ∷ y ∷ ys) v d i only =
 only_of : (x w : ℕ) → on (x ∷ []) w ≡ true → w ≡ x
 only_of x w i = elim (or_cases (x == w) false i) [ inl h ↦ sym (eqb-true x w h) | inr none ↦ absurd cc ]
 
--- the same orders give the same decision
+-- The same orders lead to the same decision.
 pub decided_same : (xs ys : List ℕ) → is_distinct xs ≡ true → is_distinct ys ≡ true → ((v : ℕ) → on xs v ≡ true → on ys v ≡ true) → ((v : ℕ) → on ys v ≡ true → on xs v ≡ true) → decided xs ≡ decided ys
 decided_same [] [] a b to back = refl
 decided_same [] (y ∷ ys) a b to back = absurd (let h : on [] y ≡ true = back y (head_on y ys) in cc)

@@ -1,4 +1,4 @@
--- Of what entries and letters send: whose signature a chain ends with, what comes to whom, and how many chains there are.
+-- What entries and letters send: whose signature is last on a chain, who receives it, and how many chains there are.
 use Rattle.std.proofs.Common.{◌≡◌, ℕ, zero, suc, ◌+◌, ◌<◌, ◌≤◌, Bool, true, false, not, cond, List, [], ◌∷◌, ◌++◌, map, length, refl, sym, ap, ◌∙◌, arith, inl, inr, length-append, append-nil, append_assoc, get_or, take, Option, None, Some}
 use Rattle.std.specs.Prelude.{filter, slice_get, ◌==◌, ◌⊎◌}
 use Rattle.std.proofs.lemmas.Bool.{cases_Bool, eqb-true, not_from_false, not_from_true, or_left, or_right, or_cases, false_from_ne_true}
@@ -18,12 +18,12 @@ received_more : (p : ℕ) (x : Dispatch) (xs : List Dispatch) (ch : Chain) → (
 received_more p x xs ch ih true h = elim h [ inl q ↦ inl q | inr m ↦ inr (ih m) ]
 received_more p x xs ch ih false h = inr (ih h)
 
--- what comes to somebody was sent
+-- A chain that somebody receives was sent.
 pub received_out : (p : ℕ) (xs : List Dispatch) (ch : Chain) → Among ch (received p xs) → Among ch (chains_in xs)
 received_out p [] ch h = absurd h
 received_out p (x ∷ xs) ch h = received_more p x xs ch (received_out p xs ch) (on x.receivers p) h
 
--- what is held came from somebody in an earlier round
+-- A chain that is held came from somebody in an earlier round.
 pub held_out : (n : ℕ) (S : Deliveries) (r g : ℕ) (ch : Chain) → Among ch (held n S r g) → IsHeld n S r g ch
 unfolding held
 held_out n S zero g ch h = absurd h
@@ -32,7 +32,7 @@ held_out n S (suc r) g ch h = elim (append_out (held n S r g) (came n S r g) ch 
   | inr now ↦ let f = came_out n S r g ch now in record { round = r; sender = f.0; earlier = omega arith; general = f.1.0; came = f.1.1 }
 ]
 
--- an entry's chain was begun by the commander, or was held and is prolonged
+-- An entry's chain has the commander's signature only, or extends a chain that is held.
 pub record IsOfEntry (c g : ℕ) (held : List Chain) (ch : Chain) : Type 0 where
   pub how : ((g ≡ c) × (ch.signers ≡ g ∷ [])) ⊎ ((k : Chain) × (Among k held × ((on k.signers g ≡ false) × (ch ≡ signed_also k g))))
 
@@ -60,7 +60,7 @@ chains_append : (xs ys : List Dispatch) → chains_in (xs ++ ys) ≡ chains_in x
 chains_append [] ys = refl
 chains_append (x ∷ xs) ys = ap (λ zs. x.chain ∷ zs) (chains_append xs ys)
 
--- each chain that entries send is that of an entry
+-- Each chain that entries send is the chain of an entry.
 pub dispatched_out : (n c g : ℕ) (held : List Chain) (es : List Entry) (ch : Chain) → Among ch (chains_in (dispatched n c g held es)) → IsOfEntry c g held ch
 dispatched_out n c g held [] ch h = absurd h
 dispatched_out n c g held (e ∷ es) ch h =
@@ -71,7 +71,7 @@ dispatched_out n c g held (e ∷ es) ch h =
       | inr then ↦ dispatched_out n c g held es ch then
     ]
 
--- each chain of a letter to all others was signed
+-- Each chain that is sent to all others was signed.
 pub all_others_out : (n : ℕ) (xs : List Chain) (ch : Chain) → Among ch (chains_in (map (to_all_others n) xs)) → Among ch xs
 all_others_out n [] ch h = absurd h
 all_others_out n (x ∷ xs) ch h = elim h [ inl q ↦ inl q | inr m ↦ inr (all_others_out n xs ch m) ]
@@ -84,7 +84,7 @@ pub filter_on : (t : ℕ → Bool) (xs : List ℕ) (j : ℕ) → t j ≡ true �
 filter_on t [] j h k = k
 filter_on t (x ∷ xs) j h k = filter_on_more t x xs j h (filter_on t xs j h) (t x) refl k
 
--- a general is among the others exactly where he is not on the list
+-- A general is among the others exactly if he is not in the list.
 pub on_others : (n : ℕ) (w : List ℕ) (q : ℕ) → q < n → on (others n w) q ≡ not (on w q)
 on_others n w q l = elim (cases_Bool (on w q)) [
   | inl there ↦ false_from_ne_true (on (others n w) q) (λ h. let off = (others-on n w q h).1 in cc) ∙ sym (not_from_true (on w q) there)
@@ -98,7 +98,7 @@ received_all_more n q x xs ih false false e = ih
 received_all_more n q x xs ih true false e = absurd cc
 received_all_more n q x xs ih false true e = absurd cc
 
--- of a letter to all others a general receives the chains on which he does not stand
+-- Of the chains sent to all others, a general receives those that he has not signed.
 pub received_all : (n q : ℕ) (xs : List Chain) → q < n → received q (map (to_all_others n) xs) ≡ filter (λ ch. not (on ch.signers q)) xs
 received_all n q [] l = refl
 received_all n q (x ∷ xs) l = received_all_more n q x xs (received_all n q xs l) (on (others n x.signers) q) (not (on x.signers q)) (on_others n x.signers q l)
@@ -112,14 +112,14 @@ dispatched_few n c g held [] = omega arith
 dispatched_few n c g held (e ∷ es) =
     omega (arith, length-append (sent_by n (chain_of c g held e) (bits_of e)) (dispatched n c g held es), sent_few n (chain_of c g held e) (bits_of e), dispatched_few n c g held es)
 
--- entries one after another
+-- Entries of two lists send one after another.
 dispatched-append : (n c g : ℕ) (held : List Chain) (es fs : List Entry) → dispatched n c g held (es ++ fs) ≡ dispatched n c g held es ++ dispatched n c g held fs
 dispatched-append n c g held [] fs = refl
 dispatched-append n c g held (e ∷ es) fs =
     ap (λ (ds : List Dispatch). sent_by n (chain_of c g held e) (bits_of e) ++ ds) (dispatched-append n c g held es fs)
     ∙ sym (append_assoc (sent_by n (chain_of c g held e) (bits_of e)) (dispatched n c g held es) (dispatched n c g held fs))
 
--- an entry more
+-- One more entry sends.
 pub dispatched_more : (n c g : ℕ) (held : List Chain) (es : List Entry) (i : ℕ) (d : Entry) → i < length es →
     dispatched n c g held (take (i + 1) es) ≡ dispatched n c g held (take i es) ++ sent_by n (chain_of c g held (get_or es i d)) (bits_of (get_or es i d))
 dispatched_more n c g held es i d inside =

@@ -1,4 +1,4 @@
--- The drafts of a close, and what the parts leave, are the letters of the round, and they send what these letters send.
+-- The letters made from the drafts and the parts are the letters of the round, and send the same chains.
 use Rattle.std.proofs.Common.{◌≡◌, ◌≢◌, ℕ, zero, suc, ◌+◌, ◌<◌, Bool, true, false, cond, List, [], ◌∷◌, ◌++◌, length, map, refl, sym, ap, subst, ◌∙◌, inl, inr, Option, Some, None, arith}
 use Rattle.std.specs.Prelude.{slice_get, find, ◌==◌}
 use Rattle.std.specs.List.{range_with_len}
@@ -31,7 +31,7 @@ range_same : {A : Type 0} (a n : ℕ) (f h : ℕ → A) → ((g : ℕ) → g < a
 range_same a zero f h e = refl
 range_same a (suc n) f h e = (λ i. e a (omega arith) i ∷ range_same (a + 1) n f h (λ g lt. e g (omega arith)) i)
 
--- among pieces of which only his has what passes
+-- An element is found in lists of which only one has an element that passes.
 find_left : {A : Type 0} (t : A → Bool) (xs ys : List A) → find t ys ≡ None → find t (xs ++ ys) ≡ find t xs
 find_left t [] ys e = e
 find_left {A = A} t (x ∷ xs) ys e = ap (λ (o : Option A). cond (t x) (Some x) o) (find_left t xs ys e)
@@ -65,14 +65,14 @@ module _ (s : Scenario) (closed : List (List Letter)) (accesses : List Access) w
   by_part g (Some Silent) = refl
   by_part g (Some Posted) = ap (λ (l : Letter). l ∷ []) (written_behind s closed g)
 
-  -- letters of others are not his
+  -- Letters of other generals are not his.
   not_his : (g j : ℕ) (o : Option Progress) → j ≢ g → find (λ l. l.general == g) (letter_held signed_kind s closed accesses j o) ≡ None
   not_his g j None ne = refl
   not_his g j (Some (Acting a)) ne = rw (ne_eqb j g ne) refl
   not_his g j (Some Silent) ne = refl
   not_his g j (Some Posted) ne = rw (ne_eqb j g ne) refl
 
-  -- what is entered by a draft and a part is in the letter
+  -- The entries of a draft and a part are in the letter.
   sent_by_part : (g : ℕ) (o : Option Progress) →
       dispatched s.generals s.commander g (held_behind s.generals (sent_in s closed) g) (entries_drafted (Some (draft_behind s (sent_in s closed) accesses g o)) o)
       ≡ sends s (sent_in s closed) g (find (λ l. l.general == g) (letter_held signed_kind s closed accesses g o))
@@ -89,7 +89,7 @@ module _ (s : Scenario) (closed : List (List Letter)) (accesses : List Access) (
   drafted_at : (g : ℕ) → g < s.generals → slice_get ds g ≡ Some (draft_behind s (sent_in s closed) accesses g (slice_get ps g))
   drafted_at g lt = ap (λ (l : List LetterDraft). slice_get l g) same ∙ each-get s.generals (λ j. draft_behind s (sent_in s closed) accesses j (slice_get ps j)) g lt
 
-  -- the row that is written
+  -- The letters that the code writes are those of the round.
   pub row_is : (n round : ℕ) (row : List Letter) → n ≡ s.generals → round ≡ suc (length closed) → row ≡ letters_from n round ds ps → row ≡ letters_held signed_kind s closed accesses ps
   row_is n round row all counted is =
       is ∙ (ap (λ (m : ℕ). letters_from m round ds ps) all
@@ -102,7 +102,7 @@ module _ (s : Scenario) (closed : List (List Letter)) (accesses : List Access) (
       let is : t ≡ accesses_of g accesses = begun_by s (sent_in s closed) accesses g (slice_get ps g) t a acting only.1 in
       subst (λ (n : ℕ). IsLetter (letter_left g n t a)) (sym counted) (subst (λ (l : List Access). IsLetter (letter_left g (suc (length closed)) l a)) (sym is) (runs g a acting))
 
-  -- what the drafts send is what the letters send
+  -- The chains made from the drafts are those that the letters send.
   pub round_drafted : sent_drafted s (sent_in s closed) ds ps ≡ round_sent s (sent_in s closed) (letters_held signed_kind s closed accesses ps)
   round_drafted =
       let sent = sent_in s closed in

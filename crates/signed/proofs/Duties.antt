@@ -1,4 +1,4 @@
--- What a loyal general has to enter finds room.
+-- There is room for all entries of a loyal general.
 use Rattle.std.proofs.Common.{◌≡◌, ◌≢◌, ℕ, zero, suc, ◌+◌, ◌<◌, ◌≤◌, Bool, true, false, not, cond, List, [], ◌∷◌, drop, length, refl, sym, ap, ◌∙◌, arith, length-append, Option, Some, None}
 use Rattle.std.specs.Prelude.{filter, slice_get, nat_le, is_some, ◌==◌}
 use Rattle.std.proofs.lemmas.Bool.{and_parts, not-true, ne_eqb, eq-eqb, le-leb}
@@ -35,7 +35,7 @@ behind_front n sent r g i e =
     ap (λ (xs : List Chain). slice_get xs (length H + i)) (held_is n sent g ∙ ap (λ (k : ℕ). held n (delivered sent) (suc k) g) e)
     ∙ get_right H (came n (delivered sent) (suc r) g) (length H + i) i refl
 
--- what counts may be passed on
+-- A chain that counts may be passed on.
 pub may_pass : (s : Scenario) (sent : Sent) (r g : ℕ) → IsScenario s → IsMade s sent → length sent ≡ suc r →
     MayPass (relay_behind s sent g) (suc r) g (length (held s.generals (delivered sent) (suc r) g)) (came s.generals (delivered sent) (suc r) g)
 may_pass s sent r g is made e i ch bits at c =
@@ -76,7 +76,7 @@ later_entries n c m order S r g ne le =
     let last = passes n (suc r) g (length (held n S (suc r) g)) (accepted n S r g) (came n S (suc r) g) in
     (λ i. cond (ne_eqb g c ne i) [] (cond (le-leb (suc r) m le i) last []))
 
--- a lieutenant's, of the chains of the round before
+-- A lieutenant's entries, for chains of the round before.
 pub passes_are : (s : Scenario) (sent : Sent) (r g : ℕ) → IsScenario s → IsSent s sent → g < s.generals → g ≢ s.commander → length sent ≡ suc r → length sent ≤ s.bound →
     entered_all (relay_behind s sent g) [] (passes s.generals (length sent) g (held_of g sent).earlier (accepted s.generals (delivered sent) r g) (drop (held_of g sent).earlier (held_of g sent).chains))
     ≡ loyal_entries s.generals s.commander s.bound s.order (delivered sent) (suc (length sent)) g
@@ -95,7 +95,7 @@ first_entries : (n c m order : ℕ) (S : Deliveries) (g : ℕ) → loyal_entries
 unfolding loyal_entries
 first_entries n c m order S g = refl
 
--- the commander's, in the first round
+-- The commander's entry in the first round.
 pub signed_is : (s : Scenario) (sent : Sent) (g : ℕ) (entries : List Entry) → g ≡ s.commander → length sent ≡ 0 → entries ≡ entered (relay_behind s sent g) [] (Sign s.order (bits_but s.generals (g ∷ []))) →
     entries ≡ loyal_entries s.generals s.commander s.bound s.order (delivered sent) (suc (length sent)) g
 signed_is s sent g entries same none is =
@@ -106,7 +106,7 @@ signed_is s sent g entries same none is =
     ∙ (sym (first_entries s.generals s.commander s.bound s.order (delivered sent) g)
     ∙ ap (λ (k : ℕ). loyal_entries s.generals s.commander s.bound s.order (delivered sent) (suc k) g) (sym none))))
 
--- a lieutenant enters nothing in the first round
+-- A lieutenant makes no entry in the first round.
 pub none_first : (s : Scenario) (sent : Sent) (g : ℕ) → g ≢ s.commander → length sent ≡ 0 → [] ≡ loyal_entries s.generals s.commander s.bound s.order (delivered sent) (suc (length sent)) g
 none_first s sent g ne none =
     ap (λ (b : Bool). cond b (Sign s.order (bits_but s.generals (g ∷ [])) ∷ []) []) (sym (ne_eqb g s.commander ne))
@@ -119,7 +119,7 @@ later_none n c m order S r g same =
     let last = passes n (suc r) g (length (held n S (suc r) g)) (accepted n S r g) (came n S (suc r) g) in
     ap (λ (b : Bool). cond b [] (cond (nat_le (suc r) m) last [])) (eq-eqb g c same)
 
--- nor the commander in a later one
+-- The commander makes no entry in a later round.
 pub none_later : (s : Scenario) (sent : Sent) (g : ℕ) → g ≡ s.commander → length sent ≢ 0 → [] ≡ loyal_entries s.generals s.commander s.bound s.order (delivered sent) (suc (length sent)) g
 none_later s sent g same some = by (length sent) refl
   where
@@ -132,7 +132,7 @@ held_small s sent g is h inside le =
     let e = ap length (chains_held s.generals sent g (sent_rows s sent h)) in
     omega (arith, held_few s sent (sent_made s sent is h) is.few is.rounds le g inside)
 
--- a lieutenant who has passed on what brings him orders that he has not accepted
+-- A lieutenant has passed on the chains that bring him new orders.
 pub passed_is : (s : Scenario) (sent : Sent) (g n rounds r : ℕ) (held_chains : HeldChains) (relay : Relay) (before entries : List Entry) (kept : List ℕ) → IsScenario s → IsSent s sent → g < s.generals → g ≢ s.commander → length sent ≤ s.bound →
     n ≡ s.generals → rounds ≡ length sent → rounds ≡ suc r → held_chains ≡ held_of g sent → relay ≡ relay_behind s sent g → before ≡ [] → AreFirst kept (accepted s.generals (delivered sent) r g) →
     ((seen : List ℕ) → AreFirst kept seen → length (added_by rounds g seen (drop held_chains.earlier held_chains.chains)) ≤ 8 → entries ≡ entered_all relay before (passes n rounds g held_chains.earlier seen (drop held_chains.earlier held_chains.chains))) →

@@ -1,11 +1,11 @@
--- What is held, accepted and signed in a round follows from the rounds before it.
+-- What is held, accepted and signed in a round depends only on the rounds before it.
 use Rattle.std.proofs.Common.{◌≡◌, ℕ, zero, suc, ◌<◌, ◌≤◌, cond, List, [], ◌∷◌, map, refl, ap, arith}
 use Rattle.std.specs.Prelude.{filter, flat_map, nat_le, ◌==◌}
 use Rattle.label.specs.Labels.{generals}
 use Rattle.signed.specs.Chains.{Chain, signed_also}
 use Rattle.signed.specs.Accepted.{Deliveries, came, held, counts, counted, accepted, added, loyal_chains}
 
--- in the rounds before k the same chains are sent
+-- States that the same chains are sent in the rounds before `k`.
 abbrev pub AgreeBefore : ℕ → Deliveries → Deliveries → Type 0
 AgreeBefore k S T = (r g p : ℕ) → r < k → S r g p ≡ T r g p
 

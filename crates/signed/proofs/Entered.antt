@@ -1,4 +1,5 @@
--- What an acting general of a signed world can enter, has entered, and sends when the round closes.
+-- Which entries a traitor's activation in a signed world can make and has made, and what it sends when the round is
+-- closed.
 use Rattle.std.proofs.Common.{◌≡◌, ◌≢◌, ℕ, suc, ◌<◌, ◌≤◌, true, List, [], ◌∷◌, ◌++◌, length, map, drop, refl, sym, ap, subst, ◌∙◌, Option, Some, None, arith}
 use Rattle.std.specs.Prelude.{slice_get, is_some, find, ◌==◌}
 use Rattle.std.proofs.lemmas.Bool.{eq-eqb, ne_eqb, lt-ltb}
@@ -35,14 +36,14 @@ use Rattle.signed.proofs.Sending.{IsKept, runs_kept, start_kept}
 use Rattle.signed.proofs.Signing.{sendable_is, all_send}
 use Rattle.signed.proofs.Worlds.{signed_campaigns, played_made}
 
--- the chains that a general holds have different signers
+-- The chains that a general holds have different signers.
 pub held_distinct : (s : Scenario) (sent : Sent) → IsMade s sent → s.commander < s.generals → (g : ℕ) (ch : Chain) → Among ch (held_behind s.generals sent g) → is_distinct ch.signers ≡ true
 held_distinct s sent made inside g ch there =
     let A : List Chain → Type 0 = λ xs. Among ch xs in
     let from = held_out s.generals (delivered sent) (suc (length sent)) g ch (subst A (held_is s.generals sent g) there) in
     (sent_unforged s sent made from.round from.sender ch inside (received_out g (sent_by sent from.round from.sender) ch from.came)).chain.distinct
 
--- his activation has come to where it stands by a run of a sound program
+-- His activation is reached by a run of a sound program.
 kept_in : (s : Scenario) (events : List Event) (g : ℕ) (a : Activation) → IsScenario s → slice_get (played s events).parts g ≡ Some (Acting a) → IsKept a
 kept_in s events g a is at =
     let w = played s events in
@@ -74,7 +75,7 @@ has_entered s events g a is at =
       each = all_send (is_sendable a.relay) s.commander g held a.state.entries agree k.sendable.each;
     }
 
--- letters of others are not his, and an acting general's is
+-- Letters of other generals are not his, and the letter of his activation is.
 not_his : (w : World) (g j : ℕ) (o : Option Progress) → j ≢ g → find (λ l. l.general == g) (letters_at signed_kind w j o) ≡ None
 not_his w g j None ne = refl
 not_his w g j (Some (Acting a)) ne = rw (ne_eqb j g ne) refl
@@ -98,7 +99,7 @@ closed_with : (s : Scenario) (events : List Event) → round_open (played s even
 closed_with s events more =
     ap (λ (w : World). w.closed) (run-append signed_kind events (Close ∷ []) (opening signed_kind s) ∙ close_open signed_kind (played s events) more)
 
--- when the round closes, he sends what he has entered
+-- When the round is closed, he sends the chains of his entries.
 sent_at_close : (s : Scenario) (events : List Event) (g : ℕ) (a : Activation) → IsScenario s → slice_get (played s events).parts g ≡ Some (Acting a)
     → sent_by (sent_after s (events ++ Close ∷ [])) (suc (length (played s events).closed)) g ≡ dispatched s.generals s.commander g (held_in s (played s events).closed g) a.state.entries
 sent_at_close s events g a is at =

@@ -13,7 +13,7 @@ use Rattle.signed.specs.Kind.{signed_kind}
 use Rattle.signed.proofs.Worlds.{signed_campaigns}
 use Rattle.signed.proofs.ProgramRows.{campaign}
 
--- three generals, the lieutenant 2 a traitor who enters nothing
+-- Three generals, of whom lieutenant 2 is a traitor who makes no entry.
 abbrev pub silent : Scenario
 silent = campaign 3 1 1 None (None ∷ None ∷ Some answer ∷ [])
 

@@ -1,4 +1,4 @@
--- An exit leaves the entries as they were.
+-- An exit does not change the entries.
 use Rattle.std.proofs.Common.{◌≡◌, ℕ, List, refl, subst}
 use Rattle.insn.specs.declared.insn.Insn.{Insn}
 use Rattle.semantics.specs.Relay.{Relay}

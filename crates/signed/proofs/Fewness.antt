@@ -1,4 +1,5 @@
--- A chain that counts was begun in the first round, so the accepted orders are those that the commander signed then, and no more than his entries.
+-- A chain that counts began in the first round. So the accepted orders are among those that the commander signed then,
+-- and are no more than his entries.
 use Rattle.std.proofs.Common.{◌≡◌, ◌≢◌, ℕ, zero, suc, ◌<◌, ◌≤◌, Bool, true, false, not, cond, List, [], ◌∷◌, ◌++◌, map, length, refl, sym, ap, ◌∙◌, arith, inl, inr, length-append}
 use Rattle.std.specs.Prelude.{nat_le, ◌==◌}
 use Rattle.std.proofs.lemmas.Bool.{cases_eq, or_left, or_right, or_cases, and_parts, eq-eqb, eqb-true, not-true}
@@ -18,7 +19,7 @@ use Rattle.signed.proofs.Dispatching.{received_out, dispatched_few}
 use Rattle.signed.proofs.Making.{IsMade, of_entries, of_loyal}
 use Rattle.signed.proofs.Forging.{all_signed}
 
--- a list without one of its elements
+-- A list without one of its elements.
 without : (ys : List ℕ) (v : ℕ) → on ys v ≡ true → (zs : List ℕ) × ((length ys ≡ suc (length zs)) × ((w : ℕ) → on ys w ≡ true → w ≢ v → on zs w ≡ true))
 without [] v h = absurd cc
 without (y ∷ ys) v h = elim (cases_eq y v) [
@@ -29,7 +30,7 @@ without (y ∷ ys) v h = elim (cases_eq y v) [
       (y ∷ rest.0, (ap suc rest.1.0, λ w k other. elim (or_cases (y == w) (on ys w) k) [ inl here ↦ or_left (y == w) (on rest.0 w) here | inr more ↦ or_right (y == w) (on rest.0 w) (rest.1.1 w more other) ]))
 ]
 
--- different numbers that all stand on a list are no more than the list has
+-- Different numbers that are all in a list are no more than the list's elements.
 pub no_more : (xs ys : List ℕ) → is_distinct xs ≡ true → ((v : ℕ) → on xs v ≡ true → on ys v ≡ true) → length xs ≤ length ys
 no_more [] ys d all = omega arith
 no_more (x ∷ xs) ys d all =
@@ -39,7 +40,8 @@ no_more (x ∷ xs) ys d all =
     let shorter : length xs ≤ length rest.0 = no_more xs rest.0 parts.1 (λ v k. rest.1.1 v (all v (or_right (x == v) (on xs v) k)) (λ e. let f : on xs x ≡ true = rw e at k in cc)) in
     omega (arith, rest.1.0)
 
--- in its round a chain has no more signatures than rounds have begun, and one of just as many was begun in the first
+-- States that a chain has at most as many signatures as rounds have begun, and that one with just as many began in the
+-- first.
 pub record IsTimely (n c : ℕ) (S : Deliveries) (r : ℕ) (ch : Chain) : Type 0 where
   pub short : length ch.signers ≤ r
   pub begun : length ch.signers ≡ r → (q : ℕ) × ((q < n) × Among (signed_alone ch.order c) (S 1 c q))
@@ -73,7 +75,7 @@ timely n c S all none (suc b) (suc r) lt g p ch gn pn there =
           }
     ]
 
--- the orders that the commander signed in the first round
+-- Returns the orders that the commander signed in the first round.
 abbrev pub first_orders : ℕ → Sent → List ℕ
 first_orders c sent = orders (chains_in (sent_by sent 1 c))
 
@@ -105,7 +107,7 @@ relayed_few g xs false true few = let e : length (map (λ ch. signed_also ch g) 
 orders_length : (xs : List Chain) → length (orders xs) ≡ length xs
 orders_length xs = length-map xs (λ ch. ch.order)
 
--- the first chains bring different orders
+-- The first chains bring different orders.
 added_few : (n : ℕ) (S : Deliveries) (k g : ℕ) (L : List ℕ) → length L ≤ 8 → ((ch : Chain) → Among ch (added n S k g) → on L ch.order ≡ true) → length (added n S k g) ≤ 8
 added_few n S k g L few all =
     let fewer : length (orders (added n S k g)) ≤ length L = no_more (orders (added n S k g)) L (firsts_distinct (accepted n S k g) (counted n S (suc k) g)) (λ v h. let o = orders_out (added n S k g) v h in rw o.1.1 at (all o.0 o.1.0)) in
@@ -121,7 +123,7 @@ loyal_few n c m order S (suc (suc k)) g L few all = relayed_few g (added n S k g
 all_others_length : (n : ℕ) (xs : List Chain) → length (map (to_all_others n) xs) ≡ length xs
 all_others_length n xs = length-map xs (to_all_others n)
 
--- in the first round a loyal commander signs one order
+-- In the first round a loyal commander signs one order.
 first_few : (s : Scenario) (S : Deliveries) (g : ℕ) → length (of_loyal s S 1 g) ≤ 8
 unfolding loyal_chains
 first_few s S g = let e : length (of_loyal s S 1 g) ≡ length (loyal_chains s.generals s.commander s.bound s.order S 1 g) = all_others_length s.generals (loyal_chains s.generals s.commander s.bound s.order S 1 g) in omega (arith, one_few s.commander s.order g (g == s.commander))
@@ -138,14 +140,14 @@ first_orders_few s sent made =
     ] in
     omega arith
 
--- nobody accepts more than eight orders
+-- Nobody accepts more than eight orders.
 pub accepted_few : (s : Scenario) (sent : Sent) → IsMade s sent → (r p : ℕ) → p < s.generals → length (accepted s.generals (delivered sent) r p) ≤ 8
 accepted_few s sent made r p pn =
     let fewer : length (accepted s.generals (delivered sent) r p) ≤ length (first_orders s.commander sent) =
     no_more (accepted s.generals (delivered sent) r p) (first_orders s.commander sent) (accepted_distinct s.generals (delivered sent) p r) (λ v h. accepted_first s sent made r p v pn h) in
     omega (arith, first_orders_few s sent made)
 
--- nobody sends more than eight chains
+-- Nobody sends more than eight chains in a round.
 pub sent_few : (s : Scenario) (sent : Sent) → IsMade s sent → (r g : ℕ) → length (sent_by sent r g) ≤ 8
 sent_few s sent made r g = elim (made r g) [
   | inl none ↦ rw none (omega arith)

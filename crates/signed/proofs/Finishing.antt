@@ -1,4 +1,5 @@
--- Where every loyal general sent in each round what he has to, he is loyal, and past the last round nobody signs.
+-- If a loyal general has sent in each round what SM(m) requires, he follows the protocol. After the last round nobody
+-- signs.
 use Rattle.std.proofs.Common.{◌≡◌, ℕ, zero, suc, ◌<◌, Bool, true, false, not, cond, List, [], map, length, refl, sym, ap, ◌∙◌, arith, inl, inr}
 use Rattle.std.specs.Prelude.{filter, nat_le, ◌==◌}
 use Rattle.std.proofs.lemmas.Bool.{cases_lt, lt-leb}
@@ -17,7 +18,7 @@ late_more g c xs true b e = refl
 late_more g c xs false false e = refl
 late_more g c xs false true e = absurd cc
 
--- past the last round nobody signs
+-- After the last round nobody signs.
 late_none : (n c m order : ℕ) (S : Deliveries) (r g : ℕ) → suc m < r → loyal_chains n c m order S r g ≡ []
 unfolding loyal_chains
 late_none n c m order S zero g l = absurd (omega arith)

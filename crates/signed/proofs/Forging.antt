@@ -1,4 +1,5 @@
--- In a world whose letters are made of what was delivered before, everybody signs for himself, and all chains are unforged.
+-- If letters are made from what was received before, every general signs only in his own name, and all chains are
+-- unforged.
 use Rattle.std.proofs.Common.{◌≡◌, ℕ, suc, ◌<◌, ◌≤◌, List, [], ◌∷◌, ◌++◌, refl, sym, ap, ◌∙◌, arith, inl, inr}
 use Rattle.std.specs.Prelude.{◌⊎◌}
 use Rattle.label.specs.Oral.{IsLabel}
@@ -16,7 +17,8 @@ use Rattle.signed.proofs.Unforged.{unforged, labelled, chain_is}
 use Rattle.signed.proofs.Dispatching.{received_out, held_out, IsOfEntry, dispatched_out, all_others_out}
 use Rattle.signed.proofs.Making.{IsMade, IsMadeOf}
 
--- his own signature alone, if he is the commander, or a chain that he holds, prolonged
+-- States that a chain has only the general's signature, and he is the commander, or that it extends a chain that he
+-- holds.
 abbrev pub IsSignedBy : ℕ → ℕ → Deliveries → ℕ → ℕ → Chain → Type 0
 IsSignedBy n c S r g ch = ((g ≡ c) × (ch.signers ≡ g ∷ [])) ⊎ IsPassedOn n S r g ch
 
@@ -26,7 +28,7 @@ entry_signed s S r g ch e = elim e.how [
   | inr pass ↦ inr (record { held = pass.0; there = held_out s.generals S r g pass.0 pass.1.0; once = pass.1.1.0; signed = pass.1.1.1 })
 ]
 
--- who sends is a general, and signs for himself
+-- Who sends is a general, and signs only in his own name.
 pub made_signed : (s : Scenario) (S : Deliveries) (r g : ℕ) (xs : List Dispatch) (ch : Chain) → IsMadeOf s S r g xs → Among ch (chains_in xs) → (g < s.generals) × IsSignedBy s.generals s.commander S r g ch
 made_signed s S r g xs ch made h = elim made [
   | inl none ↦ absurd (let f : Among ch (chains_in []) = rw none at h in f)
@@ -39,7 +41,7 @@ made_signed s S r g xs ch made h = elim made [
 pub all_signed : (s : Scenario) (sent : Sent) → IsMade s sent → (g : ℕ) → g < s.generals → SignsForHimself s.generals s.commander (delivered sent) g
 all_signed s sent made g gn r p ch pn h = (made_signed s (delivered sent) r g (sent_by sent r g) ch (made r g) (received_out p (sent_by sent r g) ch h)).1
 
--- the beginning that ends with a signer, sent by him
+-- The beginning of a chain up to a signer was sent by him.
 pub record IsBegun (sent : Sent) (h last : ℕ) (ch : Chain) : Type 0 where
   pub round : ℕ
   pub early : round ≤ last

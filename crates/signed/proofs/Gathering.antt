@@ -1,4 +1,4 @@
--- The chains that bring a general his orders, one chain after another.
+-- The chains that bring a general his orders, one after another.
 use Rattle.std.proofs.Common.{◌≡◌, ◌≢◌, ℕ, zero, suc, ◌+◌, ◌<◌, Bool, true, false, cond, List, [], ◌∷◌, ◌++◌, map, length, get_or, take, refl, sym, ap, ◌∙◌, arith, append-nil, append_assoc}
 use Rattle.std.specs.Prelude.{filter, flat_map, ◌==◌}
 use Rattle.std.specs.Int.{bit_at}
@@ -37,12 +37,12 @@ gathered_first k p cs x xs ih true false e =
     (ap (λ (os : List ℕ). firsts os (filter (counts k p) xs)) (orders_push cs x) ∙ firsts_alike (orders cs ++ x.order ∷ []) (x.order ∷ orders cs) (filter (counts k p) xs) (λ v. at_the_end (orders cs) x.order v))
     ∙ ap (λ (c : Bool). cs ++ cond c (firsts (orders cs) (filter (counts k p) xs)) (x ∷ firsts (x.order ∷ orders cs) (filter (counts k p) xs))) (sym e)))
 
--- one chain after another adds the first chains that count
+-- Considering chains one after another adds the first chains that count.
 pub gathered_is : (k p : ℕ) (cs xs : List Chain) → gathered k p cs xs ≡ cs ++ firsts (orders cs) (filter (counts k p) xs)
 gathered_is k p cs [] = sym (append-nil cs)
 gathered_is k p cs (x ∷ xs) = gathered_first k p cs x xs (λ ds. gathered_is k p ds xs) (counts k p x) (on (orders cs) x.order) refl
 
--- the orders that these chains bring are those that are accepted
+-- The orders that these chains bring are the accepted ones.
 pub bringing_orders : (n : ℕ) (S : Deliveries) (r p : ℕ) → orders (bringing n S r p) ≡ accepted n S r p
 unfolding bringing accepted
 bringing_orders n S zero p = refl
@@ -53,14 +53,14 @@ pub bringing_none : (n : ℕ) (S : Deliveries) (p : ℕ) → bringing n S 0 p �
 unfolding bringing
 bringing_none n S p = refl
 
--- a round more
+-- One more round is considered.
 pub bringing_more : (n : ℕ) (S : Deliveries) (r p : ℕ) → bringing n S (suc r) p ≡ gathered (suc r) p (bringing n S r p) (came n S (suc r) p)
 unfolding bringing
 bringing_more n S r p =
     ap (λ (os : List ℕ). bringing n S r p ++ firsts os (filter (counts (suc r) p) (came n S (suc r) p))) (sym (bringing_orders n S r p))
     ∙ sym (gathered_is (suc r) p (bringing n S r p) (came n S (suc r) p))
 
--- one more of the chains that a general sent
+-- One more of the chains that a general sent is considered.
 pub one_gathered : (k p : ℕ) (cs : List Chain) (xs : List (Chain × ℕ)) (i : ℕ) (x : Chain × ℕ) → p < 13 → i < length xs → x ≡ get_or xs i x →
     gathered k p cs (received p (map dispatch_of (take (i + 1) xs))) ≡ gathered k p (gathered k p cs (received p (map dispatch_of (take i xs)))) (came_of p x)
 one_gathered k p cs xs i x below inside is =
@@ -68,7 +68,7 @@ one_gathered k p cs xs i x below inside is =
     ∙ (gathered-append k p cs (received p (map dispatch_of (take i xs))) (came_of p (get_or xs i x))
     ∙ ap (λ (y : Chain × ℕ). gathered k p (gathered k p cs (received p (map dispatch_of (take i xs)))) (came_of p y)) (sym is))
 
--- it comes and counts, it comes and does not count, or it does not come
+-- A chain is received and counts, is received and does not count, or is not received.
 pub came_counts : (k p : ℕ) (cs : List Chain) (x : Chain × ℕ) → (bit_at x.1 p == 1) ≡ true → counts k p x.0 ≡ true → gathered k p cs (came_of p x) ≡ gathered_also cs x.0
 came_counts k p cs x e f = ap (gathered k p cs) (came_then p x e) ∙ ap (λ (b : Bool). cond b (gathered_also cs x.0) cs) f
 
@@ -78,7 +78,7 @@ came_idle k p cs x e f = ap (gathered k p cs) (came_then p x e) ∙ ap (λ (b : 
 pub came_not : (k p : ℕ) (cs : List Chain) (x : Chain × ℕ) → (bit_at x.1 p == 1) ≡ false → gathered k p cs (came_of p x) ≡ cs
 came_not k p cs x e = ap (gathered k p cs) (came_else p x e)
 
--- one more of the generals who sent in a round
+-- One more of the generals who sent in a round is considered.
 pub came_more : (j : ℕ) (S : Deliveries) (k p : ℕ) → came (j + 1) S k p ≡ came j S k p ++ S k j p
 came_more j S k p =
     ap (flat_map (λ g. S k g p)) (range_more j) ∙ (flat_map-append (λ g. S k g p) (generals j) (j ∷ []) ∙ ap (λ ys. came j S k p ++ ys) (append-nil (S k j p)))
@@ -86,21 +86,21 @@ came_more j S k p =
 pub gathered_more : (j : ℕ) (S : Deliveries) (k p : ℕ) (cs : List Chain) → gathered k p cs (came (j + 1) S k p) ≡ gathered k p (gathered k p cs (came j S k p)) (S k j p)
 gathered_more j S k p cs = ap (gathered k p cs) (came_more j S k p) ∙ gathered-append k p cs (came j S k p) (S k j p)
 
--- chains that are lent, with one more
+-- One more borrowed chain is appended.
 pub also_pushed : (cs : List (Bor Chain)) (b : Bor Chain) → on (orders (lent cs)) b.now.order ≡ false → lent (cs ++ b ∷ []) ≡ gathered_also (lent cs) b.now
 also_pushed cs b new = map-append (λ (c : Bor Chain). c.now) cs (b ∷ []) ∙ sym (cond-false (on (orders (lent cs)) b.now.order) (lent cs) (lent cs ++ b.now ∷ []) new)
 
--- and without it, where its order is there
+-- It is not appended if its order is already there.
 pub also_kept : (cs : List (Bor Chain)) (x : Chain) → on (orders (lent cs)) x.order ≡ true → lent cs ≡ gathered_also (lent cs) x
 also_kept cs x there = sym (cond-true (on (orders (lent cs)) x.order) (lent cs) (lent cs ++ x ∷ []) there)
 
--- a chain that brings the order
+-- A chain has the order.
 pub one_brings : (xs : List (Bor Chain)) (i v : ℕ) (b : Bor Chain) → i < length xs → b ≡ get_or xs i b → b.now.order ≡ v → on (orders (lent xs)) v ≡ true
 one_brings [] i v b l at e = absurd (omega arith)
 one_brings (x ∷ xs) zero v b l at e = or_left (x.now.order == v) (on (orders (lent xs)) v) (eq-eqb x.now.order v (ap (λ (c : Bor Chain). c.now.order) (sym at) ∙ e))
 one_brings (x ∷ xs) (suc i) v b l at e = or_right (x.now.order == v) (on (orders (lent xs)) v) (one_brings xs i v b (omega arith) at e)
 
--- none so far, and one more that does not
+-- No chain so far has the order, and one more does not.
 pub none_brings : (xs : List (Bor Chain)) (i v : ℕ) (b : Bor Chain) → i < length xs → b ≡ get_or xs i b → on (orders (lent (take i xs))) v ≡ false → b.now.order ≢ v → on (orders (lent (take (i + 1) xs))) v ≡ false
 none_brings xs i v b l at none other =
     ap (λ (ys : List (Bor Chain)). on (orders (lent ys)) v) (take_more xs i b l)

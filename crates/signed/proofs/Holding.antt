@@ -1,4 +1,4 @@
--- How many chains come to a general in a round, and how many he holds.
+-- How many chains a general receives in a round, and how many he holds.
 use Rattle.std.proofs.Common.{◌≡◌, ℕ, zero, suc, ◌+◌, ◌*◌, ◌<◌, ◌≤◌, Bool, true, false, not, cond, ◌&&◌, List, [], ◌∷◌, ◌++◌, map, length, refl, ap, ◌∙◌, arith, inl, inr, length-append, Option, None, Some}
 use Rattle.std.specs.Prelude.{filter, flat_map, sum_by, ◌==◌}
 use Rattle.std.specs.Int.{bit_at}
@@ -31,7 +31,7 @@ received_append : (p : ℕ) (xs ys : List Dispatch) → received p (xs ++ ys) �
 received_append p [] ys = refl
 received_append p (x ∷ xs) ys = append_more p x xs ys (received_append p xs ys) (on x.receivers p)
 
--- whoever receives a chain does not stand on it
+-- A receiver of a chain has not signed it.
 off_one : (n p bits : ℕ) (k ch : Chain) (b : Bool) → on (receivers_in n bits k) p ≡ b → Among ch (map (λ (z : Dispatch). z.chain) (cond b (record { chain = k; receivers = receivers_in n bits k } ∷ []) [])) → on ch.signers p ≡ false
 off_one n p bits k ch false e h = absurd h
 off_one n p bits k ch true e h = elim h [
@@ -87,7 +87,7 @@ empty_since : (xs : List Chain) → ((ch : Chain) → Among ch xs → ⊥) → x
 empty_since [] h = refl
 empty_since (x ∷ xs) h = absurd (h x (inl refl))
 
--- nobody sends himself anything
+-- Nobody sends himself a chain.
 received_own : (s : Scenario) (sent : Sent) → IsMade s sent → (r p : ℕ) → delivered sent r p p ≡ []
 received_own s sent made r p = empty_since (delivered sent r p p) (λ ch h.
     let there = (made_signed s (delivered sent) r p (sent_by sent r p) ch (made r p) (received_out p (sent_by sent r p) ch h)).1 in
@@ -107,7 +107,7 @@ sum_few : (h : ℕ → ℕ) (xs : List ℕ) → ((x : ℕ) → h x ≤ 8) → su
 sum_few h [] few = omega arith
 sum_few h (x ∷ xs) few = omega (arith, sum_by-cons h x xs, few x, sum_few h xs few)
 
--- at most eight from each of the others
+-- A general receives at most eight chains from each of the others.
 came_few : (s : Scenario) (sent : Sent) → IsMade s sent → (r p : ℕ) → p < s.generals → length (came s.generals (delivered sent) r p) + 8 ≤ 8 * s.generals
 came_few s sent made r p pn =
     let n = s.generals in

@@ -1,4 +1,4 @@
--- What the lieutenants decide of what was sent, one by one.
+-- The lieutenants' decisions from the chains sent, one by one.
 use Rattle.std.proofs.Common.{◌≡◌, ◌≢◌, ℕ, zero, suc, ◌+◌, ◌-◌, ◌<◌, ◌≤◌, not, List, [], ◌∷◌, ◌++◌, length, map, take, refl, sym, ap, subst, ◌∙◌, arith, inl, inr, append-nil, append_assoc, length-append}
 use Rattle.std.specs.Prelude.{flat_map, filter}
 use Rattle.std.proofs.lemmas.Bool.{cases_lt}
@@ -20,7 +20,7 @@ use Rattle.signed.specs.Sent.{Sent, delivered, sent_in}
 use Rattle.signed.proofs.Behind.{rows_in}
 use Rattle.signed.proofs.Making.{sent_past}
 
--- eight orders decide as all do
+-- The first eight orders lead to the same decision as all.
 first_decide : (xs : List ℕ) → decided (take 8 xs) ≡ decided xs
 first_decide [] = refl
 first_decide (v ∷ []) = refl
@@ -30,7 +30,7 @@ flat_none : (f : ℕ → List Chain) (gs : List ℕ) → ((g : ℕ) → f g ≡ 
 flat_none f [] none = refl
 flat_none f (g ∷ gs) none = (λ i. none g i ++ flat_none f gs none i)
 
--- past what was sent nothing is added
+-- Rounds without sent chains add no order.
 came_past : (n : ℕ) (sent : Sent) (r p : ℕ) → length sent < r → came n (delivered sent) r p ≡ []
 came_past n sent r p past = flat_none (λ g. delivered sent r g p) (generals n) (λ g. ap (received p) (sent_past sent r g past))
 
@@ -47,7 +47,7 @@ accepted_to n sent p (suc r) le = elim (cases_lt r (length sent)) [
   | inr past ↦ accepted_past n sent p r (omega arith) ∙ accepted_to n sent p r past
 ]
 
--- what one lieutenant decides
+-- The decision of one lieutenant.
 pub one_decides : (s : Scenario) (closed : List (List Letter)) (sent : Sent) (rounds p d : ℕ) (found : List ℕ) → sent ≡ sent_in s closed → rounds ≡ length sent → length sent ≤ suc s.bound →
     ((n : ℕ) → AreRows n sent → AreFirst found (accepted n (delivered sent) rounds p)) → d ≡ decided found → d ≡ decided (accepted_in s closed p)
 one_decides s closed sent rounds p d found same counted few are is =
@@ -57,7 +57,7 @@ one_decides s closed sent rounds p d found same counted few are is =
     ∙ ap decided (ap (λ (r : ℕ). accepted s.generals (delivered sent) r p) counted
     ∙ (sym (accepted_to s.generals sent p (suc s.bound) few) ∙ ap (λ (x : Sent). accepted s.generals (delivered x) (suc s.bound) p) same))))
 
--- these have been decided before this general
+-- States that these are the decisions of the lieutenants below `g`.
 pub record HaveDecided (s : Scenario) (closed : List (List Letter)) (g : ℕ) (ds : List ℕ) : Type 0 where
   pub same : ds ++ map (λ p. decided (accepted_in s closed p)) (from s.generals s.commander g) ≡ map (λ p. decided (accepted_in s closed p)) (lieutenants s.generals s.commander)
 
@@ -78,7 +78,7 @@ module _ (s : Scenario) (closed : List (List Letter)) where
         same = (λ i. more i ++ rest) ∙ (append_assoc ds (d ∷ []) rest ∙ ((λ i. ds ++ is i ∷ rest) ∙ (ap (λ (gs : List ℕ). ds ++ map f gs) (sym (from_lieutenant s.generals s.commander g lt ne)) ∙ h.same)));
       }
 
-  -- there is room for one more
+  -- There is room for one more decision.
   pub few_decided : (g : ℕ) (ds : List ℕ) → HaveDecided s closed g ds → s.generals ≤ 13 → s.commander < s.generals → g < s.generals → g ≢ s.commander → length ds < 12
   few_decided g ds h size inside lt ne =
       let n = s.generals in

@@ -1,4 +1,4 @@
--- Chains with their receivers, and what of them comes to a general.
+-- Chains with their receivers, and which of them a general receives.
 use Rattle.std.proofs.Common.{◌≡◌, ℕ, ◌+◌, ◌<◌, Bool, true, false, cond, List, [], ◌∷◌, ◌++◌, map, length, get_or, take, refl, sym, ap, ◌∙◌, arith, inl, inr, append-nil}
 use Rattle.std.specs.Prelude.{filter, flat_map, ◌==◌}
 use Rattle.std.specs.Int.{bit_at}
@@ -18,11 +18,11 @@ on_named n bits g below = elim (cases_Bool (bit_at bits g == 1)) [
   | inr clear ↦ false_from_ne_true (on (filter (λ j. bit_at bits j == 1) (generals n)) g) (λ h. let set = (on-filter (λ j. bit_at bits j == 1) (generals n) g h).1 in cc) ∙ sym clear
 ]
 
--- a general is named just where his bit is set
+-- A general is a receiver exactly if his bit is set.
 pub named_is : (bits g : ℕ) → g < 13 → on (named bits) g ≡ (bit_at bits g == 1)
 named_is bits g below = on_named 16 bits g (omega arith)
 
--- of one chain with its receivers, what comes to p
+-- Returns the chain if `p` is among its receivers, otherwise nothing.
 abbrev pub came_of : ℕ → Chain × ℕ → List Chain
 came_of p x = cond (bit_at x.1 p == 1) (x.0 ∷ []) []
 
@@ -37,23 +37,23 @@ pub received_is : (p : ℕ) (xs : List (Chain × ℕ)) → p < 13 → received p
 received_is p [] below = refl
 received_is p (x ∷ xs) below = came_first p x xs (received_is p xs below) (on (named x.1) p) (bit_at x.1 p == 1) (named_is x.1 p below)
 
--- one more piece
+-- One more piece of a joined list.
 pub flat_more : {X A : Type 0} (f : X → List A) (xs : List X) (i : ℕ) (d : X) → i < length xs → flat_map f (take (i + 1) xs) ≡ flat_map f (take i xs) ++ f (get_or xs i d)
 flat_more f xs i d inside =
     ap (flat_map f) (take_more xs i d inside) ∙ (flat_map-append f (take i xs) (get_or xs i d ∷ []) ∙ ap (λ ys. flat_map f (take i xs) ++ ys) (append-nil (f (get_or xs i d))))
 
--- one more of the chains that a general sent
+-- One more of the chains that a general sent is considered.
 pub received_more : (p : ℕ) (xs : List (Chain × ℕ)) (i : ℕ) (d : Chain × ℕ) → p < 13 → i < length xs →
     received p (map dispatch_of (take (i + 1) xs)) ≡ received p (map dispatch_of (take i xs)) ++ came_of p (get_or xs i d)
 received_more p xs i d below inside =
     received_is p (take (i + 1) xs) below ∙ (flat_more (came_of p) xs i d inside ∙ ap (λ ys. ys ++ came_of p (get_or xs i d)) (sym (received_is p (take i xs) below)))
 
--- one more of the generals who sent in a round, and one more round
+-- One more of the generals who sent in a round is considered, and one more round.
 pub received_in_more : (p : ℕ) (row : List (List Dispatch)) (i : ℕ) (d : List Dispatch) → i < length row →
     received_in p (take (i + 1) row) ≡ received_in p (take i row) ++ received p (get_or row i d)
 received_in_more p row i d inside = flat_more (received p) row i d inside
 
--- a chain more that comes to p, and one that does not
+-- One more chain is received by `p`, or is not.
 pub one_came : (p : ℕ) (start now : List Chain) (xs : List (Chain × ℕ)) (i : ℕ) (x : Chain × ℕ) → p < 13 → i < length xs → x ≡ get_or xs i x →
     now ≡ start ++ received p (map dispatch_of (take i xs)) → now ++ came_of p x ≡ start ++ received p (map dispatch_of (take (i + 1) xs))
 one_came p start now xs i x below inside is h =

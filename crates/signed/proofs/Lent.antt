@@ -1,4 +1,4 @@
--- The signers and the held chains that a world lends.
+-- The signers and the held chains to which a world returns references.
 use Rattle.std.proofs.Common.{◌≡◌, ℕ, List, ap, ◌∙◌}
 use Rattle.std.specs.Prelude.{flat_map}
 use Rattle.round.specs.Scenario.{Scenario}
@@ -9,7 +9,7 @@ use Rattle.signed.specs.Sent.{Sent, sent_in}
 use Rattle.signed.proofs.Behind.{rows_in}
 use Rattle.signed.proofs.Receipts.{chains_held}
 
--- what a general holds by the chains that were sent, he holds by the letters that sent them
+-- The chains that a general holds by the chains stored are those that he holds by the letters.
 pub held_here : (s : Scenario) (closed : List (List Letter)) (sent : Sent) (g : ℕ) (held : HeldChains) → sent ≡ sent_in s closed → held ≡ held_of g sent → held.chains ≡ held_in s closed g
 held_here s closed sent g held chains is =
     ap (λ (h : HeldChains). h.chains) is

@@ -1,4 +1,4 @@
--- Lists of chains, and of generals.
+-- Lists of chains, and lists of generals.
 use Rattle.std.proofs.Common.{◌≡◌, ℕ, Bool, true, false, cond, ◌||◌, List, [], ◌∷◌, ◌++◌, map, refl, ap, inl, inr}
 use Rattle.std.specs.Prelude.{filter, flat_map, ◌==◌, ◌⊎◌}
 use Rattle.std.proofs.lemmas.Bool.{cases_Bool, or_left, or_right, or_cases, or_parts, or_from, eq-eqb, eqb-true}
@@ -76,7 +76,7 @@ firsts_out_more : (seen : List ℕ) (x : Chain) (xs : List Chain) (ch : Chain) �
 firsts_out_more seen x xs ch ih ih2 true e h = (inr (ih h).0, (ih h).1)
 firsts_out_more seen x xs ch ih ih2 false e h = elim h [ inl q ↦ (inl q, rw q at e) | inr m ↦ (inr (ih2 m).0, (or_parts (x.order == ch.order) (on seen ch.order) (ih2 m).1).1) ]
 
--- a first chain is one of them, and its order was not seen
+-- A first chain is one of the chains, and its order was not known.
 pub firsts_out : (seen : List ℕ) (xs : List Chain) (ch : Chain) → Among ch (firsts seen xs) → Among ch xs × (on seen ch.order ≡ false)
 firsts_out seen [] ch h = absurd h
 firsts_out seen (x ∷ xs) ch h = firsts_out_more seen x xs ch (firsts_out seen xs ch) (firsts_out (x.order ∷ seen) xs ch) (on seen x.order) refl h
@@ -92,12 +92,12 @@ firsts_in_more seen x xs v s ih ih2 false e h = elim (cases_Bool (x.order == v))
   | inr apart ↦ or_right (x.order == v) (on (orders (firsts (x.order ∷ seen) xs)) v) (ih2 (elim (or_cases (x.order == v) (on (orders xs) v) h) [ inl here ↦ absurd cc | inr there ↦ there ]) (or_from (x.order == v) (on seen v) apart s))
 ]
 
--- an order that was not seen has a first chain
+-- An order that was not known has a first chain.
 pub firsts_in : (seen : List ℕ) (xs : List Chain) (v : ℕ) → on (orders xs) v ≡ true → on seen v ≡ false → on (orders (firsts seen xs)) v ≡ true
 firsts_in seen [] v h s = h
 firsts_in seen (x ∷ xs) v h s = firsts_in_more seen x xs v s (λ k. firsts_in seen xs v k s) (λ k s2. firsts_in (x.order ∷ seen) xs v k s2) (on seen x.order) refl h
 
--- where a general stands on a list
+-- A list is split at a general who is in it.
 pub stands : (xs : List ℕ) (h : ℕ) → on xs h ≡ true → (u : List ℕ) × ((w : List ℕ) × (xs ≡ u ++ h ∷ w))
 stands [] h o = cc
 stands (x ∷ xs) h o = elim (or_cases (x == h) (on xs h) o) [
@@ -109,7 +109,7 @@ pub no_cons : (u : List ℕ) (h : ℕ) (w : List ℕ) → u ++ h ∷ w ≡ [] �
 no_cons [] h w e = cc
 no_cons (x ∷ u) h w e = cc
 
--- a beginning of a list with one more at its end is the whole, or a beginning of the list
+-- A beginning of a list with one more element is the whole list, or a beginning of the list without it.
 pub snoc_split : (u : List ℕ) (h : ℕ) (w xs : List ℕ) (g : ℕ) → u ++ h ∷ w ≡ xs ++ g ∷ [] → ((u ≡ xs) × (h ≡ g)) ⊎ ((v : List ℕ) × (xs ≡ u ++ h ∷ v))
 snoc_split [] h w [] g e = inl (refl, cc)
 snoc_split [] h w (x ∷ xs) g e = inr (xs, let q : h ≡ x = cc in rw q refl)

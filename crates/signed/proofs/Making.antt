@@ -1,4 +1,4 @@
--- How what was sent in closed rounds came about.
+-- How the chains sent in closed rounds were made.
 use Rattle.std.proofs.Common.{◌≡◌, ◌≢◌, ℕ, zero, suc, ◌<◌, ◌≤◌, false, List, [], ◌∷◌, ◌++◌, map, length, get_or, refl, sym, ap, ◌∙◌, arith, inl, inr, length-append}
 use Rattle.std.specs.Prelude.{◌⊎◌}
 use Rattle.std.proofs.lemmas.Bool.{cases_eq, cases_lt}
@@ -10,11 +10,11 @@ use Rattle.signed.specs.Sent.{Sent, sent_by, delivered}
 use Rattle.signed.proofs.Earlier.{AgreeBefore, held_same, loyal_same}
 use Rattle.signed.proofs.Places.{get_or_past}
 
--- what entries send in a round, by what came to their general before
+-- Returns what a general's entries send in a round, given what he received before.
 abbrev pub of_entries : Scenario → Deliveries → ℕ → ℕ → List Entry → List Dispatch
 of_entries s S r g entries = dispatched s.generals s.commander g (held s.generals S r g) entries
 
--- what a loyal general sends in a round, by what came to him before
+-- Returns what a loyal general sends in a round, given what he received before.
 abbrev pub of_loyal : Scenario → Deliveries → ℕ → ℕ → List Dispatch
 of_loyal s S r g = map (to_all_others s.generals) (loyal_chains s.generals s.commander s.bound s.order S r g)
 
@@ -28,7 +28,7 @@ pub record IsOfLoyal (s : Scenario) (S : Deliveries) (r g : ℕ) (xs : List Disp
   pub general : g < s.generals
   pub sends : xs ≡ of_loyal s S r g
 
--- a general sent nothing, or what his entries send, or what a loyal general sends
+-- States that a general sent nothing, or what his entries send, or what a loyal general sends.
 abbrev pub IsMadeOf : Scenario → Deliveries → ℕ → ℕ → List Dispatch → Type 0
 IsMadeOf s S r g xs = (xs ≡ []) ⊎ (IsOfTraitor s S r g xs ⊎ IsOfLoyal s S r g xs)
 
@@ -38,11 +38,11 @@ Row = List (List Dispatch)
 abbrev pub IsMade : Scenario → Sent → Type 0
 IsMade s sent = (r g : ℕ) → IsMadeOf s (delivered sent) r g (sent_by sent r g)
 
--- in each closed round every loyal general sent what a loyal general sends
+-- States that in each closed round every loyal general sent what SM(m) requires.
 abbrev pub IsFull : Scenario → Sent → Type 0
 IsFull s sent = (r g : ℕ) → r < length sent → g < s.generals → is_traitor s g ≡ false → sent_by sent (suc r) g ≡ of_loyal s (delivered sent) (suc r) g
 
--- the rounds before stay as they were
+-- The rounds before do not change.
 pub sent_front : (sent : Sent) (row : Row) (r g : ℕ) → r ≤ length sent → sent_by (sent ++ row ∷ []) r g ≡ sent_by sent r g
 sent_front sent row zero g l = refl
 sent_front sent row (suc r) g l = ap (λ (xs : Row). get_or xs g []) (get_or-left sent (row ∷ []) r [] (omega arith))
@@ -57,7 +57,7 @@ sent_past sent (suc r) g l = ap (λ (xs : Row). get_or xs g []) (get_or_past sen
 pub delivered_front : (sent : Sent) (row : Row) → AgreeBefore (suc (length sent)) (delivered (sent ++ row ∷ [])) (delivered sent)
 delivered_front sent row r g p l = ap (received p) (sent_front sent row r g (omega arith))
 
--- deliveries before the round decide who can have sent what
+-- What can be sent in a round depends only on what was received before it.
 pub made_same : (s : Scenario) (S T : Deliveries) (k r g : ℕ) (xs : List Dispatch) → AgreeBefore k S T → r ≤ k → IsMadeOf s T r g xs → IsMadeOf s S r g xs
 made_same s S T k r g xs same l made = elim made [
   | inl none ↦ inl none
@@ -70,7 +70,7 @@ made_same s S T k r g xs same l made = elim made [
     loyal_sends_same : (s : Scenario) (S T : Deliveries) (k r g : ℕ) → AgreeBefore k S T → r ≤ k → of_loyal s S r g ≡ of_loyal s T r g
     loyal_sends_same s S T k r g same l = ap (map (to_all_others s.generals)) (loyal_same s.generals s.commander s.bound s.order k S T r g same l)
 
--- one row more, each of whose letters is made of what was delivered before
+-- One more round, whose letters are made from what was received before.
 pub made_more : (s : Scenario) (sent : Sent) (row : Row) → IsMade s sent
     → ((g : ℕ) → IsMadeOf s (delivered sent) (suc (length sent)) g (get_or row g [])) → IsMade s (sent ++ row ∷ [])
 made_more s sent row made now r g =
@@ -84,7 +84,7 @@ made_more s sent row made now r g =
       ]
     ]
 
--- and each loyal one is what a loyal general sends
+-- Its loyal letters send what SM(m) requires.
 pub full_more : (s : Scenario) (sent : Sent) (row : Row) → IsFull s sent
     → ((g : ℕ) → g < s.generals → is_traitor s g ≡ false → get_or row g [] ≡ of_loyal s (delivered sent) (suc (length sent)) g) → IsFull s (sent ++ row ∷ [])
 full_more s sent row full now r g l gn loyal =

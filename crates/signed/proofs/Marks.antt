@@ -1,4 +1,4 @@
--- The bits of those who stand on a chain once it is prolonged.
+-- The set of a chain's signers after it is extended.
 use Rattle.std.proofs.Common.{◌≡◌, ℕ, Bool, true, false, cond, ◌||◌, List, [], ◌∷◌, ◌++◌, refl, sym, ap, ◌∙◌}
 use Rattle.std.specs.Prelude.{◌==◌}
 use Rattle.std.specs.Int.{bit_at}

@@ -1,4 +1,4 @@
--- Sets of generals as bits, and lists of generals by their bits.
+-- Sets of generals as bits, and lists of generals.
 use Rattle.std.proofs.Common.{◌≡◌, ℕ, zero, suc, ◌+◌, ◌-◌, ◌*◌, ◌%◌, ◌^◌, ◌<◌, ◌≤◌, min, Bool, true, false, not, cond, List, [], ◌∷◌, ◌++◌, length, take, refl, sym, ap, ◌∙◌, arith, inl, inr, bit_and, bit_or, w16, get_or, append-nil}
 use Rattle.std.specs.Prelude.{filter, sum_by, ◌==◌, ◌&&◌, ◌||◌, nat_lt}
 use Rattle.std.specs.Int.{bit_at, bit_not}
@@ -31,7 +31,7 @@ none_left a x e = by (a == 1)
     by true = refl
     by false = e
 
--- one bit less another
+-- One bit without another.
 one_less : (x o : ℕ) → x < 2 → o < 2 → min x (1 - o) ≡ cond (o == 1) 0 x
 one_less x o lx lo = elim (eqb_tells o 1) [
   | inl same ↦ rw same.0 (let e = same.1 in omega arith)
@@ -54,7 +54,7 @@ first_ones n g = elim (cases_Bool (nat_lt g n)) [
   | inr past ↦ rw past (bit_at_ones_above n g (ltb-false g n past))
 ]
 
--- the bits of a list of different generals, one more of them
+-- One more of different generals is added to the bits.
 pub on_more : (xs : List ℕ) (i x g : ℕ) (bits : ℕ) → i < length xs → x ≡ get_or xs i 0 → bit_at bits g ≡ cond (on (take i xs) g) 1 0 → cond (x == g) 1 (bit_at bits g) ≡ cond (on (take (i + 1) xs) g) 1 0
 on_more xs i x g bits lt is h =
     ap (λ (k : ℕ). cond (x == g) 1 k) h ∙ (by (on (take i xs) g) (x == g) ∙ sym (ap (λ (b : Bool). cond {A = ℕ} b 1 0) (list_any_more (λ y. y == g) xs i 0 lt ∙ ap (λ (y : ℕ). on (take i xs) g || (y == g)) (sym is))))
@@ -65,11 +65,11 @@ on_more xs i x g bits lt is h =
     by false true = refl
     by false false = refl
 
--- numbers with the same bits are one
+-- Numbers with the same bits are the same.
 pub sum_is : (xs : List ℕ) (bits : ℕ) → is_distinct xs ≡ true → ((g : ℕ) → bit_at bits g ≡ cond (on xs g) 1 0) → bits ≡ sum_by (λ g. 2 ^ g) xs
 sum_is xs bits d h = same_from_bits bits (sum_by (λ g. 2 ^ g) xs) (λ i. h i ∙ sym (bits_are xs i d))
 
--- two tests that agree below a number, past which the first keeps nothing
+-- Two tests agree below a number, and from there on the first fails.
 pub narrow : (t u : ℕ → Bool) (n k : ℕ) → ((g : ℕ) → g < n → t g ≡ u g) → ((g : ℕ) → n ≤ g → t g ≡ false) → filter t (generals (n + k)) ≡ filter u (generals n)
 narrow t u n zero same none =
     let e : n + 0 ≡ n = omega arith in
@@ -102,7 +102,7 @@ kept_bit x false l =
     and_yes true = refl
     and_yes false = refl
 
--- the generals whose bits are left of some bits below n, less those of a chain
+-- The generals of a set below `n` who have not signed a chain.
 pub left_are : (n bits mask other result : ℕ) (ch : Chain) → n ≤ 13 → ((g : ℕ) → bit_at mask g ≡ cond (nat_lt g n) 1 0) → ((g : ℕ) → bit_at other g ≡ cond (on ch.signers g) 1 0)
     → ((g : ℕ) → bit_at result g ≡ cond (bit_at other g == 1) 0 (bit_at (bit_and bits mask) g)) → named result ≡ receivers_in n bits ch
 left_are n bits mask other result ch le masks others lefts =
@@ -130,7 +130,7 @@ on_all_others n names g = elim (cases_Bool (nat_lt g n)) [
     by true = refl
     by false = refl
 
--- all below n less these
+-- All generals below `n` who are not in the list.
 pub but_are : (n mask other result : ℕ) (names : List ℕ) → ((g : ℕ) → bit_at mask g ≡ cond (nat_lt g n) 1 0) → ((g : ℕ) → bit_at other g ≡ cond (on names g) 1 0)
     → ((g : ℕ) → bit_at result g ≡ cond (bit_at other g == 1) 0 (bit_at mask g)) → result ≡ bits_but n names
 but_are n mask other result names masks marks lefts =

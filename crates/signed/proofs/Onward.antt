@@ -1,4 +1,4 @@
--- How a loyal general passes on, one after another, the chains that bring him orders.
+-- A loyal general passes on, one after another, the chains that bring him orders.
 use Rattle.std.proofs.Common.{◌≡◌, ℕ, zero, suc, ◌+◌, ◌<◌, ◌≤◌, Bool, true, false, not, cond, ◌&&◌, List, [], ◌∷◌, ◌++◌, drop, length, refl, sym, ap, subst, ◌∙◌, arith, length-append, Option, Some, None}
 use Rattle.std.specs.Prelude.{slice_get}
 use Rattle.std.specs.Borrow.{Bor}
@@ -16,11 +16,11 @@ use Rattle.signed.specs.Sending.{added_also, added_by, chain_in, entered_all, Ar
 use Rattle.signed.proofs.Adding.{at_the_end}
 use Rattle.signed.proofs.Passes.{added_longer, passes_same}
 
--- of no more than eight orders the first eight are all
+-- The first eight of at most eight orders are all of them.
 pub first_all : (kept seen : List ℕ) → length seen ≤ 8 → AreFirst kept seen → kept ≡ seen
 first_all kept seen few first = first ∙ take_all 8 seen few
 
--- what is to be added and entered of the chains from a place on is what was to be at first
+-- States that the orders and entries so far, with those for the chains from an index on, are those of all chains.
 pub record IsPassing (n k g earlier : ℕ) (chains : List Chain) (relay : Relay) (seen : List ℕ) (before : List Entry) (place : ℕ) (known : List ℕ) (entries : List Entry) : Type 0 where
   pub added : added_by k g known (drop place chains) ≡ added_by k g seen (drop earlier chains)
   pub entered : entered_all relay entries (passes n k g place known (drop place chains)) ≡ entered_all relay before (passes n k g earlier seen (drop earlier chains))
@@ -40,7 +40,7 @@ drop_at (x ∷ chains) zero ch e = (let same : x ≡ ch = (let f : Some x ≡ So
 drop_at (x ∷ chains) (suc place) ch e = drop_at chains place ch e
 
 module _ (n k g earlier : ℕ) (chains : List Chain) (relay : Relay) (seen : List ℕ) (before : List Entry) (place next : ℕ) (known : List ℕ) (entries : List Entry) (ch : Chain) where
-  -- a chain that brings nothing new
+  -- A chain that brings no new order is skipped.
   pub passing_over : next ≡ suc place → slice_get chains place ≡ Some ch → (counts k g ch && not (on known ch.order)) ≡ false →
       IsPassing n k g earlier chains relay seen before place known entries → IsPassing n k g earlier chains relay seen before next known entries
   passing_over step at idle p =
@@ -59,7 +59,7 @@ module _ (n k g earlier : ℕ) (chains : List Chain) (relay : Relay) (seen : Lis
       none true true e = refl
       none true false e = absurd cc
 
-  -- a chain that is passed on
+  -- A chain is passed on.
   pub passing_on : (orders : List ℕ) → next ≡ suc place → slice_get chains place ≡ Some ch → (counts k g ch && not (on known ch.order)) ≡ true →
       ((xs : List ℕ) → AreFirst known xs → AreFirst orders (added_also xs ch.order)) → length (added_by k g seen (drop earlier chains)) ≤ 8 →
       IsPassing n k g earlier chains relay seen before place known entries →
@@ -98,7 +98,7 @@ module _ (n k g earlier : ℕ) (chains : List Chain) (relay : Relay) (seen : Lis
           nothing false e = cc
       apart a false e = refl
 
--- at the end all are entered
+-- In the end all entries are made.
 pub passing_last : (n k g earlier : ℕ) (chains : List Chain) (relay : Relay) (seen : List ℕ) (before : List Entry) (place : ℕ) (known : List ℕ) (entries : List Entry) → length chains ≤ place →
     IsPassing n k g earlier chains relay seen before place known entries → entries ≡ entered_all relay before (passes n k g earlier seen (drop earlier chains))
 passing_last n k g earlier chains relay seen before place known entries end p =
@@ -118,24 +118,24 @@ not_second a b d h k = ap (λ (x : Bool). a && not x) (sym h ∙ k) ∙ by a
     by true = refl
     by false = refl
 
--- a chain that was read
+-- The chain that was read at an index.
 pub chain_at : (o : Option (Bor Chain)) (b : Bor Chain) (x : Option Chain) → chain_in o ≡ x → o ≡ Some b → x ≡ Some b.now
 chain_at o b x read is = sym read ∙ ap chain_in is
 
 module _ (n k g earlier : ℕ) (chains : List Chain) (relay : Relay) (seen : List ℕ) (before : List Entry) (place : ℕ) (known : List ℕ) (entries : List Entry) (ch : Chain) where
-  -- it does not count
+  -- The chain does not count.
   pub uncounted : (counted : Bool) → slice_get chains place ≡ Some ch → counted ≡ counts k g ch → counted ≡ false →
       IsPassing n k g earlier chains relay seen before place known entries → IsPassing n k g earlier chains relay seen before (place + 1) known entries
   uncounted counted at e f p =
       passing_over n k g earlier chains relay seen before place (place + 1) known entries ch (omega arith) at (not_first (counts k g ch) (on known ch.order) counted e f) p
 
-  -- its order is known
+  -- The chain's order is already known.
   pub known_already : (among : Bool) (kept : List ℕ) (order : ℕ) → slice_get chains place ≡ Some ch → among ≡ on kept order → kept ≡ known → order ≡ ch.order → among ≡ true →
       IsPassing n k g earlier chains relay seen before place known entries → IsPassing n k g earlier chains relay seen before (place + 1) known entries
   known_already among kept order at e same is f p =
       passing_over n k g earlier chains relay seen before place (place + 1) known entries ch (omega arith) at (not_second (counts k g ch) (on known ch.order) among (e ∙ (λ i. on (same i) (is i))) f) p
 
-  -- it is passed on
+  -- The chain is passed on.
   pub passed_on_also : (counted among : Bool) (kept orders : List ℕ) (order order2 bits : ℕ) (there : Relay) (more : List Entry) → slice_get chains place ≡ Some ch → counted ≡ counts k g ch → counted ≡ true →
       among ≡ on kept order → kept ≡ known → order ≡ ch.order → among ≡ false → there ≡ relay → bits ≡ bits_but n (ch.signers ++ g ∷ []) → more ≡ entered there entries (Pass place bits) → order2 ≡ ch.order →
       ((xs : List ℕ) → AreFirst known xs → AreFirst orders (added_also xs order2)) → length (added_by k g seen (drop earlier chains)) ≤ 8 →
@@ -146,7 +146,7 @@ module _ (n k g earlier : ℕ) (chains : List Chain) (relay : Relay) (seen : Lis
       (passing_on n k g earlier chains relay seen before place (place + 1) known entries ch orders (omega arith) at (both_hold (counts k g ch) (on known ch.order) counted among e f (h ∙ (λ i. on (same i) (is i))) l)
       (λ xs first. subst (λ (o : ℕ). AreFirst orders (added_also xs o)) is2 (firsts xs first)) few p)
 
--- there is a chain at each place
+-- There is a chain at each index within the list.
 pub some_there : (o : Option (Bor Chain)) (chains : List Chain) (place : ℕ) → chain_in o ≡ slice_get chains place → o ≡ None → place < length chains → ⊥
 some_there o chains place read is inside =
     let there = some_at chains place inside in

@@ -13,7 +13,7 @@ use Rattle.signed.specs.Loyal.{bits_but, passes}
 use Rattle.signed.specs.Sending.{added_by, entered_all}
 use Rattle.signed.proofs.Adding.{added_by_is}
 
--- the same numbers are on both lists
+-- States that the same numbers are in both lists.
 abbrev pub SameOn : List ℕ → List ℕ → Type 0
 SameOn xs ys = (v : ℕ) → on xs v ≡ on ys v
 
@@ -32,7 +32,7 @@ added_longer k p seen chains =
     let e = ap length (added_by_is k p seen chains) in
     omega (arith, length-append seen (orders (firsts seen (filter (counts k p) chains))))
 
--- one entry for each order
+-- There is one entry for each order.
 passes_count_more : (n k g place : ℕ) (seen : List ℕ) (ch : Chain) (chains : List Chain) →
     ((at : ℕ) (more : List ℕ) → length (passes n k g at more chains) ≡ length (firsts more (filter (counts k g) chains))) → (a b : Bool) → on seen ch.order ≡ b →
     length (cond (a && not b) (Pass place (bits_but n (ch.signers ++ g ∷ [])) ∷ passes n k g (suc place) (ch.order ∷ seen) chains) (passes n k g (suc place) seen chains))
@@ -48,12 +48,12 @@ passes_count n k g place seen [] = refl
 passes_count n k g place seen (ch ∷ chains) =
     passes_count_more n k g place seen ch chains (λ at more. passes_count n k g at more chains) (counts k g ch) (on seen ch.order) refl
 
--- an entry that may be sent is taken where there is room
+-- An allowed entry is added if there is room.
 pub taken : (relay : Relay) (entries : List Entry) (e : Entry) → is_sendable relay e ≡ true → length entries < 8 → entered relay entries e ≡ entries ++ e ∷ []
 taken relay entries e may room =
     (λ i. if (may i && lt-ltb (length entries) 8 room i) then entries ++ e ∷ [] else entries)
 
--- from this place on each chain that counts may be passed on
+-- States that each chain from an index on that counts may be passed on.
 abbrev pub MayPass : Relay → ℕ → ℕ → ℕ → List Chain → Type 0
 MayPass relay k g place chains = (i : ℕ) (ch : Chain) (bits : ℕ) → slice_get chains i ≡ Some ch → counts k g ch ≡ true → is_sendable relay (Pass (place + i) bits) ≡ true
 
@@ -62,7 +62,7 @@ may_later relay k g place ch chains may i x bits at c =
     let e : place + suc i ≡ suc place + i = omega arith in
     subst (λ (j : ℕ). is_sendable relay (Pass j bits) ≡ true) e (may (suc i) x bits at c)
 
--- so all are entered where there is room for them
+-- So all entries are made if there is room for them.
 entered_more : (relay : Relay) (n k g place : ℕ) (seen : List ℕ) (ch : Chain) (chains : List Chain) (entries : List Entry) →
     ((more : List ℕ) (es : List Entry) → length es + length (passes n k g (suc place) more chains) ≤ 8 → entered_all relay es (passes n k g (suc place) more chains) ≡ es ++ passes n k g (suc place) more chains) →
     (a b : Bool) → (a ≡ true → (bits : ℕ) → is_sendable relay (Pass place bits) ≡ true) →

@@ -1,4 +1,4 @@
--- What a loyal general enters sends the chains that he has to sign.
+-- A loyal general's entries send the chains that SM(m) has him sign.
 use Rattle.std.proofs.Common.{◌≡◌, ℕ, zero, suc, ◌+◌, ◌<◌, Bool, true, false, not, cond, List, [], ◌∷◌, ◌++◌, map, length, refl, sym, ap, ◌∙◌, arith, Option, None, Some}
 use Rattle.std.specs.Prelude.{filter, slice_get, nat_le, ◌==◌, ◌&&◌}
 use Rattle.std.specs.Int.{bit_at}
@@ -13,7 +13,7 @@ use Rattle.signed.specs.Loyal.{bits_but, passes, loyal_entries, LoyalEntriesAreS
 use Rattle.signed.proofs.Dispatching.{on_others}
 use Rattle.signed.proofs.Signing.{bits_are}
 
--- two tests that agree at each number of a list keep the same
+-- Two tests that agree on a list keep the same elements.
 kept_more : (p q : ℕ → Bool) (x : ℕ) (xs : List ℕ) → filter p xs ≡ filter q xs → (a b : Bool) → a ≡ b → cond a (x ∷ filter p xs) (filter p xs) ≡ cond b (x ∷ filter q xs) (filter q xs)
 kept_more p q x xs ih true true e = ap (λ ys. x ∷ ys) ih
 kept_more p q x xs ih false false e = ih
@@ -29,7 +29,7 @@ both_is : (b : Bool) → ((cond {A = ℕ} b 1 0 == 1) && b) ≡ b
 both_is true = refl
 both_is false = refl
 
--- the bits of all others name just them
+-- The set of all others contains exactly the generals who have not signed.
 named_at : (n : ℕ) (ch : Chain) (j : ℕ) → j < n → ((bit_at (bits_but n ch.signers) j == 1) && not (on ch.signers j)) ≡ not (on ch.signers j)
 named_at n ch j lt =
     ap (λ (m : ℕ). (m == 1) && not (on ch.signers j)) (bits_are (others n ch.signers) j (others-distinct n ch.signers) ∙ ap (λ (b : Bool). cond {A = ℕ} b 1 0) (on_others n ch.signers j lt))
@@ -39,7 +39,7 @@ pub named_are : (n : ℕ) (ch : Chain) → receivers_in n (bits_but n ch.signers
 named_are n ch = kept_alike (λ j. (bit_at (bits_but n ch.signers) j == 1) && not (on ch.signers j)) (λ j. not (on ch.signers j)) (generals n)
     (λ j there. named_at n ch j (let l = range-on_within 0 n j there in omega arith))
 
--- an entry that names all others sends the chain to them
+-- An entry that names all others sends the chain to them.
 to_others : (n : ℕ) (ch : Chain) (o : Option Chain) → o ≡ Some ch → sent_by n o (bits_but n ch.signers) ≡ to_all_others n ch ∷ []
 to_others n ch None e = absurd cc
 to_others n ch (Some k) e = let same : k ≡ ch = cc in rw same (ap (λ (ps : List ℕ). record { chain = ch; receivers = ps } ∷ []) (named_are n ch))
@@ -83,7 +83,7 @@ module _ (n c g k : ℕ) (H : List Chain) where
       let here : slice_get H place ≡ Some ch = (let e : place ≡ place + 0 = omega arith in ap (λ (j : ℕ). slice_get H j) e ∙ at 0) in
       step place seen ch xs here (λ more. passes_sent (suc place) more xs (later H place ch xs at)) (counts k g ch) (on seen ch.order) refl refl
 
--- the commander's order in the first round
+-- The commander's order in the first round.
 first_sent : (n c order g : ℕ) (H : List Chain) (b : Bool) → (g == c) ≡ b →
     dispatched n c g H (cond b (Sign order (bits_but n (g ∷ [])) ∷ []) []) ≡ map (to_all_others n) (cond b (signed_alone order c ∷ []) [])
 first_sent n c order g H false e = refl

@@ -1,4 +1,4 @@
--- Rows, computed: signed campaigns, from their traitors' programs to their chronicles.
+-- Computed examples: signed campaigns, from their traitors' programs to their chronicles.
 use Rattle.std.proofs.Common.{◌≡◌, ℕ, suc, true, false, List, [], ◌∷◌, ◌++◌, map, refl, Option, None, Some}
 use Rattle.std.specs.Prelude.{pos, replicate}
 use Rattle.word.specs.declared.Width.TheVariants.{W64}
@@ -25,7 +25,8 @@ use Rattle.signed.specs.Sent.{Sent, sent_by, delivered, held_behind, sent_in}
 use Rattle.signed.specs.Kind.{signed_kind, played, held_in, accepted_in}
 use Rattle.signed.specs.Chronicle.{signed_decisions, signed_verdict_of}
 
--- a letter in short: its general, the steps of a traitor, and of each chain that it sends the order, the signers and the receivers
+-- A letter in short: its general, the steps of a traitor, and each chain that it sends with its order, signers and
+-- receivers.
 abbrev pub Short : Type 0
 Short = ℕ × (Option ℕ × List (ℕ × (List ℕ × List ℕ)))
 
@@ -41,7 +42,7 @@ abbrev rounds_told : Sent → ℕ → List (List Letter) → List (List Short)
 rounds_told sent round [] = []
 rounds_told sent round (letters ∷ rounds) = map (short sent round) letters ∷ rounds_told sent (suc round) rounds
 
--- a world's chronicle in short: its letters by round, the decisions and the verdict
+-- Returns a world's chronicle in short: its letters by round, the decisions and the verdict.
 abbrev pub told : World → List (List Short) × (List ℕ × Verdict)
 told w =
     let ds = signed_decisions w.scenario w.closed in
@@ -59,12 +60,13 @@ campaign generals bound order patience programs = record {
   rule = Majority;
 }
 
--- mov r1, FIRST; mov r2, SECOND; call HELPER
+-- Returns the instructions `mov r1, FIRST; mov r2, SECOND; call HELPER`.
 abbrev pub calling : ℕ → ℕ → ℕ → List Insn
 calling helper first second =
     Arithmetic W64 Move 1 (Immediate (pos first)) ∷ Arithmetic W64 Move 2 (Immediate (pos second)) ∷ Call (pos helper) ∷ []
 
--- three generals and one traitor, the lieutenant 2, who passes on to 1 the first chain that he holds: in the first round he holds none
+-- Three generals, of whom lieutenant 2 is a traitor. He passes on to 1 the first chain that he holds, but in the first
+-- round he holds none.
 abbrev pub passing : Scenario
 passing = campaign 3 1 1 None (None ∷ None ∷ Some (calling 11 0 2 ++ Exit ∷ []) ∷ [])
 
@@ -85,13 +87,14 @@ passing_told : told (played passing (listed passing [])) ≡ (
 unfolding signed_decisions sent_in held_behind held accepted loyal_entries context_bytes step
 passing_told = refl
 
--- in the second round the traitor is told that he holds the commander's chain
+-- In the second round the traitor's context has the commander's chain.
 passing_context : (let closed = (played passing (Post 0 ∷ Post 1 ∷ Close ∷ [])).closed in signed_context_numbers 3 1 0 2 2 (held_in passing closed 2))
     ≡ 3 ∷ 1 ∷ 2 ∷ 0 ∷ 2 ∷ 1 ∷ 2 ∷ 1 ∷ 1 ∷ 1 ∷ []
 unfolding sent_in held_behind held loyal_entries
 passing_context = refl
 
--- the same generals, the commander a traitor, who signs the order 1 for general 1 and the order 0 for general 2, in both rounds
+-- The same generals, but the commander is the traitor. In both rounds he signs order 1 for general 1 and order 0 for
+-- general 2.
 abbrev pub torn : Scenario
 torn = campaign 3 1 0 None (Some (calling 10 1 2 ++ (calling 10 0 4 ++ Exit ∷ [])) ∷ None ∷ None ∷ [])
 
@@ -112,13 +115,14 @@ torn_told : told (played torn (replayed signed_kind torn [])) ≡ (
 unfolding signed_decisions sent_in held_behind held accepted loyal_entries context_bytes step
 torn_told = refl
 
--- what the commander signed in the second round came, and did not count
+-- The chains that the commander signed in the second round were received, but do not count.
 torn_accepted : accepted_in torn (played torn (replayed signed_kind torn [])).closed 1 ≡ 1 ∷ 0 ∷ []
 unfolding sent_in held_behind held accepted loyal_entries context_bytes step
 torn_accepted = refl
 
--- two traitors, the commander and a lieutenant, who meet on the board: the lieutenant reads a word twice, and passes on to 1 the first chain that he holds; the commander puts 7 into
--- that word, and signs the order 1 for both. In the first round the commander comes between the two readings, in the second before them
+-- Two traitors, the commander and a lieutenant, who meet on the board. The lieutenant reads a word twice, and passes on
+-- to 1 the first chain that he holds. The commander sets that word to 7, and signs order 1 for both. In the first round
+-- he does so between the two readings, in the second before them.
 abbrev pub pair : Scenario
 pair = campaign 3 1 1 None (
     Some (calling 2 5 7 ++ (calling 10 1 6 ++ Exit ∷ []))
@@ -143,7 +147,8 @@ pair_told : told (played pair (replayed signed_kind pair ((2 ∷ 0 ∷ 2 ∷ [])
 unfolding signed_decisions sent_in held_behind held accepted loyal_entries context_bytes step
 pair_told = refl
 
--- four generals, two traitors: the commander signs 7 for the traitor 3 alone, who passes it on to 1 and 2 in the second round; both pass it on to each other, and decide 7
+-- Four generals, of whom two are traitors. The commander signs 7 for traitor 3 only, who passes it on to 1 and 2 in the
+-- second round. These pass it on to each other, and decide 7.
 abbrev pub late : Scenario
 late = campaign 4 2 1 (Some 4) (Some (calling 10 7 8 ++ Exit ∷ []) ∷ None ∷ None ∷ Some (calling 11 0 6 ++ Exit ∷ []) ∷ [])
 
@@ -172,8 +177,10 @@ late_told : told (played late (listed late ((3 ∷ 1 ∷ 0 ∷ 2 ∷ 0 ∷ 3 ∷
 unfolding signed_decisions sent_in held_behind held accepted loyal_entries context_bytes step
 late_told = refl
 
--- four generals, two traitors: in the first round the commander signs 7 for the traitor 3 alone; 3 prolongs that chain for himself in the second, who stands on it and is dropped, and
--- so cannot prolong it again for 1 alone in the last. If one signature counted twice, general 1 would accept 7 then, and general 2 would not. Both read the round in what they are told
+-- Four generals, of whom two are traitors. In the first round the commander signs 7 for traitor 3 only. In the second
+-- round 3 signs that chain for himself, but he has signed it and so does not receive it. In the last round he therefore
+-- cannot sign it again for 1. If a second signature counted, general 1 would accept 7, and general 2 would not. Both
+-- traitors read the round in their contexts.
 abbrev pub twice : Scenario
 twice = campaign 4 2 1 None (
     Some (Load Word 0 1 (pos 16) ∷ Branch W64 NotEqual 0 (Immediate (pos 1)) (pos 3) ∷ (calling 10 7 8 ++ Exit ∷ []))
@@ -207,7 +214,7 @@ twice_told : told (played twice (listed twice [])) ≡ (
 unfolding signed_decisions sent_in held_behind held accepted loyal_entries context_bytes step
 twice_told = refl
 
--- whoever has not posted is absent, and a post after the close is refused
+-- A general who has not posted has no letter, and a post after the last close is rejected.
 absent : delivered (sent_in passing (played passing (Tick 2 ∷ Close ∷ [])).closed) 1 0 1 ≡ []
 unfolding sent_in held_behind held loyal_entries step
 absent = refl

@@ -1,4 +1,4 @@
--- What holds of the chronicle of a complete list of events.
+-- What holds for the chronicle of a complete list of events.
 use Rattle.std.proofs.Common.{◌≡◌, ℕ, suc, Bool, List, length, sym, ap, subst, ◌∙◌}
 use Rattle.std.proofs.lemmas.List.{length-map}
 use Rattle.label.specs.Lieutenants.{lieutenants, AgreeInList}
@@ -27,14 +27,14 @@ use Rattle.signed.proofs.Concluding.{same_scenario}
 use Rattle.signed.proofs.Verdicts.{proved_verdicts}
 use Rattle.signed.proofs.Worlds.{signed_campaigns}
 
--- a complete list comes to its end
+-- Complete events lead to a finished world.
 pub complete_finished : (s : Scenario) (events : List Event) → IsComplete signed_kind s events → IsFinished (played s events)
 complete_finished s events complete = record {
   closed = complete.closed ∙ ap (λ (t : Scenario). suc t.bound) (sym (same_scenario s events));
   full = punctual_full signed_kind s events complete.punctual;
 }
 
--- in a held world that is finished the decisions agree
+-- In a finished world the loyal lieutenants' decisions agree.
 pub held_agree : (s : Scenario) (closed : List (List Letter)) (k : RecordedBoard) (opened : ℕ) (ps : List Progress) (full : Bool) (sent : Sent) (signers : List Signature) (w : World) (xs : List ℕ) → IsScenario s → IsSignedHeld s closed k opened ps full sent signers →
     world_of s closed k opened ps full ≡ w → xs ≡ signed_decisions w.scenario w.closed → IsFinished w → AgreeUnderSignedBound w.scenario xs
 held_agree s closed k opened ps full sent signers w xs is h same decided_all done =

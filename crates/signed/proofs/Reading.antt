@@ -1,4 +1,4 @@
--- What stands at a place that was read.
+-- The element at an index that was read.
 use Rattle.std.proofs.Common.{◌≡◌, ℕ, ◌<◌, List, length, get_or, refl, sym, ap, ◌∙◌, Option, None, Some}
 use Rattle.std.specs.Prelude.{slice_get, option_copied}
 use Rattle.std.specs.Borrow.{Bor}
@@ -28,7 +28,7 @@ draft_at ds g place o h same = draft_lent o ∙ (lent_at ds place o h ∙ ap (sl
 pub part_at : (ps : List Progress) (g place : ℕ) (o : Option (Bor Progress)) → IsItemAt ps place o → place ≡ g → part_in o ≡ slice_get ps g
 part_at ps g place o h same = part_lent o ∙ (lent_at ps place o h ∙ ap (slice_get ps) same)
 
--- each general's signer stands at his number
+-- A general's signer is at the index that is his number.
 pub signers_count : (n c : ℕ) (signers : List Signature) → signers ≡ signatures n c → length signers ≡ n
 signers_count n c signers is = ap length is ∙ row_length (λ g. record { general = g; commander = c }) n
 

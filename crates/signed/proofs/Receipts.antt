@@ -1,4 +1,4 @@
--- The chains that came to a general, in the lists of what was sent.
+-- The chains that a general received, in the lists of chains sent.
 use Rattle.std.proofs.Common.{◌≡◌, ℕ, zero, suc, ◌+◌, ◌-◌, ◌≤◌, List, [], ◌∷◌, ◌++◌, map, take, drop, length, get_or, refl, sym, ap, subst, ◌∙◌, arith, All, append-nil}
 use Rattle.std.specs.Prelude.{flat_map}
 use Rattle.std.proofs.Math.Seq.{take-suc, take-length, drop-append_seam}
@@ -26,7 +26,7 @@ none_came : (gs : List ℕ) → flat_map {X = ℕ} {A = Chain} (λ h. []) gs ≡
 none_came [] = refl
 none_came (g ∷ gs) = none_came gs
 
--- what is held behind so many rounds came in these
+-- The chains held after some rounds were received in these.
 pub held_to : (n : ℕ) (sent : Sent) (g k : ℕ) → AreRows n sent → k ≤ length sent → held n (delivered sent) (suc k) g ≡ flat_map (received_in g) (take k sent)
 unfolding held
 held_to n sent g zero rows le = none_came (generals n)
@@ -43,7 +43,7 @@ pub chains_held : (n : ℕ) (sent : Sent) (g : ℕ) → AreRows n sent → flat_
 chains_held n sent g rows =
     ap (flat_map (received_in g)) (sym (take-length sent)) ∙ (sym (held_to n sent g (length sent) rows (omega arith)) ∙ sym (held_is n sent g))
 
--- of what is held behind a round the front was held before it, and the rest came in it
+-- States that of the chains held after a round, the first were held before it, and the others were received in it.
 pub record IsHeldOf (n : ℕ) (sent : Sent) (r g : ℕ) (held_chains : List Chain) (before : ℕ) : Type 0 where
   pub chains : held_chains ≡ held_behind n sent g
   pub earlier : before ≡ length (held n (delivered sent) (suc r) g)
@@ -82,19 +82,19 @@ rows_in : (s : Scenario) (closed : List (List Letter)) → AreRows s.generals (s
 unfolding sent_in
 rows_in s closed = rows_along s [] closed (λ k d lt. absurd (omega arith))
 
--- what events have sent has a list for each general in each round
+-- The chains that events have sent are a list for each general in each round.
 pub sent_rows : (s : Scenario) (sent : Sent) → IsSent s sent → AreRows s.generals sent
 sent_rows s sent h =
     let A : Sent → Type 0 = λ x. AreRows s.generals x in
     subst A (sym h.1) (rows_in s (played s h.0).closed)
 
--- and is made by entries, or as loyal generals do
+-- They are made by entries, or as loyal generals make them.
 pub sent_made : (s : Scenario) (sent : Sent) → IsScenario s → IsSent s sent → IsMade s sent
 sent_made s sent is h =
     let A : Sent → Type 0 = λ x. IsMade s x in
     subst A (sym h.1) (played_made s h.0 is)
 
--- a general more
+-- One more general is considered.
 pub row_more : {X : Type 0} (f : ℕ → X) (k : ℕ) (xs : List X) (x : X) (ys : List X) → ys ≡ xs ++ x ∷ [] → xs ≡ map f (generals k) → x ≡ f k → ys ≡ map f (generals (k + 1))
 row_more f k xs x ys e h is =
     let m : suc k ≡ k + 1 = omega arith in
@@ -105,7 +105,7 @@ row_more f k xs x ys e h is =
     ∙ (ap (map f) (sym (range_push 0 k))
     ∙ ap (λ (j : ℕ). map f (generals j)) m)))
 
--- a general's entries send by what he holds
+-- A general's entries send chains by what he holds.
 pub dispatched_is : (s : Scenario) (sent : Sent) (g n : ℕ) (signer : Signature) (held_chains : HeldChains) (entries drafted : List Entry) → AreRows s.generals sent →
     n ≡ s.generals → signer ≡ record { general = g; commander = s.commander } → held_chains ≡ held_of g sent → entries ≡ drafted →
     dispatched n signer.commander signer.general held_chains.chains entries ≡ dispatched s.generals s.commander g (held_behind s.generals sent g) drafted

@@ -1,4 +1,4 @@
--- Of thirteen generals one is not on a chain only if there is room for him.
+-- If one of thirteen generals has not signed a chain, it has room for his signature.
 use Rattle.std.proofs.Common.{◌≡◌, ℕ, ◌+◌, ◌<◌, ◌≤◌, true, false, List, [], ◌∷◌, ◌++◌, length, sym, ◌∙◌, arith, inl, inr, length-append}
 use Rattle.std.specs.Prelude.{◌==◌}
 use Rattle.std.proofs.lemmas.Bool.{or_cases, eqb-true}

@@ -1,10 +1,10 @@
--- Rows, computed: what is no chain or does not count.
+-- Computed examples of what is no chain or does not count.
 use Rattle.std.proofs.Common.{◌≡◌, true, false, arith, [], ◌∷◌, refl, None, Some}
 use Rattle.signed.specs.Chains.{IsChain, begin, prolong}
 use Rattle.signed.specs.Accepted.{counts, firsts, decided}
 use Rattle.signed.specs.Entries.{receivers_in}
 
--- a chain of the wrong length does not count, and none on which the receiver stands
+-- A chain of the wrong length does not count, and neither does one that the receiver has signed.
 one_in_first : counts 1 1 (record { order = 7; signers = 0 ∷ [] }) ≡ true
 one_in_first = refl
 
@@ -17,14 +17,14 @@ two_in_first = refl
 own_in_second : counts 2 1 (record { order = 7; signers = 0 ∷ 1 ∷ [] }) ≡ false
 own_in_second = refl
 
--- one signature twice is no chain, and neither is one without the commander's first
+-- A chain with one signature twice is none, and neither is one that the commander has not signed first.
 twice_no_chain : IsChain 4 0 (record { order = 7; signers = 0 ∷ 1 ∷ 1 ∷ [] }) → ⊥
 twice_no_chain h = let d : false ≡ true = h.distinct in cc
 
 headless_no_chain : IsChain 4 0 (record { order = 7; signers = 1 ∷ 0 ∷ [] }) → ⊥
 headless_no_chain h = absurd (let f : 1 ≡ 0 = h.first in omega arith)
 
--- so nobody prolongs a chain on which he stands, and only the commander begins one
+-- So nobody extends a chain that he has signed, and only the commander begins one.
 not_twice : prolong (record { order = 7; signers = 0 ∷ 1 ∷ [] }) 1 ≡ None
 not_twice = refl
 
@@ -34,16 +34,17 @@ begun_by_commander = refl
 begun_by_another : begin 0 1 7 ≡ None
 begun_by_another = refl
 
--- of two chains that bring one order the first that is held is prolonged, and of several orders the first chains, in the order in which they are held
+-- Of two chains with one order, the first one held is extended. Of several orders, the first chains are extended, in
+-- the order in which they are held.
 first_prolonged : firsts (5 ∷ []) (record { order = 7; signers = 0 ∷ 3 ∷ [] } ∷ record { order = 5; signers = 0 ∷ 3 ∷ [] } ∷ record { order = 9; signers = 0 ∷ 4 ∷ [] } ∷ record { order = 7; signers = 0 ∷ 4 ∷ [] } ∷ [])
     ≡ record { order = 7; signers = 0 ∷ 3 ∷ [] } ∷ record { order = 9; signers = 0 ∷ 4 ∷ [] } ∷ []
 first_prolonged = refl
 
--- a receiver who is no general, or who stands on the chain, is dropped
+-- A receiver who is no general, or who has signed the chain, is left out.
 dropped : receivers_in 3 8191 (record { order = 7; signers = 0 ∷ 1 ∷ [] }) ≡ 2 ∷ []
 dropped = refl
 
--- one order is a choice; of none, or of two, RETREAT
+-- One order is decided on. If there is none, or there are two, the decision is RETREAT.
 decided_none : decided [] ≡ 0
 decided_none = refl
 

@@ -1,4 +1,4 @@
--- What a program has entered can be sent, and is eight entries at most.
+-- A program's entries can be sent, and are at most eight.
 use Rattle.std.proofs.Common.{◌≡◌, ℕ, zero, suc, ◌≤◌, Bool, true, false, cond, List, [], ◌∷◌, ◌++◌, length, refl, sym, ap, subst, ◌∙◌, Option, arith}
 use Rattle.std.specs.Prelude.{◌||◌}
 use Rattle.std.specs.List.{AllByRecursion}
@@ -19,12 +19,12 @@ use Rattle.round.specs.Runs.{Onward, Runs, AreFitting}
 use Rattle.round.proofs.Going.{IsGoing, TurnsTo, turn_safe, going_zero, over_ended}
 use Rattle.signed.proofs.Exits.{exit_same}
 
--- at most eight entries, each of a chain that can be sent
+-- States that there are at most eight entries, each of a chain that can be sent.
 pub record AreSendable (a : Activation) : Type 0 where
   pub few : length a.state.entries ≤ 8
   pub each : AllByRecursion (λ e. is_sendable a.relay e ≡ true) a.state.entries
 
--- until it has exited it is reached
+-- States that an activation is reached by a run until it has exited.
 pub record IsKept (a : Activation) : Type 0 where
   pub answers : List (List ℕ)
   pub reached : a.over ≡ false → Reached a.program a.context a.relay answers a.state
@@ -79,7 +79,7 @@ kept_by n k (Asks q f) (x ∷ t) a end after kept again fit h =
     again (f x.reply) t fit.1 (after x.reply here).going (kept x.reply here) h.1
 kept_by n k Ended t a end after kept again fit h = absurd h
 
--- so is every end of a run of a sound program
+-- So is every end of a run of a sound program.
 pub runs_kept : (n k : ℕ) (a : Activation) (t : List Access) (end : Activation) → AreFitting t → IsGoing n a → IsKept a → Runs k a t end → IsKept end
 runs_kept n zero a t end fit going kept h = (let A : Activation → Type 0 = λ b. IsKept b in subst A h.1 kept)
 runs_kept zero (suc k) a t end fit going kept h = absurd (let A : Turn → Type 0 = λ o. Onward (Runs k) o t end in subst A (over_ended a (going_zero a going)) h)

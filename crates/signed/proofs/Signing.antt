@@ -1,4 +1,4 @@
--- What a program may enter by the numbers of its relay is just what its general has a chain to send of.
+-- A program may make exactly those entries by which its general can send a chain.
 use Rattle.std.proofs.Common.{◌≡◌, ◌≢◌, ℕ, zero, suc, ◌+◌, ◌*◌, ◌^◌, ◌<◌, max, Bool, true, false, not, cond, List, [], ◌∷◌, map, refl, sym, ap, subst, ◌∙◌, inl, inr, ⊎_elim, Some, None, arith}
 use Rattle.std.specs.Prelude.{◌==◌, ◌||◌, slice_get, is_some, sum_by}
 use Rattle.std.specs.Int.{bit_at}
@@ -17,7 +17,7 @@ use Rattle.signed.specs.Contexts.{signer_bits}
 use Rattle.signed.specs.Entries.{Entry, Sign, Pass, passed_on, chain_of}
 use Rattle.round.specs.Scenario.{Scenario, shape_of}
 
--- a bit more
+-- One more bit.
 bit_more : (n x i : ℕ) → bit_at n x ≡ 0 → bit_at (n + 2 ^ x) i ≡ max (bit_at n i) (bit_at (2 ^ x) i)
 bit_more n x i none =
     let apart : bit_and n (2 ^ x) ≡ zero = and_pow n x ∙ ap (λ b. b * 2 ^ x) none ∙ (omega arith) in
@@ -26,7 +26,7 @@ bit_more n x i none =
 max_left : (b : ℕ) → b < 2 → max b 0 ≡ b
 max_left b lt = omega arith
 
--- of different generals, bit by bit
+-- The bits of a list of different generals.
 pub bits_are : (xs : List ℕ) (i : ℕ) → is_distinct xs ≡ true → bit_at (sum_by (λ g. 2 ^ g) xs) i ≡ cond (on xs i) 1 0
 bits_are [] i d = bit_at-zero i
 bits_are (x ∷ xs) i d =
@@ -47,7 +47,7 @@ bits_are (x ∷ xs) i d =
     most ∙ (bits_are xs i both.1 ∙ sym (ap (λ b. cond {A = ℕ} (b || on xs i) 1 0) h.0)))
     (eqb_tells x i))
 
--- so the bits of a chain's signers tell who can prolong it
+-- So the bits of a chain's signers say who can extend it.
 unsigned_is : (ch : Chain) (g : ℕ) → is_distinct ch.signers ≡ true → not (bit_at (signer_bits ch) g == 1) ≡ is_some (prolong ch g)
 unsigned_is ch g d = ap (λ b. not (b == 1)) (bits_are ch.signers g d) ∙ by (on ch.signers g)
   where
@@ -70,7 +70,7 @@ passed_is g place [] d = refl
 passed_is g zero (ch ∷ held) d = unsigned_is ch g (d ch (inl refl))
 passed_is g (suc place) (ch ∷ held) d = passed_is g place held (λ k there. d k (inr there))
 
--- where the relay has the signers of the chains held, it lets be sent what has a chain
+-- If the relay has the signers of the chains held, it allows exactly the entries that have a chain.
 pub sendable_is : (s : Scenario) (g round : ℕ) (held : List Chain) (e : Entry) → AreDistinct held → is_sendable (signed (shape_of s g round) (map signer_bits held)) e ≡ is_some (chain_of s.commander g held e)
 sendable_is s g round held (Sign order bits) d = begun_is s.commander g order
 sendable_is s g round held (Pass place bits) d = passed_is g place held d

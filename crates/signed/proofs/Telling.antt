@@ -1,4 +1,4 @@
--- A signed context tells its general, the round, his relay, and that orders are signed.
+-- A signed context names its general and the round, describes his relay, and says that orders are signed.
 use Rattle.std.proofs.Common.{◌≡◌, ℕ, suc, ◌<◌, ◌≤◌, List, length, refl, sym, arith}
 use Rattle.round.specs.Scenario.{Scenario, IsScenario, shape_of}
 use Rattle.round.specs.Letters.{Letter}
@@ -25,7 +25,7 @@ shape_is_told s closed g round is =
     let commander = number_at (numbers s closed g) 3 12 s.commander refl (omega arith) refl (omega arith) in
     (λ i. record { generals = generals i; commander = commander i; general = g; round = round })
 
--- that orders are signed
+-- The context says that orders are signed.
 pub signed_is_told : (s : Scenario) (closed : List (List Letter)) (g : ℕ) → number_told (signed_context s closed g) at_kind ≡ 1
 signed_is_told s closed g = number_at (numbers s closed g) 7 28 1 refl (omega arith) refl (omega arith)
 

@@ -12,7 +12,7 @@ use Rattle.signed.specs.Accepted.{Deliveries}
 use Rattle.signed.specs.Agreement.{SignsForHimself}
 use Rattle.signed.proofs.Lists.{snoc_split, no_cons}
 
--- the general sent this chain to somebody in one of the rounds up to this one
+-- States that the general has sent this chain to somebody in a round up to this one.
 pub record IsSent (n : ℕ) (S : Deliveries) (g last : ℕ) (ch : Chain) : Type 0 where
   pub round : ℕ
   pub early : round ≤ last
@@ -26,7 +26,7 @@ chain_is ch xs e = ap {B = Chain} (λ ys. record { order = ch.order; signers = y
 whole : (n : ℕ) (S : Deliveries) (r g p h : ℕ) (ch : Chain) (u : List ℕ) → p < n → Among ch (S r g p) → h ≡ g → u ++ h ∷ [] ≡ ch.signers → IsSent n S h r (record { order = ch.order; signers = u ++ h ∷ [] })
 whole n S r g p h ch u l there e s = record { round = r; early = omega arith; receiver = p; general = l; there = rw (chain_is ch (u ++ h ∷ []) s, e) there }
 
--- whoever stands on a chain, he himself sent the beginning that ends with him
+-- Each signer of a chain has himself sent the beginning that ends with his signature.
 pub unforged : (n c : ℕ) (S : Deliveries) → ((g : ℕ) → g < n → SignsForHimself n c S g) → (b r : ℕ) → r < b → (g p : ℕ) (ch : Chain) → g < n → p < n → Among ch (S r g p)
     → (u : List ℕ) (h : ℕ) (w : List ℕ) → ch.signers ≡ u ++ h ∷ w → IsSent n S h r (record { order = ch.order; signers = u ++ h ∷ [] })
 unforged n c S all zero r lt g p ch gn pn there u h w split = absurd (omega arith)
@@ -48,7 +48,7 @@ unforged n c S all (suc b) r lt g p ch gn pn there u h w split =
           ]
     ]
 
--- each chain begins with the commander, and no general stands on it twice
+-- Each chain begins with the commander, and no general has signed it twice.
 pub labelled : (n c : ℕ) (S : Deliveries) → c < n → ((g : ℕ) → g < n → SignsForHimself n c S g) → (b r : ℕ) → r < b → (g p : ℕ) (ch : Chain) → g < n → p < n → Among ch (S r g p) → IsLabel n c ch.signers
 labelled n c S inside all zero r lt g p ch gn pn there = absurd (omega arith)
 labelled n c S inside all (suc b) r lt g p ch gn pn there =
@@ -60,7 +60,7 @@ labelled n c S inside all (suc b) r lt g p ch gn pn there =
           rw long (IsLabel-push (labelled n c S inside all b i.round (let e = i.earlier in omega arith) i.sender g pass.held i.general gn i.came) g gn pass.once)
     ]
 
--- different traitors are no more than the traitors
+-- Different traitors are no more than all traitors.
 pub few_bad : (n : ℕ) (t : ℕ → Bool) (w u : List ℕ) → AllBelow n w → is_distinct w ≡ true → ((j : ℕ) → on w j ≡ true → on u j ≡ false) → ((j : ℕ) → on w j ≡ true → t j ≡ true) → length w ≤ count_by t (others n u)
 few_bad n t [] u below d apart bad = omega arith
 few_bad n t (x ∷ w) u below d apart bad =
@@ -85,7 +85,7 @@ some_loyal t (x ∷ w) = elim (cases_Bool (t x)) [
   ]
 ]
 
--- a chain of more than m signatures has a loyal one
+-- A chain of more than m signatures has a loyal one.
 pub loyal_signer : (n c m : ℕ) (t : ℕ → Bool) (w : List ℕ) → IsLabel n c w → count_by t (generals n) ≤ m → m < length w → (h : ℕ) × ((on w h ≡ true) × (t h ≡ false))
 loyal_signer n c m t w label few long = elim (some_loyal t w) [
   | inr r ↦ r

@@ -1,4 +1,4 @@
--- What is said of a lieutenant, and of the bound.
+-- The lines about a lieutenant and about the bound.
 use Rattle.std.proofs.Common.{ℕ, ◌≡◌, ◌++◌, ◌∙◌, ap, append_assoc, Bool, List, refl}
 use Rattle.std.specs.Prelude.{codes, count_by}
 use Rattle.std.specs.Fmt.{decimal}
@@ -10,14 +10,14 @@ use Rattle.world.specs.Chronicle.{Chronicle}
 use Rattle.signed.specs.Chains.{Chain, orders}
 use Rattle.signed.specs.Explained.{acceptance_lines, accepted_line, chains_of, choice_line, traitors_line}
 
--- the line of the bound, part by part
+-- The line about the bound is made from its parts.
 pub traitors_whole : (s : Scenario) (holds : Bool) (old new so few : List ℕ) (t m : ℕ)
     → so ≡ yes_no holds → few ≡ few_words holds → t ≡ count_by (is_traitor s) (generals s.generals) → m ≡ s.bound
     → new ≡ old ++ (codes "bound " ++ so ++ codes ": " ++ decimal t ++ codes " traitors, " ++ few ++ decimal m ++ codes "\n")
     → new ≡ old ++ traitors_line s holds
 traitors_whole s holds old new so few t m es ef et em e = e ∙ rw (es, ef, et, em) refl
 
--- the lines of a lieutenant, part by part
+-- The lines about a lieutenant are made from their parts.
 pub acceptance_whole : (c : Chronicle) (p : ℕ) (old first second new : List ℕ) (xs ys : List Chain) (traitor : Bool)
     → first ≡ old ++ head_line p → second ≡ first ++ flat_map accepted_line xs → xs ≡ chains_of c p → ys ≡ chains_of c p → traitor ≡ is_traitor c.scenario p
     → new ≡ second ++ choice_line p traitor (orders ys)

@@ -18,7 +18,7 @@ use Rattle.signed.specs.Chronicle.{signed_decisions, signed_verdict_of}
 use Rattle.signed.specs.Verdicts.{SignedVerdictsMean}
 use Rattle.signed.proofs.Concluding.{agree_in, same_scenario}
 
--- orders that agree, place by place
+-- Decisions that agree, as a list by lieutenant.
 in_list : (n c order : ℕ) (traitor : ℕ → Bool) (accepts : ℕ → List ℕ) → SignedAgree n c order traitor accepts → AgreeInList n c order traitor (map (λ p. decided (accepts p)) (lieutenants n c))
 in_list n c order traitor accepts all = record {
   alike = λ i j a b. read_map (λ p. decided (accepts p)) (lieutenants n c) i a.within
@@ -49,7 +49,7 @@ never_disobeyed s ds long h e =
     (λ (x : is_traitor s s.commander ≡ false). absurd (let f : Some true ≡ Some false = sym ((proved_verdicts_mean.obeyed s ds long x).1 (h x)) ∙ e in cc))
     (cases_Bool (is_traitor s s.commander))
 
--- where the list of decisions agrees, the verdict says that all is well
+-- If the decisions agree, the verdict says so.
 pub all_well : (s : Scenario) (closed : List (List Letter)) → AgreeInList s.generals s.commander s.order (is_traitor s) (signed_decisions s closed)
     → ((signed_verdict_of s (signed_decisions s closed)).alike ≡ true) × ((signed_verdict_of s (signed_decisions s closed)).obeyed ≢ Some false)
 all_well s closed a =

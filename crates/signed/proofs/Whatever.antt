@@ -1,4 +1,4 @@
--- What holds of signed campaigns whatever letters their traitors write.
+-- What holds in signed campaigns whatever letters their traitors write.
 use Rattle.std.proofs.Common.{◌≡◌, ℕ, suc, ◌<◌, false, List, [], length, ap, ◌∙◌, arith}
 use Rattle.round.specs.Scenario.{Scenario, is_traitor}
 use Rattle.round.specs.Letters.{Letter, letter_of}
@@ -19,7 +19,7 @@ use Rattle.signed.proofs.Places.{get_or_at}
 use Rattle.signed.proofs.Verdicts.{bound_is, decisions_agree, all_well}
 use Rattle.signed.proofs.Worlds.{full_in, made_in, played_any}
 
--- where no loyal general's letter is missing, each of them is told in each round
+-- If no loyal general's letter is missing, each is there in every round.
 loyal_told : (s : Scenario) (closed : List (List Letter)) → HaveLoyalLetters s closed → (g : ℕ) → g < s.generals → is_traitor s g ≡ false → Tells signed_kind s closed g
 loyal_told s closed have g lt loyal k le =
     let at = some_at closed k le in

@@ -40,7 +40,7 @@ signed_campaigns s is = record {
   relay = λ closed g lt le. shape_is s g (length closed) is lt le;
 }
 
--- of a traitor's letter the entries are few
+-- A traitor's letter has few entries.
 entries_few : (s : Scenario) (before : List (List Letter)) (l : Letter) (p : List Insn) → IsScenario s → IsLetterIn signed_kind s before l → l.program ≡ Some p → IsRunOf l (Some p) → length l.outbox.entries ≤ 8
 entries_few s before l p is h e made =
     let good = signed_campaigns s is in
@@ -54,7 +54,7 @@ entries_few s before l p is h e made =
     let few = k.sendable.few in
     omega arith
 
--- each letter of a world is one that may be written
+-- Each letter of a world is possible.
 letter_any : (s : Scenario) (before : List (List Letter)) (l : Letter) → IsScenario s → IsLetterIn signed_kind s before l → IsAnyLetter s before l.general l
 letter_any s before l is h = by l.program refl h.made
   where
@@ -68,7 +68,7 @@ letter_any s before l is h = by l.program refl h.made
       few = λ bad. entries_few s before l p is h e made;
     }
 
--- what a letter sends, by who wrote it
+-- What a letter sends depends on whose it is.
 letter_made : (s : Scenario) (before : List (List Letter)) (g : ℕ) (l : Letter) → g < s.generals → IsAnyLetter s before g l
     → IsMadeOf s (delivered (sent_in s before)) (suc (length (sent_in s before))) g (sends s (sent_in s before) g (Some l))
 letter_made s before g l lt h = elim (cases_Bool (is_traitor s g)) [
@@ -90,7 +90,7 @@ letter_made s before g l lt h = elim (cases_Bool (is_traitor s g)) [
       }))
 ]
 
--- the letter found is one of the row, and his
+-- The letter that is found is one of the list, and his.
 found : (P : Letter → Type 0) (row : List Letter) (g : ℕ) (l : Letter) → letter_of row g ≡ Some l → All P row → P l × (l.general ≡ g)
 found P [] g l e all = absurd (let f : None ≡ Some l = e in cc)
 found P (x ∷ row) g l e all = by (x.general == g) refl e (λ f. found P row g l f (λ k d lt. all (suc k) d (omega arith)))
@@ -101,7 +101,7 @@ found P (x ∷ row) g l e all = by (x.general == g) refl e (λ f. found P row g 
         (subst P here (all 0 x (omega arith)), ap (λ (m : Letter). m.general) (sym here) ∙ eqb-true x.general g same)
     by false other is next = next is
 
--- what a row of letters sends
+-- What the letters of a round send.
 row_made : (s : Scenario) (before : List (List Letter)) (row : List Letter) → ((g : ℕ) (l : Letter) → g < s.generals → letter_of row g ≡ Some l → IsAnyLetter s before g l) → (g : ℕ)
     → IsMadeOf s (delivered (sent_in s before)) (suc (length (sent_in s before))) g (get_or (round_sent s (sent_in s before) row) g [])
 row_made s before row all g =
@@ -134,13 +134,13 @@ made_to s closed all (suc k) le =
     (made_more s (sent_in s (take k closed)) (round_sent s (sent_in s (take k closed)) at.0) (made_to s closed all k (omega arith))
     (row_made s (take k closed) at.0 (λ g l lt e. all k g at.0 l at.1 lt e))))
 
--- so what was sent in them is made as signed orders are
+-- So the chains sent in them are made as signed orders are.
 pub made_in : (s : Scenario) (closed : List (List Letter)) → AreAnyLetters s closed → making.IsMade s (sent_in s closed)
 made_in s closed all =
     let A : List (List Letter) → Type 0 = λ rows. making.IsMade s (sent_in s rows) in
     subst A (take_all (length closed) closed (omega arith)) (made_to s closed all (length closed) (omega arith))
 
--- where every loyal general's letters are there, each sends what he has to
+-- If every loyal general's letters are there, each sends what SM(m) requires.
 row_full : (s : Scenario) (before : List (List Letter)) (row : List Letter) (g : ℕ) → g < s.generals → letter_of row g ≡ Some (loyal_letter signed_kind s before g)
     → get_or (round_sent s (sent_in s before) row) g [] ≡ of_loyal s (delivered (sent_in s before)) (suc (length (sent_in s before))) g
 row_full s before row g lt e =
@@ -170,7 +170,7 @@ full_in s closed told =
     let A : List (List Letter) → Type 0 = λ rows. making.IsFull s (sent_in s rows) in
     subst A (take_all (length closed) closed (omega arith)) (full_to s closed told (length closed) (omega arith))
 
--- the letters of every world may be written
+-- The letters of every world are possible.
 pub played_any : (s : Scenario) (events : List Event) → IsScenario s → AreAnyLetters s (played s events).closed
 played_any s events is k g row l at lt e =
     let closed = (played s events).closed in

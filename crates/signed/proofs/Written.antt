@@ -1,4 +1,4 @@
--- A loyal general's letter by what was sent is a letter.
+-- A loyal general's letter that is made from the chains sent is a letter.
 use Rattle.std.proofs.Common.{◌≡◌, ℕ, suc, ◌-◌, ◌*◌, ◌<◌, ◌≤◌, true, List, [], ◌∷◌, map, length, refl, sym, ap, subst, ◌∙◌, arith, flat_map, Option, None}
 use Rattle.semantics.specs.Relay.{Relay, IsContext, signed}
 use Rattle.label.specs.Relay.{IsShape}
@@ -20,7 +20,7 @@ use Rattle.signed.proofs.Along.{sent_length}
 use Rattle.signed.proofs.Receipts.{chains_held}
 use Rattle.signed.proofs.Telling.{signed_relays, not_oral}
 
--- what he is told by the closed rounds that sent this
+-- His context after the closed rounds that sent these chains.
 told_in : (s : Scenario) (sent : Sent) (g : ℕ) (h : IsSent s sent) → context_behind s sent g ≡ signed_context s (played s h.0).closed g
 told_in s sent g h =
     let closed = (played s h.0).closed in
@@ -50,7 +50,7 @@ letter_is s sent g is h lt le =
       run = (refl, refl, refl, refl, λ spoken. absurd (never spoken));
     }
 
--- a letter of these parts is his
+-- A letter with these contents is his.
 pub written_is : (s : Scenario) (sent : Sent) (g general round : ℕ) (context : List ℕ) (program : Option (List Insn)) (transcript : List Access) (outbox : Contents) →
     general ≡ g → round ≡ suc (length sent) → context ≡ context_behind s sent g → program ≡ None → transcript ≡ [] →
     outbox.relay ≡ relay_behind s sent g → outbox.rows ≡ [] → outbox.entries ≡ loyal_entries s.generals s.commander s.bound s.order (delivered sent) (suc (length sent)) g →
@@ -58,7 +58,7 @@ pub written_is : (s : Scenario) (sent : Sent) (g general round : ℕ) (context :
 written_is s sent g general round context program transcript outbox a b c p t relay rows entries =
     (λ i. record { general = a i; round = b i; context = c i; program = p i; transcript = t i; steps = 0; outbox = record { relay = relay i; rows = rows i; entries = entries i }; exited = true })
 
--- the bits of the signers of the chains held make his relay
+-- The signers of the chains held make his relay.
 pub relay_is : (s : Scenario) (sent : Sent) (g round : ℕ) (relay : Relay) → AreRows s.generals sent → round ≡ suc (length sent) → relay ≡ signed (shape_of s g round) (map signer_bits (held_of g sent).chains) → relay ≡ relay_behind s sent g
 relay_is s sent g round relay rows counted is =
     is ∙ (λ i. signed (shape_of s g (counted i)) (map signer_bits (chains_held s.generals sent g rows i)))
@@ -70,7 +70,7 @@ pairs_length : (xs : List Chain) → length (flat_map (λ ch. ch.order ∷ signe
 pairs_length [] = refl
 pairs_length (x ∷ xs) = omega (arith, pairs_length xs)
 
--- the numbers of the chains held make his context
+-- The numbers of the chains held make his context.
 pub numbers_few : (xs : List Chain) (numbers : List ℕ) → length xs ≤ 500 → numbers ≡ flat_map (λ ch. ch.order ∷ signer_bits ch ∷ []) xs → length numbers ≤ 1000
 numbers_few xs numbers few is = let e = ap length is in omega (arith, pairs_length xs)
 

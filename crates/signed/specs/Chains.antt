@@ -8,23 +8,23 @@ pub record Chain : Type 0 where
   pub order : ℕ
   pub signers : List ℕ
 
--- States that distinct generals signed the chain, the commander first.
+-- States that different generals signed the chain, the commander first.
 abbrev pub IsChain : ℕ → ℕ → Chain → Type 0
 IsChain n c ch = IsLabel n c ch.signers
 
--- Returns the order with the signature of general `g` as its only one.
+-- Returns the chain of this order with one signature, made by general `g`.
 abbrev pub signed_alone : ℕ → ℕ → Chain
 signed_alone order g = record { order = order; signers = g ∷ [] }
 
--- Returns the chain extended by the signature of general `g`.
+-- Returns the chain with one more signature, made by general `g`.
 abbrev pub signed_also : Chain → ℕ → Chain
 signed_also ch g = record { order = ch.order; signers = ch.signers ++ g ∷ [] }
 
--- Returns the order with the signature of general `g` as its only one, if he is the commander.
+-- Returns the chain of this order with one signature, made by general `g`, or `None` if he is not the commander.
 abbrev pub begin : ℕ → ℕ → ℕ → Option Chain
 begin c g order = cond (g == c) (Some (signed_alone order g)) None
 
--- Returns the chain extended by the signature of general `g`, if he has not signed it yet.
+-- Returns the chain with one more signature, made by general `g`, or `None` if he has already signed it.
 abbrev pub prolong : Chain → ℕ → Option Chain
 prolong ch g = cond (on ch.signers g) None (Some (signed_also ch g))
 

@@ -12,12 +12,12 @@ use Rattle.world.specs.Chronicle.{Chronicle, of_loyal}
 use Rattle.signed.specs.Accepted.{decided}
 use Rattle.signed.specs.Kind.{accepted_in}
 
--- Returns what the lieutenants decide from the letters of these rounds, in ascending order of the lieutenants.
+-- Returns the order on which each lieutenant decides from the letters of these rounds, ascending by lieutenant.
 unfoldable pub signed_decisions : Scenario → List (List Letter) → List ℕ
 signed_decisions s closed = map (λ p. decided (accepted_in s closed p)) (lieutenants s.generals s.commander)
 
--- Returns the verdict on the decisions. It says whether the loyal lieutenants decide alike, and whether they obey a
--- loyal commander, but nothing about the obedience to a traitor. It also says whether there are at most m traitors.
+-- Returns the verdict on the decisions: whether the loyal lieutenants decide on the same order, whether they obey a
+-- loyal commander, and whether there are at most m traitors. If the commander is a traitor, `obeyed` is `None`.
 abbrev pub signed_verdict_of : Scenario → List ℕ → Verdict
 signed_verdict_of s ds =
     let loyal = of_loyal s (lieutenants s.generals s.commander) ds in
@@ -27,8 +27,8 @@ signed_verdict_of s ds =
       bound = nat_le (count_by (is_traitor s) (generals s.generals)) s.bound;
     }
 
--- Returns the chronicle of a world: its letters, its accesses, what each lieutenant decides from the chains, and the
--- verdict.
+-- Returns the chronicle of a world: its letters, its accesses, the lieutenants' decisions from the chains, and the
+-- verdict on these.
 abbrev pub signed_chronicle_of : World → Chronicle
 signed_chronicle_of w = record {
   scenario = w.scenario;

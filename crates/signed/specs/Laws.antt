@@ -20,7 +20,7 @@ use Rattle.signed.specs.Contexts.{signed_context_numbers}
 use Rattle.signed.specs.Sent.{Sent, sent_by}
 use Rattle.signed.specs.Kind.{signed_kind, played, sent_after, held_in, accepted_in}
 
--- Returns the chains of these dispatches.
+-- Returns the chains in this list, without their receivers.
 abbrev pub chains_in : List Dispatch → List Chain
 chains_in dispatches = map (λ x. x.chain) dispatches
 
@@ -30,15 +30,15 @@ pub record IsSentBy (sent : Sent) (g last : ℕ) (ch : Chain) : Type 0 where
   pub early : round ≤ last
   pub there : Among ch (chains_in (sent_by sent round g))
 
--- States that a chain that general `g` sent in round `r` is unforged. Distinct generals signed it, the commander first
--- and `g` last. Each of its signers has himself sent the beginning of the chain that ends with his signature.
+-- States that a chain that general `g` sent in round `r` is unforged. Different generals signed it, the commander first
+-- and `g` last. Each of them has himself sent the chain up to his signature, in this round or an earlier one.
 pub record IsUnforged (s : Scenario) (sent : Sent) (r g : ℕ) (ch : Chain) : Type 0 where
   pub chain : IsChain s.generals s.commander ch
   pub last : (u : List ℕ) × (ch.signers ≡ u ++ g ∷ [])
   pub own : (u : List ℕ) (h : ℕ) (v : List ℕ) → ch.signers ≡ u ++ h ∷ v →
       IsSentBy sent h r (record { order = ch.order; signers = u ++ h ∷ [] })
 
--- States that in every world all chains are unforged, whatever events happen and whatever traitors do.
+-- States that in every world all chains are unforged, whatever the traitors do.
 abbrev pub ChainsAreUnforged : Type 0
 ChainsAreUnforged = (s : Scenario) (events : List Event) (r g : ℕ) (ch : Chain) → IsScenario s →
     Among ch (chains_in (sent_by (sent_after s events) r g)) → IsUnforged s (sent_after s events) r g ch
@@ -54,9 +54,9 @@ pub record ChainsAreFew : Type 0 where
   pub few : (s : Scenario) (events : List Event) (r g : ℕ) → IsScenario s →
       length (sent_by (sent_after s events) r g) ≤ most_entries
 
--- States the agreement theorem for signed worlds (TOPLAS 1982, Theorem 2). In a finished world with at most m traitors
--- among at least m + 2 generals the loyal lieutenants accept the same orders and decide alike, and they obey a loyal
--- commander. The same holds after every punctual list of events that closes all rounds.
+-- States the agreement theorem for signed worlds (TOPLAS 1982, Theorem 2). Suppose a world is finished, with at most m
+-- traitors among at least m + 2 generals. Then the loyal lieutenants accept the same orders, decide on the same one,
+-- and obey a loyal commander. After punctual events that close all rounds, the world is finished.
 pub record SignedWorldsAgree : Type 0 where
   pub full : (s : Scenario) (events : List Event) → IsPunctual signed_kind s events → (played s events).full ≡ true
   pub agree : (s : Scenario) (events : List Event) → IsScenario s → IsSignedBound s.generals s.bound (is_traitor s) →
@@ -66,8 +66,8 @@ pub record SignedWorldsAgree : Type 0 where
       IsPunctual signed_kind s events → length (played s events).closed ≡ suc s.bound →
       SignedAgree s.generals s.commander s.order (is_traitor s) (accepted_in s (played s events).closed)
 
--- States that no general holds more than 384 chains, which is how many an entry can name, and that their numbers fit
--- into a context of 4,096 bytes.
+-- States that no general holds more than 384 chains, which is how many an entry's index can name, and that a context of
+-- 4,096 bytes has room for them.
 pub record HeldChainsAreFew : Type 0 where
   pub held : (s : Scenario) (events : List Event) (g : ℕ) → IsScenario s → g < s.generals →
       length (played s events).closed ≤ s.bound → length (held_in s (played s events).closed g) ≤ most_held
@@ -76,9 +76,9 @@ pub record HeldChainsAreFew : Type 0 where
       4 * length (signed_context_numbers s.generals s.bound s.commander g round (held_in s (played s events).closed g))
       ≤ context_size
 
--- States that the machine, which knows only the signers of the chains held, accepts an entry exactly if `chain_of` has
--- a chain for it. An acting general has at most eight entries, and each has a chain. When the round is closed, he has
--- sent the chains of all his entries.
+-- States that the machine, which knows only the signers of the chains held, accepts an entry exactly if the general may
+-- sign a chain by it (`chain_of`). An activation has at most eight entries. When the round is closed, the chains of all
+-- of them are sent.
 pub record SignedEntriesAreSent : Type 0 where
   pub agree : (s : Scenario) (events : List Event) (g : ℕ) (a : Activation) (e : Entry) → IsScenario s →
       slice_get (played s events).parts g ≡ Some (Acting a) →
@@ -94,6 +94,6 @@ pub record SignedEntriesAreSent : Type 0 where
       sent_by (sent_after s (events ++ Close ∷ [])) (suc (length (played s events).closed)) g
       ≡ dispatched s.generals s.commander g (held_in s (played s events).closed g) a.state.entries
 
--- States that the chains listed for a lieutenant carry just the orders that he accepts.
+-- States that the chains listed for a lieutenant as bringing him orders have exactly the orders that he accepts.
 abbrev pub AcceptedOrdersDecide : Type 0
 AcceptedOrdersDecide = (c : Chronicle) (p : ℕ) → orders (chains_of c p) ≡ accepted_in c.scenario c.letters p

@@ -7,7 +7,7 @@ use Rattle.world.specs.KindLists.{IsComplete, replay_world}
 use Rattle.signed.specs.Kind.{signed_kind, played}
 use Rattle.signed.specs.Chronicle.{signed_chronicle_of}
 
--- States that the chronicle of a complete run is the chronicle of the replay of its own accesses.
+-- States that a complete run has the same chronicle as the replay of its own accesses.
 abbrev pub SignedChroniclesAreReplays : Type 0
 SignedChroniclesAreReplays = (s : Scenario) (events : List Event) → IsScenario s → IsComplete signed_kind s events →
     signed_chronicle_of (played s events) ≡ signed_chronicle_of (replay_world signed_kind s (played s events).ledger)

@@ -17,13 +17,14 @@ use Rattle.signed.specs.Kind.{signed_kind, played, held_in, accepted_in}
 use Rattle.signed.specs.Chronicle.{signed_decisions, signed_verdict_of}
 use Rattle.signed.specs.Laws.{chains_in, IsUnforged}
 
--- States that the letter is possible in the round after these closed rounds. A loyal general's letter is the one that
--- he has to write. A traitor's letter may be any with at most eight entries, whether or not a program would write it.
+-- States that a letter is possible for general `g` in the round after these closed rounds. If he is loyal, it must be
+-- the letter that SM(m) requires. If he is a traitor, it may be any letter with at most eight entries, even one that no
+-- program could write.
 pub record IsAnyLetter (s : Scenario) (before : List (List Letter)) (g : ℕ) (l : Letter) : Type 0 where
   pub loyal : is_traitor s g ≡ false → l ≡ loyal_letter signed_kind s before g
   pub few : is_traitor s g ≡ true → length l.outbox.entries ≤ most_entries
 
--- States that each letter is possible in its round.
+-- States that each letter is possible (`IsAnyLetter`) in its round.
 abbrev pub AreAnyLetters : Scenario → List (List Letter) → Type 0
 AreAnyLetters s closed = (k g : ℕ) (row : List Letter) (l : Letter) → slice_get closed k ≡ Some row → g < s.generals →
     letter_of row g ≡ Some l → IsAnyLetter s (take k closed) g l
@@ -33,9 +34,9 @@ abbrev pub HaveLoyalLetters : Scenario → List (List Letter) → Type 0
 HaveLoyalLetters s closed = (k g : ℕ) (row : List Letter) → slice_get closed k ≡ Some row → g < s.generals →
     is_traitor s g ≡ false → letter_of row g ≡ Some (loyal_letter signed_kind s (take k closed) g)
 
--- States what follows from possible letters, and that the letters of every world are possible. All chains are unforged,
--- and accepted orders, chains sent and chains held are few. After the last round the loyal lieutenants agree, as the
--- verdict says, if there are at most m traitors among at least m + 2 generals.
+-- States that the letters of every world are possible (`IsAnyLetter`), and what follows from possible letters. All
+-- chains are unforged, and there are few accepted orders, chains sent and chains held. After the last round the loyal
+-- lieutenants agree, and the verdict says so, if there are at most m traitors among at least m + 2 generals.
 pub record WhateverTraitorsWrite : Type 0 where
   pub written : (s : Scenario) (events : List Event) → IsScenario s → AreAnyLetters s (played s events).closed
   pub unforged : (s : Scenario) (closed : List (List Letter)) (r g : ℕ) (ch : Chain) → s.commander < s.generals →

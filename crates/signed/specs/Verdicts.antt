@@ -10,8 +10,8 @@ use Rattle.signed.specs.Agreement.{IsSignedBound}
 use Rattle.signed.specs.Kind.{played}
 use Rattle.signed.specs.Chronicle.{signed_decisions, signed_verdict_of, signed_chronicle_of}
 
--- States what the fields of a verdict mean. The verdict says nothing about obedience exactly if the commander is a
--- traitor. In a finished world with at most m traitors the decisions agree, and the verdict says so.
+-- States what the fields of a verdict mean. `obeyed` is `None` exactly if the commander is a traitor. In a finished
+-- world with at most m traitors the loyal lieutenants agree, and the verdict says so.
 pub record SignedVerdictsMean : Type 0 where
   pub bound : (s : Scenario) (ds : List ℕ) →
       ((signed_verdict_of s ds).bound ≡ true) ↔ (count_by (is_traitor s) (generals s.generals) ≤ s.bound)

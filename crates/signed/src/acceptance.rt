@@ -1,4 +1,4 @@
-//! The orders that a lieutenant accepts by SM(m), and what he decides from them.
+//! Computes the orders that a lieutenant accepts by SM(m), and his decision from them.
 ghost use Rattle.std.specs.Prelude.{◌≡◌, ◌≤◌, ◌<◌, ℕ, List, suc, length};
 ghost use Rattle.label.specs.Labels.{on};
 ghost use Rattle.signed.specs.Accepted.{accepted, decided};
@@ -10,8 +10,8 @@ use crate::sent_chains::{Sending, SentRound};
 use crate::sets::has;
 use arrayvec::ArrayVec;
 
-/// Returns the orders that a general accepts in the first `rounds` of the sent rounds, but at most the first 8.
-/// Allocates no memory.
+/// Returns the first 8 different orders that a general accepts in the first `rounds` rounds. `sent` has the chains sent
+/// in each round. It allocates no memory.
 pub(crate) fn accepted(sent: &[SentRound], rounds: usize, general: u8) -> ArrayVec<u32, 8>
     requires rounds { rounds ≤ length sent.now }
     requires general { general < 13 }
@@ -24,7 +24,7 @@ pub(crate) fn accepted(sent: &[SentRound], rounds: usize, general: u8) -> ArrayV
     orders
 }
 
-/// Appends the orders that a general accepts from the chains of one round, up to 8 orders in all. `number` is the
+/// Appends the orders that a general accepts from the chains sent in one round, until there are 8. `number` is the
 /// round's number, counted from 1.
 fn add_round(orders: &mut ArrayVec<u32, 8>, round: &SentRound, number: usize, general: u8)
     requires { general < 13 }
@@ -36,8 +36,8 @@ fn add_round(orders: &mut ArrayVec<u32, 8>, round: &SentRound, number: usize, ge
     }
 }
 
-/// Appends the orders that a general accepts from the chains of one sender in a round, up to 8 orders in all. `number`
-/// is the round's number, counted from 1.
+/// Appends the orders that a general accepts from the chains that one sender sent in a round, until there are 8.
+/// `number` is the round's number, counted from 1.
 fn add_sending(orders: &mut ArrayVec<u32, 8>, sending: &Sending, number: usize, general: u8)
     requires { general < 13 }
     ensures { (seen : List ℕ) → AreFirst orders.old.items seen →
@@ -50,7 +50,7 @@ fn add_sending(orders: &mut ArrayVec<u32, 8>, sending: &Sending, number: usize, 
     }
 }
 
-/// Appends an order if the list has fewer than 8 orders and does not contain it.
+/// Appends an order, unless the list has it already or has 8 orders.
 pub(crate) fn add(orders: &mut ArrayVec<u32, 8>, order: u32)
     ensures { (seen : List ℕ) → AreFirst orders.old.items seen → AreFirst orders.new.items (added_also seen order) }
 {
@@ -59,14 +59,14 @@ pub(crate) fn add(orders: &mut ArrayVec<u32, 8>, order: u32)
     }
 }
 
-/// Checks whether the list contains the order.
+/// Returns whether the list contains the order.
 pub(crate) fn is_among(orders: &[u32], order: u32) -> bool
     ensures { result ≡ on orders.now order }
 {
     orders.iter().any(|x| *x == order)
 }
 
-/// Returns what is decided from a list of accepted orders: the order if there is exactly one, and otherwise 0
+/// Returns the decision of a lieutenant who accepted these orders: the order if there is exactly one, otherwise 0
 /// (RETREAT).
 pub(crate) fn decided(orders: &[u32]) -> u32
     ensures { result ≡ decided orders.now }

@@ -1,4 +1,5 @@
-//! The chains by which a lieutenant accepts his orders: for each order the first chain that counts.
+//! Finds the chains by which a lieutenant accepts his orders. For each order it is the first chain with this order that
+//! counts for him.
 ghost use Rattle.std.specs.Prelude.{◌≡◌, ◌<◌, suc, map, IfOk, OnOk};
 ghost use Rattle.label.specs.Labels.{on};
 ghost use Rattle.signed.specs.Accepted.{came};
@@ -14,7 +15,7 @@ use crate::chronicle::SignedChronicle;
 use crate::sets::has;
 use std::alloc::{AllocError, Global};
 
-/// Checks whether one of the chains carries the order.
+/// Returns whether one of the chains has this order.
 #[tactic(auto, using(crate::proofs::Gathering::one_brings, crate::proofs::Gathering::none_brings))]
 fn bring(chains: &[&Chain], order: u32) -> bool
     ensures { result ≡ on (orders (lent chains.now)) order }
@@ -27,7 +28,7 @@ fn bring(chains: &[&Chain], order: u32) -> bool
     false
 }
 
-/// Appends a chain if none of the chains carries its order.
+/// Appends `chain`, unless one of the chains already has its order. Fails with `AllocError` if it runs out of memory.
 #[tactic(auto, using(crate::proofs::Gathering::also_pushed, crate::proofs::Gathering::also_kept))]
 fn add<'a>(chains: &mut Vec<&'a Chain>, chain: &'a Chain) -> Result<(), AllocError>
     ensures { OnOk result (lent chains.new.items ≡ gathered_also (lent chains.old.items) chain.now) }
@@ -38,7 +39,8 @@ fn add<'a>(chains: &mut Vec<&'a Chain>, chain: &'a Chain) -> Result<(), AllocErr
     Ok(())
 }
 
-/// Appends the chains of one sender in a round that count for a general and carry an order that no chain carries yet.
+/// Appends those chains of one sender that this general received in this round and by which he accepts a new order. A
+/// new order is one that no chain in `chains` has. Fails with `AllocError` if it runs out of memory.
 fn add_sending<'a>(
     chains: &mut Vec<&'a Chain>,
     sending: &'a [(Chain, u16)],
@@ -57,7 +59,8 @@ fn add_sending<'a>(
     Ok(())
 }
 
-/// Appends the chains of a round that count for a general and carry an order that no chain carries yet.
+/// Appends those chains that this general received in this round and by which he accepts a new order. A new order is
+/// one that no chain in `chains` has. Fails with `AllocError` if it runs out of memory.
 fn add_round<'a>(
     chains: &mut Vec<&'a Chain>,
     chronicle: &'a SignedChronicle,
@@ -76,8 +79,8 @@ fn add_round<'a>(
     Ok(())
 }
 
-/// Returns the chains by which a general accepts his orders in the first `rounds` rounds, in the order in which he
-/// accepts them.
+/// Returns the chains by which a general accepts orders in the first `rounds` rounds, one for each order, in the order
+/// of acceptance.
 ///
 /// # Errors
 ///
@@ -100,8 +103,8 @@ pub fn bringing_in(
     Ok(chains)
 }
 
-/// Returns the chains by which a general accepts his orders in the whole campaign, in the order in which he accepts
-/// them.
+/// Returns the chains by which a general accepts orders in the whole campaign, one for each order, in the order of
+/// acceptance. Fails with `AllocError` if it runs out of memory.
 pub(crate) fn bringing(
     alloc: Global,
     chronicle: &SignedChronicle,

@@ -1,4 +1,4 @@
-//! The context and the empty outbox that a general has at the start of a round.
+//! Makes the context and the empty outbox that a general has at the start of a round.
 ghost use Rattle.std.specs.Prelude.{◌≡◌, ◌≤◌, ◌<◌, [], length, IfOk};
 ghost use Rattle.signed.specs.Sending.{context_behind, held_of, relay_behind, AreRows};
 
@@ -9,10 +9,11 @@ use outbox::Outbox;
 use round::Scenario;
 use std::alloc::{AllocError, Global};
 
-/// The number at byte 28 of a context in a signed campaign.
+/// The 32-bit number at byte 28 of a context that says that the campaign is signed.
 const SIGNED: u32 = 1;
 
-/// Returns the context of a general in the round after the sent rounds. It contains the chains that he holds then.
+/// Returns a general's context at the start of the round after those in `sent`. It contains the chains in `held`, which
+/// he received in these rounds. Fails with `AllocError` if it runs out of memory.
 pub(crate) fn context(
     alloc: Global,
     scenario: &Scenario,
@@ -42,7 +43,8 @@ pub(crate) fn context(
     context_telling(alloc, &header, numbers.as_slice())
 }
 
-/// Returns the outbox of a general at the start of the round after the sent rounds. It has no entries.
+/// Returns a general's outbox at the start of the round after those in `sent`. It contains no orders, and knows the
+/// signers of the chains in `held`, which he may pass on. Fails with `AllocError` if it runs out of memory.
 pub(crate) fn outbox(
     alloc: Global,
     scenario: &Scenario,

@@ -15,9 +15,9 @@ use round::Scenario;
 use std::alloc::{AllocError, Global};
 use world::{Schedule, play_listed, play_named};
 
-/// Plays the signed campaign of a scenario by a schedule and returns its chronicle. In each round the schedule's
-/// entries come first, one by one. Then come the letters of all loyal generals and the remaining instructions of the
-/// traitors, in ascending order of the generals.
+/// Returns the chronicle of the scenario's signed campaign, played by a schedule. In each round the entries of the
+/// schedule's line for this round are played one by one. Then all loyal generals post their letters, ascending, and all
+/// traitors run to their ends, ascending.
 ///
 /// # Errors
 ///
@@ -45,9 +45,9 @@ pub fn play_signed(
     }
 }
 
-/// Plays the signed campaign of a scenario so that the named generals make their accesses in the given order, and
-/// returns its chronicle. `names` lists the generals by round. A round without a list has no names, and lists beyond
-/// the last round are ignored.
+/// Returns the chronicle of the scenario's signed campaign, replayed. `names` lists for each round the generals who
+/// make accesses, in the order of these accesses. Traitors make their further accesses at the end of the round,
+/// ascending. Lists for rounds after the last are ignored.
 ///
 /// # Errors
 ///
@@ -77,7 +77,8 @@ pub fn replay_signed(
     }
 }
 
-/// Returns the world of a signed campaign after the last round, played by a schedule.
+/// Returns the finished world of a signed campaign, played by a schedule. Fails with `AllocError` if it runs out of
+/// memory.
 fn played_listed(
     alloc: Global,
     scenario: Scenario,
@@ -92,8 +93,8 @@ fn played_listed(
     Ok(world)
 }
 
-/// Returns the world of a signed campaign after the last round, in which the generals that `names` lists by round make
-/// their accesses in that order.
+/// Returns the finished world of a signed campaign, replayed. `names` lists for each round the generals who make
+/// accesses, in the order of these accesses. Fails with `AllocError` if it runs out of memory.
 fn played_named(
     alloc: Global,
     scenario: Scenario,

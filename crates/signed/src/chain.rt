@@ -1,4 +1,4 @@
-//! Chains of signatures: an order and the generals who signed it.
+//! Defines chains: an order and the generals who signed it.
 ghost use Rattle.std.specs.Prelude.{◌≡◌, ℕ, cond, length};
 ghost use Rattle.std.specs.Int.{bit_at};
 ghost use Rattle.label.specs.Labels.{on};
@@ -12,8 +12,8 @@ use crate::signer::Signer;
 use label::Label;
 use std::marker::Model;
 
-/// A chain: an order and the 1 to 13 distinct generals who signed it, the first signature first. To make or extend a
-/// chain one needs a signer.
+/// A chain: an order and the 1 to 13 different generals who signed it, the first signature first. Only the holder of a
+/// general's `Signer` can add his signature.
 #[derive(Drop)]
 pub struct Chain {
     order: u32,
@@ -32,7 +32,8 @@ impl Model for Chain {
 }
 
 impl Chain {
-    /// Returns the order with the signature of `signer` as its only one, or `None` if he is not the commander.
+    /// Returns a chain of this order with one signature, which is made with `signer`. Returns `None` if the signer's
+    /// general is not the commander.
     pub fn begin(signer: &Signer, order: u32) -> Option<Chain>
         ensures { result ≡ begin signer.now.commander signer.now.general order }
     {
@@ -45,7 +46,8 @@ impl Chain {
         })
     }
 
-    /// Returns the chain extended by the signature of `signer`, or `None` if he has already signed it.
+    /// Returns the chain with one more signature, which is made with `signer`. Returns `None` if the signer's general
+    /// has already signed it.
     pub fn prolong(&self, signer: &Signer) -> Option<Chain>
         ensures { result ≡ prolong self.now signer.now.general }
     {
@@ -66,7 +68,7 @@ impl Chain {
         self.order
     }
 
-    /// Returns the set of the generals who signed the chain, with bit `g` for general `g`.
+    /// Returns the generals who signed the chain as a set: bit g is set for general g.
     pub(crate) fn bits(&self) -> u16
         ensures same { result ≡ signer_bits self.now }
         ensures each { (g : ℕ) → bit_at result g ≡ cond (on self.now.signers g) 1 0 }
@@ -82,8 +84,8 @@ impl Chain {
         self.signers.generals()
     }
 
-    /// Checks whether the chain counts for a general in round `round`: it has exactly `round` signatures, and none is
-    /// his.
+    /// Returns whether the chain counts for a general in round `round`: it has exactly `round` signatures, and none of
+    /// them is his.
     pub(crate) fn counts(&self, round: usize, general: u8) -> bool
         ensures { result ≡ counts round general self.now }
     {

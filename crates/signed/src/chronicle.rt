@@ -1,4 +1,4 @@
-//! The chronicle of a finished signed campaign: letters, chains, accesses, decisions and verdict.
+//! Defines the chronicle of a finished signed campaign: its letters, chains, accesses, decisions and verdict.
 ghost use Rattle.std.specs.Prelude.{◌≡◌, ◌≤◌, ◌<◌, map};
 ghost use Rattle.signed.specs.Sending.{dispatch_of};
 ghost use Rattle.signed.specs.Sent.{sent_by, sent_in};
@@ -11,8 +11,8 @@ use round::{Round, Scenario};
 use std::marker::Model;
 use world::Verdict;
 
-/// The chronicle of a finished signed campaign: its letters and the chains that they sent, its accesses, the decisions
-/// of the lieutenants, and the verdict on them.
+/// The record of a finished signed campaign: its letters and the chains sent with them, its accesses, the lieutenants'
+/// decisions, and the verdict on these.
 #[derive(Drop)]
 pub struct SignedChronicle {
     pub(crate) scenario: Scenario,
@@ -49,21 +49,21 @@ impl SignedChronicle {
         &self.scenario
     }
 
-    /// Returns the letters by round, from the first round on, and within a round by general.
+    /// Returns the letters by round, the first round first, and within a round by general.
     pub fn letters(&self) -> &[Round]
         ensures { result.now ≡ self.now.letters }
     {
         self.letters.as_slice()
     }
 
-    /// Returns the accesses in the board's order.
+    /// Returns the accesses of all rounds, in the board's order.
     pub fn accesses(&self) -> &[Access]
         ensures { result.now ≡ self.now.accesses }
     {
         self.accesses.as_slice()
     }
 
-    /// Returns the decisions of the lieutenants, in ascending order of the lieutenants.
+    /// Returns the order on which each lieutenant decided, ascending by lieutenant.
     pub fn decisions(&self) -> &[u32]
         ensures { result.now ≡ self.now.decisions }
     {
@@ -77,9 +77,8 @@ impl SignedChronicle {
         self.verdict
     }
 
-    /// Returns the chains that a general sent in a round, in the order of his entries. Each chain comes with its
-    /// receivers, with bit `g` for general `g`. Rounds are counted from 1. The result is empty if there is no such
-    /// round or general.
+    /// Returns the chains that a general sent in a round, counted from 1, each with its receivers. Bit g of the
+    /// receivers means general g. The result is empty if there is no such round or general.
     pub fn sent(&self, general: u8, round: usize) -> &[(Chain, u16)]
         ensures { map dispatch_of result.now ≡ sent_by (sent_in self.now.scenario self.now.letters) round general }
     {

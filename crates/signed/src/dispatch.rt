@@ -1,4 +1,5 @@
-//! Turns the entries of a letter into the chains that it sends, each signed by the sender.
+//! Turns the entries of a general's outbox into chains with his signature. An entry signs a new order, or passes on a
+//! chain that he holds.
 ghost use Rattle.std.specs.Prelude.{◌≡◌, ◌≤◌, ◌+◌, ◌++◌, map, length, IfOk, OnOk, vec_len};
 ghost use Rattle.signed.specs.Entries.{bits_of, chain_of, dispatched, receivers_in, sent_by};
 ghost use Rattle.signed.specs.Sending.{dispatch_of, named};
@@ -11,8 +12,9 @@ use crate::signer::Signer;
 use semantics::Entry;
 use std::alloc::{AllocError, Global};
 
-/// Returns the chains that the entries of a general send. Each chain ends with his signature. It goes to the receivers
-/// that the entry names and that have not signed it.
+/// Returns the chains that a general sends, one for each of his outbox's entries that he may sign, with his signature
+/// as the last. A chain goes to those receivers of its entry who have not signed it. `held` are the chains that he
+/// received earlier. Fails with `AllocError` if it runs out of memory.
 pub(crate) fn dispatched(
     alloc: Global,
     signer: &Signer,
@@ -32,7 +34,8 @@ pub(crate) fn dispatched(
     Ok(Sending { chains })
 }
 
-/// Appends the chain that an entry sends, with its receivers, if the entry sends one.
+/// Appends the chain that an entry of the outbox sends, with its receivers. Appends nothing if the general may not sign
+/// it or holds no such chain. Fails with `AllocError` if it runs out of memory.
 fn send(
     chains: &mut Vec<(Chain, u16)>,
     signer: &Signer,
@@ -56,8 +59,8 @@ fn send(
     }
 }
 
-/// Returns the chain that an entry sends. Returns `None` if the general may not sign it or holds no chain at the
-/// entry's index.
+/// Returns the chain that an entry of the outbox sends, with the general's signature. Returns `None` if he may not sign
+/// it, or holds no chain at the index that the entry names.
 fn chain_of(signer: &Signer, held: &Held, entry: Entry) -> Option<Chain>
     ensures { result ≡ chain_of signer.now.commander signer.now.general held.now.chains entry }
 {
@@ -70,7 +73,7 @@ fn chain_of(signer: &Signer, held: &Held, entry: Entry) -> Option<Chain>
     }
 }
 
-/// Returns the set of the generals that an entry names as receivers, with bit `g` for general `g`.
+/// Returns the receivers that an entry names, as a set: bit g is set for general g.
 fn bits_of(entry: Entry) -> u16
     ensures { result ≡ bits_of entry }
 {
@@ -80,8 +83,8 @@ fn bits_of(entry: Entry) -> u16
     }
 }
 
-/// Returns the receivers of a chain: the generals below `generals` that are in the set `bits` and have not signed the
-/// chain.
+/// Returns the receivers of a chain as a set: the generals below `generals` that are in the set `bits` and have not
+/// signed the chain.
 fn receivers(generals: u8, bits: u16, chain: &Chain) -> u16
     requires { generals ≤ 13 }
     ensures { named result ≡ receivers_in generals bits chain.now }

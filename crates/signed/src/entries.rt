@@ -1,4 +1,4 @@
-//! The entries of a loyal general's letter: which chains he signs and passes on by SM(m).
+//! Makes the entries of a loyal general's outbox: the chains that he signs and sends by SM(m).
 ghost use Rattle.std.specs.Prelude.{◌≡◌, ◌≤◌, ◌<◌, ◌++◌, ◌∷◌, [], ℕ, List, drop, length, suc};
 ghost use Rattle.label.specs.Generals.{IsGenerals};
 ghost use Rattle.signed.specs.Loyal.{bits_but, loyal_entries, passes};
@@ -14,9 +14,9 @@ use arrayvec::ArrayVec;
 use outbox::Outbox;
 use round::Scenario;
 
-/// Enters the chains that a loyal general has to sign in the round after the sent rounds. In round 1 the commander
-/// enters his order. In each later round a lieutenant enters, for each order that he accepted in the round before, the
-/// first chain that carried it. Allocates no memory.
+/// Enters into a loyal general's outbox the chains that he must sign in the round after those in `sent`. In round 1 the
+/// commander signs his order. In a later round a lieutenant signs, for each order that he accepted in the round before,
+/// the first chain that brought it. It allocates no memory.
 pub(crate) fn enter(
     outbox: &mut Outbox,
     scenario: &Scenario,
@@ -50,8 +50,8 @@ pub(crate) fn enter(
     }
 }
 
-/// Enters chains of round `rounds` for a general, with his signature and addressed to all generals who are not on the
-/// chain then. He enters the first chain that counts for each order that is not in `before`.
+/// Enters chains that a general received in round `rounds` into his outbox, to be signed by him and sent to all who
+/// have not signed. For each order that is not in `before`, it enters the first chain that counts for him.
 fn pass_on(
     outbox: &mut Outbox,
     held: &Held,
@@ -81,7 +81,8 @@ fn pass_on(
     }
 }
 
-/// Returns the generals who are not on the chain once `general` has signed it, with bit `g` for general `g`.
+/// Returns the generals who have not signed the chain once `general` has also signed it, as a set: bit g is set for
+/// general g.
 fn receivers(generals: u8, chain: &Chain, general: u8) -> u16
     requires size { generals ≤ 13 }
     requires inside { general < generals }
@@ -90,7 +91,7 @@ fn receivers(generals: u8, chain: &Chain, general: u8) -> u16
     sets::without(sets::below(generals), sets::with(chain.bits(), general))
 }
 
-/// Returns the generals below `generals` that are not in `but`, with bit `g` for general `g`.
+/// Returns the generals below `generals` that are not in `but`, as a set: bit g is set for general g.
 fn others(generals: u8, but: &[u8]) -> u16
     requires size { generals ≤ 13 }
     requires but { IsGenerals but.now }

@@ -1,4 +1,5 @@
-//! The text that explains how the lieutenants of a signed campaign decide: accepted orders, choices and the verdict.
+//! Writes the text that explains how the lieutenants of a signed campaign decide: the orders they accept, their
+//! decisions and the verdict.
 ghost use Rattle.std.specs.Prelude.{◌≡◌, ◌<◌, ◌++◌, ◌∷◌, IfOk, OnOk, codes, string_bytes};
 ghost use Rattle.std.specs.Fmt.{decimal};
 ghost use Rattle.std.specs.List.{flat_map};
@@ -18,7 +19,7 @@ use std::alloc::{AllocError, Global};
 use world::Verdict;
 use world::judgement::traitors;
 
-/// Writes each general after a dot.
+/// Writes each general's number with a dot before it, such as `.2.5`. Fails with `AllocError` if it runs out of memory.
 fn push_further(lines: &mut String, generals: &[u8]) -> Result<(), AllocError>
     ensures { OnOk result (string_bytes lines.new ≡ string_bytes lines.old
         ++ flat_map (λ g. codes "." ++ decimal g) generals.now) }
@@ -29,7 +30,7 @@ fn push_further(lines: &mut String, generals: &[u8]) -> Result<(), AllocError>
     Ok(())
 }
 
-/// Writes the generals, joined by dots.
+/// Writes the generals' numbers joined by dots, such as `0.2.5`. Fails with `AllocError` if it runs out of memory.
 fn push_signers(lines: &mut String, generals: &[u8]) -> Result<(), AllocError>
     ensures { OnOk result (string_bytes lines.new ≡ string_bytes lines.old ++ dotted generals.now) }
 {
@@ -42,7 +43,8 @@ fn push_signers(lines: &mut String, generals: &[u8]) -> Result<(), AllocError>
     }
 }
 
-/// Writes the line of an accepted order: the order and the signers of the chain that carried it.
+/// Writes the line of an accepted order, with the signers of the chain that brought it, such as
+/// `accepts 1, signed 0.2`. Fails with `AllocError` if it runs out of memory.
 fn push_accepted(lines: &mut String, chain: &Chain) -> Result<(), AllocError>
     ensures { OnOk result (string_bytes lines.new ≡ string_bytes lines.old ++ accepted_line chain.now) }
 {
@@ -52,7 +54,7 @@ fn push_accepted(lines: &mut String, chain: &Chain) -> Result<(), AllocError>
     lines.push_str("\n")
 }
 
-/// Writes the lines of the orders that these chains carry, one line for each chain.
+/// Writes a line for each chain, such as `accepts 1, signed 0.2`. Fails with `AllocError` if it runs out of memory.
 fn push_all_accepted(lines: &mut String, chains: &[&Chain]) -> Result<(), AllocError>
     ensures { OnOk result (string_bytes lines.new ≡ string_bytes lines.old
         ++ flat_map accepted_line (lent chains.now)) }
@@ -63,7 +65,8 @@ fn push_all_accepted(lines: &mut String, chains: &[&Chain]) -> Result<(), AllocE
     Ok(())
 }
 
-/// Returns the order if there is exactly one chain, and otherwise 0 (RETREAT).
+/// Returns the decision of a lieutenant who accepted orders by these chains: the order if there is exactly one chain,
+/// otherwise 0 (RETREAT).
 fn chosen(chains: &[&Chain]) -> u32
     ensures { result ≡ decided (orders (lent chains.now)) }
 {
@@ -73,7 +76,8 @@ fn chosen(chains: &[&Chain]) -> u32
     }
 }
 
-/// Returns the words that say from how many orders the choice was made.
+/// Returns the words that say whether a lieutenant accepted no order, one order or several, for the line of his
+/// decision.
 fn choice_words(chains: &[&Chain]) -> &'static str
     ensures { result.now ≡ choice_words (orders (lent chains.now)) }
 {
@@ -84,14 +88,15 @@ fn choice_words(chains: &[&Chain]) -> &'static str
     }
 }
 
-/// Returns the words that mark the decision of a traitor, or a space for a loyal lieutenant.
+/// Returns ` traitor ` if the lieutenant is a traitor, and a space if he is loyal.
 fn mark(is_traitor: bool) -> &'static str
     ensures { result.now ≡ mark is_traitor }
 {
     if is_traitor { " traitor " } else { " " }
 }
 
-/// Writes the line of a lieutenant's decision.
+/// Writes the line of a lieutenant's decision, such as `decision 1 0: no order, so 0`. `chains` are those by which he
+/// accepted orders. Fails with `AllocError` if it runs out of memory.
 fn push_choice(
     lines: &mut String,
     general: u8,
@@ -107,7 +112,8 @@ fn push_choice(
     write!(lines, "decision {general}{mark}{order}{words}")
 }
 
-/// Writes the part of a lieutenant: his number, the orders that he accepts, and his decision.
+/// Writes the lines about a lieutenant: his number, the orders that he accepts, and his decision. Fails with
+/// `AllocError` if it runs out of memory.
 fn push_lieutenant(
     alloc: Global,
     lines: &mut String,
@@ -137,7 +143,7 @@ fn yes_no(is_so: bool) -> &'static str
     if is_so { "yes" } else { "no" }
 }
 
-/// Returns the words that compare the number of traitors with the bound.
+/// Returns `at most ` if the number of traitors is within the bound, and `more than ` if not.
 #[tactic(auto, unfolding(book::specs::Explained::few_words))]
 fn few_words(is_so: bool) -> &'static str
     ensures { result.now ≡ few_words is_so }
@@ -145,7 +151,8 @@ fn few_words(is_so: bool) -> &'static str
     if is_so { "at most " } else { "more than " }
 }
 
-/// Writes the line of the bound: how many traitors there are, and whether they are at most the bound.
+/// Writes the line that compares the number of traitors with the bound, such as `bound yes: 1 traitors, at most 1`.
+/// `holds` says whether the number is within the bound. Fails with `AllocError` if it runs out of memory.
 fn push_traitors(lines: &mut String, scenario: &Scenario, holds: bool) -> Result<(), AllocError>
     ensures { OnOk result (string_bytes lines.new ≡ string_bytes lines.old ++ traitors_line scenario.now holds) }
 {
@@ -156,7 +163,7 @@ fn push_traitors(lines: &mut String, scenario: &Scenario, holds: bool) -> Result
     write!(lines, "bound {so}: {traitors} traitors, {few}{bound}\n")
 }
 
-/// Returns the line of IC1, which says whether the loyal lieutenants decide alike.
+/// Returns the line about IC1, which says whether all loyal lieutenants decide on the same order.
 fn alike_line(alike: bool) -> &'static str
     ensures { result.now ≡ alike_line alike }
 {
@@ -167,7 +174,8 @@ fn alike_line(alike: bool) -> &'static str
     }
 }
 
-/// Writes the line of IC2, which says whether the loyal lieutenants obey a loyal commander.
+/// Writes the line about IC2, which says whether the loyal lieutenants obey the commander. `obeyed` is `None` if the
+/// commander is a traitor. Fails with `AllocError` if it runs out of memory.
 fn push_obedience(lines: &mut String, order: u32, obeyed: Option<bool>) -> Result<(), AllocError>
     ensures { OnOk result (string_bytes lines.new ≡ string_bytes lines.old
         ++ obedience_line (obedience_of order obeyed)) }
@@ -189,7 +197,7 @@ fn push_obedience(lines: &mut String, order: u32, obeyed: Option<bool>) -> Resul
     }
 }
 
-/// Writes the lines of the bound, IC1 and IC2.
+/// Writes the lines about the bound, IC1 and IC2. Fails with `AllocError` if it runs out of memory.
 #[tactic(auto, unfolding(crate::specs::Explained::verdict_lines))]
 fn push_verdict(lines: &mut String, scenario: &Scenario, verdict: Verdict) -> Result<(), AllocError>
     ensures { OnOk result (string_bytes lines.new ≡ string_bytes lines.old ++ verdict_lines scenario.now verdict) }
@@ -199,7 +207,8 @@ fn push_verdict(lines: &mut String, scenario: &Scenario, verdict: Verdict) -> Re
     push_obedience(lines, scenario.order(), verdict.obeyed)
 }
 
-/// Returns the parts of all lieutenants, ascending.
+/// Returns the lines about all lieutenants, ascending: the orders that each accepts, and his decision. Fails with
+/// `AllocError` if it runs out of memory.
 fn all_lieutenants(alloc: Global, chronicle: &SignedChronicle) -> Result<String, AllocError>
     ensures { IfOk result (λ lines. string_bytes lines
         ≡ flat_map (acceptance_lines chronicle.now)
@@ -215,9 +224,9 @@ fn all_lieutenants(alloc: Global, chronicle: &SignedChronicle) -> Result<String,
     Ok(lines)
 }
 
-/// Returns the text that explains how a lieutenant of a signed campaign decides. It lists the orders that he accepts,
-/// each with the first chain that brought it to him, and ends with his decision. The text is empty if the general is
-/// not a lieutenant.
+/// Returns the text that explains how a lieutenant of a signed campaign decides. It has a line for each order that he
+/// accepts, with the signers of the first chain that brought it, and then a line for his decision. It is empty if the
+/// general is not a lieutenant.
 ///
 /// # Errors
 ///
@@ -237,10 +246,9 @@ pub fn explain_one_signed(
     Ok(lines)
 }
 
-/// Returns the text that explains how the lieutenants of a signed campaign decide. For each lieutenant, ascending, it
-/// lists the orders that he accepts, each with the first chain that brought it to him, and his decision. If a general
-/// is given, only his part is written. The last lines say whether the traitors are at most the bound, and whether IC1
-/// and IC2 hold.
+/// Returns the text that explains how the lieutenants of a signed campaign decide. For each lieutenant it lists the
+/// orders that he accepts, with the signers of the first chain that brought each, and his decision. If `general` is
+/// given, only this lieutenant is included. The last lines say whether the bound, IC1 and IC2 hold.
 ///
 /// # Errors
 ///

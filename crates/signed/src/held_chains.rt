@@ -1,4 +1,4 @@
-//! The chains that a general holds: those that he received in earlier rounds.
+//! Defines the chains that a general holds: all that he received in earlier rounds.
 ghost use Rattle.std.specs.Prelude.{◌≡◌, ◌≤◌, ◌<◌, ◌+◌, ◌*◌, ◌++◌, ◌∷◌, [], map, flat_map, length, slice_get, IfOk, OnOk, vec_len};
 ghost use Rattle.signed.specs.Contexts.{signer_bits};
 ghost use Rattle.signed.specs.Entries.{received};
@@ -10,12 +10,12 @@ use crate::sets::has;
 use std::alloc::{AllocError, Global};
 use std::marker::Model;
 
-/// The chains that a general received in earlier rounds, ordered by round, sender and entry, with repetitions. They are
-/// references to the chains that were sent, because one chain goes to up to twelve receivers.
+/// The chains that a general received in earlier rounds, ordered by round and by sender. The same chain may occur more
+/// than once. They are references to the chains that were sent, because one chain goes to up to twelve receivers.
 #[derive(Drop)]
 pub struct Held<'a> {
     chains: Vec<&'a Chain>,
-    /// How many of the chains were received before the last round.
+    /// How many of the chains the general received before the last of these rounds.
     earlier: usize,
 }
 
@@ -28,7 +28,8 @@ impl<'a> Model for Held<'a> {
 }
 
 impl<'a> Held<'a> {
-    /// Returns the chains that a general holds after the sent rounds.
+    /// Returns the chains that a general received in the rounds of `sent`. Fails with `AllocError` if it runs out of
+    /// memory.
     pub(crate) fn behind(
         alloc: Global,
         sent: &'a [SentRound],
@@ -54,14 +55,14 @@ impl<'a> Held<'a> {
         self.chains.len()
     }
 
-    /// Returns how many of the chains were received before the last round.
+    /// Returns how many of the chains the general received before the last closed round.
     pub(crate) fn earlier(&self) -> usize
         ensures { result ≡ self.now.earlier }
     {
         self.earlier
     }
 
-    /// Returns the chain at an index, if there is one.
+    /// Returns the chain at index `place`, or `None` if there are fewer chains.
     pub fn get(&self, place: usize) -> Option<&Chain>
         ensures { chain_in result ≡ slice_get self.now.chains place }
     {
@@ -71,7 +72,8 @@ impl<'a> Held<'a> {
         }
     }
 
-    /// Returns the signers of each chain, with bit `g` for general `g`.
+    /// Returns for each chain the generals who signed it, as a set: bit g is set for general g. Fails with `AllocError`
+    /// if it runs out of memory.
     pub(crate) fn signers(&self, alloc: Global) -> Result<Vec<u16>, AllocError>
         ensures { IfOk result (λ signers. signers.items ≡ map signer_bits self.now.chains) }
     {
@@ -82,7 +84,8 @@ impl<'a> Held<'a> {
         Ok(signers)
     }
 
-    /// Returns two numbers for each chain: its order, and its signers with bit `g` for general `g`.
+    /// Returns two numbers for each chain: its order, and the set of its signers, in which bit g is set for general g.
+    /// Fails with `AllocError` if it runs out of memory.
     pub(crate) fn numbers(&self, alloc: Global) -> Result<Vec<u32>, AllocError>
         ensures { IfOk result (λ numbers. numbers.items
             ≡ flat_map (λ ch. ch.order ∷ signer_bits ch ∷ []) self.now.chains) }
@@ -96,7 +99,7 @@ impl<'a> Held<'a> {
     }
 }
 
-/// Appends the chains of a round that the general received.
+/// Appends the chains that this general received in a round. Fails with `AllocError` if it runs out of memory.
 fn take_round<'a>(
     chains: &mut Vec<&'a Chain>,
     round: &'a SentRound,
@@ -112,7 +115,8 @@ fn take_round<'a>(
     Ok(())
 }
 
-/// Appends the chains of one sender in a round that the general received.
+/// Appends the chains that this general received from one sender in a round. Fails with `AllocError` if it runs out of
+/// memory.
 fn take<'a>(
     chains: &mut Vec<&'a Chain>,
     sending: &'a Sending,

@@ -1,4 +1,4 @@
-//! Judges a signed campaign: the lieutenants' decisions, the verdict on them, and the chronicle.
+//! Judges a signed campaign: computes the lieutenants' decisions, the verdict on them, and the chronicle.
 ghost use Rattle.std.specs.Prelude.{◌≡◌, ◌↔◌, IfSome, IsSome};
 ghost use Rattle.signed.specs.Chronicle.{signed_chronicle_of, signed_decisions, signed_verdict_of};
 ghost use Rattle.signed.specs.Promises.{AgreeUnderSignedBound};
@@ -13,10 +13,12 @@ use world::Verdict;
 use world::judgement::{alike, loyal_decisions, obeyed, traitors};
 
 impl SignedWorld {
-    /// Returns the decisions of the lieutenants, in ascending order of the lieutenants, from the chains sent so far. By
-    /// SM(m), where m is the bound (TOPLAS 1982), a lieutenant decides on the order that he accepted if it is the only
-    /// one, and otherwise on RETREAT. If the world is finished, with at least m + 2 generals and at most m traitors,
-    /// the loyal lieutenants decide alike, and they obey a loyal commander. Allocates no memory.
+    /// Returns the order on which each lieutenant decides from the chains sent so far, ascending by lieutenant. By
+    /// SM(m), where m is the bound (TOPLAS 1982), he decides on the order that he accepted if there is exactly one,
+    /// otherwise on RETREAT. It allocates no memory.
+    ///
+    /// Suppose the world is finished, and there are at least m + 2 generals and at most m traitors. Then all loyal
+    /// lieutenants decide on the same order, and on the commander's order if he is loyal.
     pub fn decisions(&self) -> ArrayVec<u32, 12>
         ensures values { result.items ≡ signed_decisions self.now.scenario self.now.closed }
         ensures agree { IsFinished self.now → AgreeUnderSignedBound self.now.scenario result.items }
@@ -32,8 +34,8 @@ impl SignedWorld {
         decisions
     }
 
-    /// Returns the chronicle of the campaign. Returns `None` if a round is still open, or if some loyal general had not
-    /// posted in a closed round. Allocates no memory.
+    /// Returns the chronicle of the world's campaign. Returns `None` if a round is open, or if a loyal general had not
+    /// posted in some closed round. It allocates no memory.
     pub fn chronicle(self) -> Option<SignedChronicle>
         ensures finished { IsSome result ↔ IsFinished self }
         ensures told { IfSome result (λ chronicle. chronicle ≡ signed_chronicle_of self) }
@@ -61,7 +63,7 @@ impl SignedWorld {
     }
 }
 
-/// Returns the verdict on the decisions of the lieutenants, which are in ascending order of the lieutenants.
+/// Returns the verdict on the lieutenants' decisions, which are given ascending by lieutenant.
 fn verdict(scenario: &Scenario, decisions: &[u32]) -> Verdict
     ensures { result ≡ signed_verdict_of scenario.now decisions.now }
 {

@@ -1,5 +1,5 @@
-//! Plays campaigns with signed messages by SM(m): chains of signatures, decisions and chronicles. The definitions are
-//! in specs/.
+//! Plays campaigns with signed messages by SM(m): makes chains of signatures, decisions and chronicles. The definitions
+//! are in specs/.
 #![tactic(auto)]
 
 mod acceptance;

@@ -9,7 +9,8 @@ use crate::sent_chains::SentRound;
 use round::{Letter, Player, Scenario};
 use std::alloc::{AllocError, Global};
 
-/// Returns the letter of a loyal general in the round after the sent rounds.
+/// Returns a loyal general's letter in the round after those in `sent`. Its outbox has the chains that SM(m) has him
+/// sign. Fails with `AllocError` if it runs out of memory.
 pub(crate) fn loyal_letter(
     alloc: Global,
     scenario: &Scenario,

@@ -1,4 +1,4 @@
-//! Lends what a general needs to sign chains in the open round: his signer, and the chains that he holds.
+//! Gives access to what a general needs to sign chains in the open round: his signer, and the chains that he holds.
 ghost use Rattle.std.specs.Prelude.{◌≡◌, ◌<◌, IfOk};
 ghost use Rattle.signed.specs.Kind.{held_in};
 
@@ -8,8 +8,8 @@ use crate::signer::Signer;
 use std::alloc::AllocError;
 
 impl SignedWorld {
-    /// Returns a reference to the signer of a general. A chain that is signed with it is not sent: the world signs and
-    /// sends the campaign's chains itself, when a round is closed.
+    /// Returns a general's signer, with which chains can be signed in his name. Such a chain is not sent: the world
+    /// signs and sends the campaign's chains itself when it closes a round.
     pub fn signer(&self, general: u8) -> &Signer
         requires { general < self.now.scenario.generals }
         ensures general { result.now.general ≡ general }
@@ -18,7 +18,7 @@ impl SignedWorld {
         &self.signers[usize::from(general)]
     }
 
-    /// Returns the chains that a general holds in the open round: those that he received in the closed rounds.
+    /// Returns the chains that a general has received in the closed rounds.
     ///
     /// # Errors
     ///

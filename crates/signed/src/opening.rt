@@ -1,4 +1,5 @@
-//! Opens a round of a signed campaign: makes the generals' parts and starts the traitors' activations.
+//! Opens a round of a signed campaign: makes the generals' parts in it, and starts the traitors' activations. A part is
+//! what a general does in the round.
 ghost use Rattle.std.specs.Prelude.{◌≡◌, ◌≤◌, ◌<◌, length, IfOk};
 ghost use Rattle.std.specs.Arc.{arc_value};
 ghost use Rattle.round.specs.Activation.{started};
@@ -14,8 +15,8 @@ use std::sync::Arc;
 use verify::Verified;
 use world::Progress;
 
-/// Returns the parts of all generals at the start of the round after the sent rounds. The list is empty if no round is
-/// left.
+/// Returns each general's part at the start of the round after those in `sent`. If there is no further round, returns
+/// an empty list. Fails with `AllocError` if it runs out of memory.
 pub(crate) fn beginnings(
     alloc: Global,
     scenario: &Scenario,
@@ -34,7 +35,8 @@ pub(crate) fn beginnings(
     Ok(parts)
 }
 
-/// Returns the part of one general at the start of the round after the sent rounds.
+/// Returns one general's part at the start of the round after those in `sent`: a new activation if he is a traitor,
+/// otherwise that he has not posted. Fails with `AllocError` if it runs out of memory.
 fn beginning(
     alloc: Global,
     scenario: &Scenario,
@@ -53,7 +55,8 @@ fn beginning(
     }
 }
 
-/// Returns a traitor's activation at the start of the round after the sent rounds.
+/// Returns a traitor's activation at the start of the round after those in `sent`, with his context and the chains that
+/// he holds. Fails with `AllocError` if it runs out of memory.
 fn activation(
     alloc: Global,
     scenario: &Scenario,

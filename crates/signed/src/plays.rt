@@ -1,4 +1,4 @@
-//! Implements the trait of playable worlds for signed campaigns.
+//! Makes the worlds of signed campaigns playable, by the same functions as oral worlds.
 ghost use Rattle.signed.specs.Kind.{signed_kind};
 
 use crate::signed_world::SignedWorld;

@@ -1,5 +1,5 @@
-//! Drafts the letters of a round before it is closed, and makes the chains that they send. This is the part of a close
-//! that needs memory.
+//! Drafts the letters of a round when it is closed, and makes the chains sent with them. This is all of a close that
+//! needs memory.
 ghost use Rattle.std.specs.Prelude.{◌≡◌, ◌≤◌, ◌<◌, length, IfOk, slice_get};
 ghost use Rattle.signed.specs.Entries.{dispatched};
 ghost use Rattle.signed.specs.Sending.{draft_behind, draft_in, drafts_behind, entries_drafted, part_in, sent_drafted, signatures, IsSent};
@@ -18,7 +18,8 @@ use world::Progress;
 use world::draft::LetterDraft;
 use world::letters::transcript;
 
-/// Returns the drafts of all generals' letters in the open round, from their current parts.
+/// Returns the drafts of all generals' letters in the open round, ascending. `parts` has what each general has done in
+/// it so far. Fails with `AllocError` if it runs out of memory.
 pub(crate) fn drafts(
     alloc: Global,
     scenario: &Scenario,
@@ -37,7 +38,8 @@ pub(crate) fn drafts(
     Ok(drafts)
 }
 
-/// Returns the draft of one general's letter in the open round, from his current part.
+/// Returns the draft of one general's letter in the open round: a traitor's accesses, or a loyal general's letter if he
+/// has posted. Fails with `AllocError` if it runs out of memory.
 fn draft(
     alloc: Global,
     scenario: &Scenario,
@@ -66,7 +68,8 @@ fn draft(
     }
 }
 
-/// Returns the chains that the generals send in the round after the sent rounds, each signed by its sender.
+/// Returns the chains that each general sends in the round after those in `sent`, ascending by sender. A sender's
+/// signature is the last on his chains. Fails with `AllocError` if it runs out of memory.
 pub(crate) fn sendings(
     alloc: Global,
     scenario: &Scenario,
@@ -87,7 +90,8 @@ pub(crate) fn sendings(
     Ok(SentRound { sendings })
 }
 
-/// Returns the chains that one general sends in the round after the sent rounds, each ending with his signature.
+/// Returns the chains that this general sends in the round after those in `sent`, with his signature as the last. Fails
+/// with `AllocError` if it runs out of memory.
 fn sending(
     alloc: Global,
     scenario: &Scenario,
@@ -112,7 +116,8 @@ fn sending(
     dispatched(alloc, signer, scenario.generals(), &held, entries)
 }
 
-/// Returns the entries of a general, from the draft of his letter or from his activation. There are at most 8.
+/// Returns the entries of a general's outbox, at most 8. They are in a traitor's activation, or in the draft of a loyal
+/// general's letter. A general without either has none.
 fn entries<'a>(draft: Option<&'a LetterDraft>, part: Option<&'a Progress>) -> &'a [Entry]
     ensures same { result.now ≡ entries_drafted (draft_in draft.entry) (part_in part.entry) }
     ensures few { length result.now ≤ 8 }

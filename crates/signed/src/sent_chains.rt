@@ -1,12 +1,12 @@
-//! The chains that were sent in the closed rounds, by round and sender.
+//! Keeps the chains that were sent in the closed rounds, by round and sender.
 ghost use Rattle.std.specs.Prelude.{◌≡◌, ◌≤◌, map, length};
 ghost use Rattle.signed.specs.Sending.{dispatch_of};
 
 use crate::chain::Chain;
 use std::marker::Model;
 
-/// The chains that one general sent in a round, at most 8, in the order of his entries. Each chain comes with its
-/// receivers, with bit `g` for general `g`.
+/// The chains that one general sent in a round, at most 8, in the order of his outbox's entries. With each chain goes
+/// the set of its receivers, in which bit g is set for general g.
 #[derive(Drop)]
 pub struct Sending {
     pub(crate) chains: Vec<(Chain, u16)>,
@@ -25,7 +25,7 @@ impl Model for Sending {
 }
 
 impl Sending {
-    /// Returns the chains, each with its receivers, with bit `g` for general `g`.
+    /// Returns the chains, each with the set of its receivers, in which bit g is set for general g.
     pub fn chains(&self) -> &[(Chain, u16)]
         ensures same { map dispatch_of result.now ≡ self.now }
         ensures few { length result.now ≤ 8 }
@@ -52,7 +52,7 @@ impl Model for SentRound {
 }
 
 impl SentRound {
-    /// Returns the chains of each sender, by sender.
+    /// Returns the chains of each sender, ascending by sender.
     pub fn sendings(&self) -> &[Sending]
         ensures same { result.now ≡ self.now }
         ensures few { length result.now ≤ 13 }

@@ -1,10 +1,10 @@
-//! Sets of generals as bit masks, with bit `g` for general `g`.
+//! Computes with sets of generals that are stored as bit masks: bit g is set if general g is in the set.
 ghost use Rattle.std.specs.Prelude.{◌≡◌, ◌<◌, ◌≤◌, ◌==◌, ◌^◌, cond, ℕ, sum_by, nat_lt};
 ghost use Rattle.std.specs.Int.{bit_at};
 ghost use Rattle.label.specs.Generals.{IsGenerals};
 ghost use Rattle.label.specs.Labels.{on};
 
-/// Checks whether a general is in the set.
+/// Returns whether a general (0 to 15) is in the set.
 pub(crate) fn has(bits: u16, general: u8) -> bool
     requires { general < 16 }
     ensures { result ≡ (bit_at bits general == 1) }
@@ -12,7 +12,7 @@ pub(crate) fn has(bits: u16, general: u8) -> bool
     (bits >> general) & 1 == 1
 }
 
-/// Returns the set with a general added.
+/// Returns the set with this general (0 to 15) added.
 pub(crate) fn with(bits: u16, general: u8) -> u16
     requires { general < 16 }
     ensures { (g : ℕ) → bit_at result g ≡ cond (general == g) 1 (bit_at bits g) }
@@ -20,7 +20,7 @@ pub(crate) fn with(bits: u16, general: u8) -> u16
     bits | (1 << general)
 }
 
-/// Returns the set without the members of another set.
+/// Returns the set without the members of the set `others`.
 pub(crate) fn without(bits: u16, others: u16) -> u16
     ensures { (g : ℕ) → bit_at result g ≡ cond (bit_at others g == 1) 0 (bit_at bits g) }
 {

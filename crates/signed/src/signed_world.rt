@@ -1,4 +1,4 @@
-//! The world of a signed campaign: its state, how it opens, and what an event does to it.
+//! Defines the world of a signed campaign: its state, how it opens, and what an event does to it.
 ghost use Rattle.std.specs.Prelude.{◌≡◌, ◌≤◌, ◌<◌, suc, length, IfOk, OnOk, OnErr, IfErr, None, slice_get, replicate};
 ghost use Rattle.signed.specs.Kind.{signed_kind};
 ghost use Rattle.signed.specs.Sending.{signatures};
@@ -27,15 +27,15 @@ pub struct SignedWorld {
     pub(crate) closed: Vec<Round>,
     /// The board with its words and its ledger.
     pub(crate) board: Board,
-    /// The index at which the open round's accesses begin in the ledger.
+    /// The index in the ledger of the open round's first access.
     pub(crate) opened: usize,
-    /// The generals' parts in the open round, by general.
+    /// What each general does in the open round, ascending by general. It is empty if all rounds are closed.
     pub(crate) parts: Vec<Progress>,
-    /// Whether all loyal generals had posted in each closed round.
+    /// Whether every loyal general had posted when each of the closed rounds was closed.
     pub(crate) full: bool,
-    /// The chains that the letters of the closed rounds sent.
+    /// The chains sent in each of the closed rounds.
     pub(crate) sent: Vec<SentRound>,
-    /// The generals' signers, by general. Each general has only one.
+    /// The signer of each general, ascending by general.
     pub(crate) signers: Vec<Signer>,
 }
 
@@ -53,7 +53,7 @@ impl Model for SignedWorld {
 }
 
 impl SignedWorld {
-    /// Returns the scenario's signed world before any event.
+    /// Returns the world of the scenario's signed campaign before any event. Its first round is open.
     ///
     /// # Errors
     ///
@@ -81,9 +81,9 @@ impl SignedWorld {
     ///
     /// # Errors
     ///
-    /// After an error the world is as it was. The call fails with `NotOpen` if all rounds are closed. It fails with
-    /// `NoGeneral` if the general does not exist or is not of the event's kind. Otherwise it fails with `Memory` if
-    /// there is no memory for a close or for the access of a tick that makes a request. Other ticks and posts need none.
+    /// Fails with `NotOpen` if all rounds are closed. Fails with `NoGeneral` if the event's general does not exist or
+    /// is of the wrong kind: a tick needs a traitor, and a post needs a loyal general. Fails with `Memory` if there is
+    /// no memory for a close, or for the access of a tick that makes a request. After any error the world is unchanged.
     pub fn apply(&mut self, event: Event) -> Result<(), EventError>
         ensures done { OnOk result (self.new ≡ happen signed_kind self.old event) }
         ensures undone { OnErr result (self.new ≡ self.old) }
@@ -113,14 +113,15 @@ impl SignedWorld {
         &self.scenario
     }
 
-    /// Returns the parts of the generals in the open round, by general.
+    /// Returns what each general does in the open round, ascending by general. It is empty if all rounds are closed.
     pub fn parts(&self) -> &[Progress]
         ensures { result.now ≡ self.now.parts }
     {
         self.parts.as_slice()
     }
 
-    /// Returns the number of the open round, counted from 1.
+    /// Returns the number of the open round, counted from 1. If all rounds are closed, it is one more than the number
+    /// of the last.
     fn round(&self) -> u32
         ensures { result ≡ suc (length self.now.closed) }
     {
@@ -128,14 +129,16 @@ impl SignedWorld {
         self.closed.len() as u32 + 1
     }
 
-    /// Checks whether every loyal general had posted in each closed round.
+    /// Returns whether every loyal general had posted when each of the closed rounds was closed.
     pub fn full(&self) -> bool
         ensures { result ≡ self.now.full }
     {
         self.full
     }
 
-    /// Takes one turn of a traitor's activation. For any other general it does nothing.
+    /// Takes one tick of a traitor's activation: a step of his program, or a request that the board answers. For any
+    /// other general it does nothing. Fails with `AllocError` if the tick makes a request and there is no memory for
+    /// the access. Then the world is unchanged.
     pub(crate) fn turn(&mut self, general: u32) -> Result<(), AllocError>
         ensures done { OnOk result (self.new ≡ happen signed_kind self.old (Tick general)) }
         ensures undone { OnErr result (self.new ≡ self.old) }
@@ -145,8 +148,8 @@ impl SignedWorld {
         parts::turn(&mut self.parts, &mut self.board, general, round)
     }
 
-    /// Takes turns of the traitor `general` until his next turn would be a request to the board, his activation has
-    /// ended, or it has taken at least `limit` steps since it began. Returns the number of turns taken, which is 0 if
+    /// Takes ticks of the traitor `general` until his next tick would be a request to the board, his activation has
+    /// ended, or it has taken at least `limit` steps since it began. Returns the number of ticks taken, which is 0 if
     /// the general is not a traitor with a running activation.
     pub(crate) fn ahead(&mut self, general: u32, limit: u32) -> u32
         ensures same { self.new ≡ run signed_kind self.old (replicate result (Tick general)) }
@@ -155,19 +158,19 @@ impl SignedWorld {
         parts::ahead(&mut self.parts, general, limit)
     }
 
-    /// Marks a loyal general as having posted, until the round is closed. If no letter of his is missing, it does
-    /// nothing.
+    /// Marks a loyal general as having posted his letter of the open round. It does nothing if he has already posted or
+    /// is not a loyal general.
     pub(crate) fn post(&mut self, general: u32)
         ensures { self.new ≡ happen signed_kind self.old (Post general) }
     {
         parts::mark_posted(&mut self.parts, general);
     }
 
-    /// Closes the open round.
+    /// Closes the open round: sends the chains of its letters, and begins the next round if there is one.
     ///
-    /// All memory is allocated before anything changes: the drafts of the letters, capacity for their list, the chains
-    /// that they send, and the parts of the next round, whose contexts contain these chains. Then the letters are moved
-    /// from the parts into the list, which cannot fail.
+    /// All memory is allocated before anything changes: for the letters and their drafts, for the chains, and for the
+    /// next round. After that, nothing can fail. Fails with `AllocError` if there is no memory for the letters, the
+    /// chains or the next round. Then the world is unchanged.
     pub(crate) fn close(&mut self) -> Result<(), AllocError>
         requires { length self.old.closed ≤ self.old.scenario.bound }
         ensures done { OnOk result (self.new ≡ happen signed_kind self.old Close) }
@@ -208,7 +211,7 @@ impl SignedWorld {
     }
 }
 
-/// Returns a signer for each general.
+/// Returns the signers of all generals, ascending. Fails with `AllocError` if it runs out of memory.
 fn signers(alloc: Global, generals: u8, commander: u8) -> Result<Vec<Signer>, AllocError>
     requires size { generals ≤ 13 }
     requires commander { commander < 13 }

@@ -1,10 +1,10 @@
-//! Signers: the right to sign for one general.
+//! Defines signers. A signer is the right to sign in the name of one general.
 ghost use Rattle.std.specs.Prelude.{◌≡◌, ◌<◌};
 
 use std::marker::Model;
 
-/// A signer: with a reference to it one can sign for one general of a campaign. It cannot be copied, and only
-/// `SignedWorld::open` makes signers, one for each general.
+/// The right to sign in the name of one general of a campaign. It cannot be copied, and only `SignedWorld::open` makes
+/// signers, one for each general.
 #[derive(Drop)]
 pub struct Signer {
     general: u8,
@@ -22,7 +22,7 @@ impl Model for Signer {
 }
 
 impl Signer {
-    /// Returns the signer with which `general` signs in a campaign of `commander`. Both numbers must be below 13.
+    /// Returns the signer of `general` in a campaign with this commander. Both numbers must be below 13.
     pub(crate) fn of(general: u8, commander: u8) -> Signer
         requires general { general < 13 }
         requires commander { commander < 13 }
@@ -31,7 +31,7 @@ impl Signer {
         Signer { general, commander }
     }
 
-    /// Returns the general whose signature it is, which is below 13.
+    /// Returns the number of the general in whose name this signs. It is below 13.
     pub fn general(&self) -> u8
         ensures value { result ≡ self.now.general }
         ensures kind { self.now.general < 13 }
@@ -39,7 +39,7 @@ impl Signer {
         self.general
     }
 
-    /// Returns the commander of the signer's campaign.
+    /// Returns the number of the commander in the signer's campaign.
     pub fn commander(&self) -> u8
         ensures { result ≡ self.now.commander }
     {

@@ -1,4 +1,4 @@
--- The ledger is cut behind the accesses of a round.
+-- A ledger is cut after the accesses of its first round.
 use Rattle.std.proofs.Common.{◌≡◌, ℕ, ◌+◌, ◌<◌, List, [], ◌∷◌, ◌++◌, length, take, drop, get_or, sym, ap, subst, ◌∙◌}
 use Rattle.std.specs.Prelude.{min, sum_by}
 use Rattle.std.proofs.Math.Numerals.{add-one}
@@ -42,7 +42,7 @@ module _ (s : Scenario) (rows : List (List Letter)) (at : ℕ) (rest : List Acce
       ) in
       (let A : List (List Letter) → Type 0 = λ d. AreAccounted s (take at rows) rest d in subst A (sym here) t)
 
-  -- by the piece, the rest and the row as the code has them
+  -- The same, with the piece, the remaining accesses and the letters as the code computes them.
   pub both_ways : (m : ℕ) (piece later : List Access) (letters : List Letter) → letters ≡ row → m ≡ min (sum_by (λ l. length l.transcript) letters) (length rest) → piece ≡ take m rest → later ≡ drop m rest
       → (AreAccounted s (take at rows) rest (drop at rows) → IsAccountedRound s (take at rows) piece letters × AreAccounted s (take (at + 1) rows) later (drop (at + 1) rows))
       × (IsAccountedRound s (take at rows) piece letters → AreAccounted s (take (at + 1) rows) later (drop (at + 1) rows) → AreAccounted s (take at rows) rest (drop at rows))

@@ -1,4 +1,4 @@
--- The decisions of all trees, as a list, are those of the campaign.
+-- The decisions made from the lieutenants' trees are the decisions of the campaign, as a list.
 use Rattle.std.proofs.Common.{◌≡◌, ◌≢◌, ℕ, zero, suc, ◌+◌, ◌<◌, ◌≤◌, List, [], ◌∷◌, ◌++◌, length, map, take, true, false, refl, sym, ap, subst, ◌∙◌, ⊎_elim, Some, arith}
 use Rattle.std.specs.Prelude.{◌==◌, slice_get}
 use Rattle.std.specs.List.{AllZip}
@@ -24,7 +24,7 @@ one_by_one : (f : ℕ → ℕ) (n : ℕ) (g : ℕ → ℕ) → map f (each n (λ
 one_by_one f zero g = refl
 one_by_one f (suc n) g = map-append f (each n (λ i. g i ∷ [])) (g n ∷ []) ∙ ap (λ xs. xs ++ f (g n) ∷ []) (one_by_one f n g)
 
--- the lieutenants under the commander, and all
+-- The lieutenants under a commander, by their indices: those with numbers below his, and all.
 front : (c n : ℕ) → n ≤ c → others n (c ∷ []) ≡ each n (λ i. lieutenant_at c i ∷ [])
 front c zero le = refl
 front c (suc n) le =
@@ -50,12 +50,12 @@ lieutenants_are n c k lt e =
     let s : suc k ≡ n = omega arith in
     subst A s (all_of c k (omega arith))
 
--- what each tree decides
+-- A lieutenant's tree is resolved to his decision in the campaign.
 tree_decides : (s : Scenario) (before : List (List Letter)) (p : ℕ) (t : LieutenantTree) (d : ℕ) → IsTreeOf s before p t → Decides (combined_by s.rule) t d → d ≡ decision s (messages before) p
 tree_decides s before p t d is h =
     h (messages before) is.filled ∙ (λ i. om (combined_by s.rule) (is.generals i) (messages before) (is.bound i) (is.commander i ∷ []) (is.general i))
 
--- from the last on
+-- The same for the lieutenants from index `k` on.
 listed : (s : Scenario) (before : List (List Letter)) (ts : List LieutenantTree) (ds : List ℕ) → AllZip (Decides (combined_by s.rule)) ts ds
     → (k : ℕ) → ((i : ℕ) (t : LieutenantTree) → slice_get ts i ≡ Some t → IsTreeOf s before (lieutenant_at s.commander (k + i)) t)
     → (i d : ℕ) → slice_get ds i ≡ Some d → d ≡ decision s (messages before) (lieutenant_at s.commander (k + i))
@@ -84,7 +84,7 @@ each_front xs f h (suc n) le =
     let l = some_at xs n (omega arith) in
     (λ i. each_front xs f h n (omega arith) i ++ sym (h n l.0 l.1) i ∷ []) ∙ sym (snoc xs n l.0 l.1)
 
--- the decisions of the trees are those of the lieutenants, ascending
+-- The decisions made from all trees are the lieutenants' decisions, ascending by lieutenant.
 pub all_decided : (s : Scenario) (before : List (List Letter)) (h : ToldSeen) (ds : List ℕ) → s.commander < s.generals → WasTold s before h → AllZip (Decides (combined_by s.rule)) h.trees ds
     → ds ≡ decisions s (messages before)
 unfolding decisions

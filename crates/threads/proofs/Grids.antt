@@ -1,4 +1,4 @@
--- Accounted letters are one for each place.
+-- Letters for which a ledger accounts are exactly one for each general and round.
 use Rattle.std.proofs.Common.{◌≡◌, ℕ, suc, List, [], ◌∷◌, ◌++◌, length, drop, ap, sym, ◌∙◌, Some, zero}
 use Rattle.std.specs.Prelude.{slice_get, sum_by}
 use Rattle.board.specs.Board.{Access}

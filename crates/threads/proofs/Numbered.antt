@@ -1,10 +1,10 @@
--- Things that stand by their numbers.
+-- Lists in which each element has its index as its number.
 use Rattle.std.proofs.Common.{◌≡◌, ◌≢◌, ℕ, ◌<◌, true, false, ◌==◌, List, [], ◌∷◌, ◌++◌, length, get_or, sym, ap, ◌∙◌, subst, ⊎_elim, length-append, arith}
 use Rattle.std.proofs.lemmas.Bool.Decides.{eqb_tells}
 use Rattle.std.proofs.Math.ListN.{get_or-append}
 use Rattle.std.proofs.Math.Seq.{get_or-append_seam}
 
--- one more, behind others
+-- One more element is appended, whose number is the length of the list.
 numbered_more : {X : Type 0} (number : X → ℕ) (xs : List X) (x : X) → number x ≡ length xs → ((g : ℕ) (d : X) → g < length xs → number (get_or xs g d) ≡ g)
     → (g : ℕ) (d : X) → g < length (xs ++ x ∷ []) → number (get_or (xs ++ x ∷ []) g d) ≡ g
 numbered_more number xs x is each g d lt =

@@ -1,4 +1,4 @@
--- Where the accesses of one general are compared with a list, one at a time.
+-- The accesses of one general in a list are compared with his transcript, one by one.
 use Rattle.std.proofs.Common.{◌≡◌, ℕ, suc, ◌<◌, ◌≤◌, List, ◌∷◌, ◌++◌, length, get_or, take, drop, sym, ap, ◌∙◌, ◌==◌, eq-eqb, length-append, arith}
 use Rattle.std.proofs.Math.Seq.{drop-cons, get_or-append_seam}
 use Rattle.std.proofs.lemmas.List.{take-append-drop, length-take-le}

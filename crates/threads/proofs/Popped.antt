@@ -1,4 +1,5 @@
--- Of what stood by its numbers the last leaves, and the rest stay; and handles that are kept.
+-- The last element is removed from a list: what holds for all elements holds for it and for the remaining ones. Also,
+-- the handles of started threads are kept.
 use Rattle.std.proofs.Common.{◌≡◌, ℕ, ◌<◌, ◌+◌, List, [], ◌∷◌, ◌++◌, length, get_or, false, ap, sym, subst, ◌∙◌, length-append, arith}
 use Rattle.std.specs.Prelude.{All, Option, None, Some, is_some, IsSomeAnd, MatchOption, MatchResult, Result, Ok, Err}
 use Rattle.std.proofs.lemmas.List.Elements.{All-append, All-cons, All-nil}
@@ -17,7 +18,7 @@ rest_all {X} P old new x all is k d lt =
     let each : All P (new ++ x ∷ []) = subst (λ (l : List X). All P l) is all in
     subst P (get_or-append new (x ∷ []) d k lt) (each k d (omega (arith, lt, length-append new (x ∷ []))))
 
--- where the element of each number is known
+-- The same, where the element of each number is given by a function.
 pub last_known : {X : Type 0} (f : ℕ → X) (old new : List X) (x : X) → ((g : ℕ) (d : X) → g < length old → get_or old g d ≡ f g) → old ≡ new ++ x ∷ [] → x ≡ f (length new)
 last_known {X} f old new x known is =
     let each : (g : ℕ) (d : X) → g < length (new ++ x ∷ []) → get_or (new ++ x ∷ []) g d ≡ f g = subst (λ (l : List X). (g : ℕ) (d : X) → g < length l → get_or l g d ≡ f g) is known in
@@ -29,7 +30,7 @@ rest_known {X} f old new x known is g d lt =
     let each : (k : ℕ) (e : X) → k < length (new ++ x ∷ []) → get_or (new ++ x ∷ []) k e ≡ f k = subst (λ (l : List X). (k : ℕ) (e : X) → k < length l → get_or l k e ≡ f k) is known in
     sym (get_or-append new (x ∷ []) d g lt) ∙ each g d (omega (arith, lt, length-append new (x ∷ [])))
 
--- one handle more is kept, where nothing was refused
+-- One more handle is kept, unless there is an error.
 pub kept_more : {H E : Type 0} (started : Result H E) (refused : Option Refused) (old new : List H)
     → MatchResult started (λ h. MatchOption refused (new ≡ old ++ h ∷ []) (λ r. r.error ≡ Memory)) (λ _. IsSomeAnd refused (λ r. r.error ≡ Spawn))
     → is_some refused ≡ false → length new ≡ length old + 1
@@ -38,6 +39,6 @@ kept_more (Ok h) (Some r) old new is none = absurd cc
 kept_more (Err e) None old new is none = absurd is
 kept_more (Err e) (Some r) old new is none = absurd cc
 
--- one more of which it holds
+-- One more element is appended for which the property holds.
 pub more_all : {X : Type 0} (P : X → Type 0) (old new : List X) (x : X) → All P old → P x → new ≡ old ++ x ∷ [] → All P new
 more_all {X} P old new x all it is = subst (λ (l : List X). All P l) (sym is) (All-append P old (x ∷ []) all (All-cons P x [] it (All-nil P)))

@@ -1,4 +1,4 @@
--- Each move keeps the rule of the post.
+-- Each move of the post keeps its rule.
 use Rattle.std.proofs.Common.{◌≡◌, ◌≢◌, ℕ, zero, suc, ◌+◌, ◌<◌, true, false, true≢false, cond, ◌==◌, List, [], ◌∷◌, ◌++◌, length, get_or, set, Option, Some, None, sym, refl, ap, ◌∙◌, subst, ◌⊎◌, inl, inr, ⊎_elim, append_assoc, append-nil, lt_of_not-le, length-append, arith}
 use Rattle.std.proofs.lemmas.Bool.{eq-eqb}
 use Rattle.std.proofs.lemmas.Bool.Decides.{eqb_tells}
@@ -70,7 +70,7 @@ begins =
           (at_snoc' [] (collector [] 0 []) v pass e),
     )
 
--- a letter of a seated general changes nothing for an empty seat
+-- A letter of a general who has a poster does not change the letters of a general who has none.
 still : (seat : ℕ → Option ℕ) (came : List Letter) (x : Letter) (g pass : ℕ) → seat g ≡ None → seat x.general ≡ Some pass → letters_of g (came ++ x ∷ []) ≡ letters_of g came
 still seat came x g pass e f = of_other g came x (taken_seat seat g x.general pass e f)
 
@@ -114,7 +114,7 @@ back_more made n seat came (p ∷ back) h =
     let lt = (h.0).0 in
     ((omega arith, put_other made p.general (Some n) seat (λ e. absurd (omega arith)) ∙ (h.0).1, (h.0).2), back_more made n seat came back h.1)
 
--- the collector makes the next general's poster
+-- The collector makes the next general's poster.
 hires : (pass : ℕ) (v : Known) → v.takes ≡ true → Forks Delivers pass v (collector v.letters (v.made + 1) v.back) (poster v.made [])
 hires pass v may items views h at =
     let l : Known = collector v.letters (v.made + 1) v.back in let r : Known = poster v.made [] in
@@ -145,7 +145,7 @@ back_snoc : (made : ℕ) (seat : ℕ → Option ℕ) (came : List Letter) (back 
 back_snoc made seat came [] p h e = (e, tt)
 back_snoc made seat came (q ∷ back) p h e = (h.0, back_snoc made seat came back p h.1 e)
 
--- a poster comes back to the collector
+-- A poster is returned to the collector.
 returns : (pass : ℕ) (v : Known) (other : ℕ) (u : Known) → v.takes ≡ true → u.posts ≡ true → Merges Delivers pass v other u (collector v.letters v.made (posted u.general u.letters ∷ v.back)) spent
 returns pass v other u may posts' items views h at two at' =
     let p = posted u.general u.letters in
@@ -180,7 +180,7 @@ came_of : (made : ℕ) (seat : ℕ → Option ℕ) (came : List Letter) (back : 
 came_of made seat came [] h = tt
 came_of made seat came (p ∷ back) h = ((h.0).2, came_of made seat came back h.1)
 
--- what the collector knows of those that are back
+-- What the collector knows about the posters that were returned to it.
 learns : (pass : ℕ) (v : Known) → v.takes ≡ true → Learns Delivers pass v (λ items. AreDelivered (v.letters ++ items) v.back)
 learns pass v may items views h at =
     let mine = (h.3 pass v at).1 may in
@@ -202,7 +202,7 @@ each_more id ps new is each g d lt =
 each_snoc : (Is : Letter → Type 0) (letters : List Letter) (x : Letter) → Each Is letters → Is x → Each Is (letters ++ x ∷ [])
 each_snoc Is letters x all is = All-append Is letters (x ∷ []) all (All-cons Is x [] is (All-nil Is))
 
--- the same moves, where something is claimed of each letter that is queued
+-- The same moves keep the rule of a post with a claim, which holds for each queued letter.
 pub begins_only : (Is : Letter → Type 0) → DeliversOnly Is [] (collector [] 0 [] ∷ [])
 begins_only Is = (begins, All-nil Is)
 

@@ -1,4 +1,4 @@
--- Letters taken out of a list one at a time.
+-- Letters are removed from a list, one at a time.
 use Rattle.std.proofs.Common.{◌≡◌, ◌≢◌, ℕ, zero, suc, ◌+◌, ◌<◌, ◌≤◌, Bool, true, false, cond, List, [], ◌∷◌, ◌++◌, length, take, refl, sym, ap, subst, ◌∙◌, ⊎_elim, Option, None, Some, arith, length-append}
 use Rattle.std.specs.Prelude.{◌==◌, slice_get, option_to_list}
 use Rattle.std.specs.List.{find, remove}
@@ -11,7 +11,7 @@ use Rattle.threads.specs.Taking.{without, left_by, left_by_all, left_rounds}
 use Rattle.world.proofs.Holding.{each-same}
 use Rattle.world.proofs.Arranged.{by_false, is_by}
 
--- the first that passes stands where the front has none that does
+-- An element that passes, with none before it, is the first that passes.
 found_by : (p : Letter → Bool) (y x : Letter) (ys : List Letter) (i : ℕ) (b : Bool) → (find p (take i ys) ≡ None → (find p ys ≡ slice_get ys i) × (without p ys ≡ remove ys i))
     → cond b (Some y) (find p (take i ys)) ≡ None → (cond b (Some y) (find p ys) ≡ slice_get ys i) × (cond b ys (y ∷ without p ys) ≡ remove (y ∷ ys) (suc i))
 found_by p y x ys i true again h = cc
@@ -38,7 +38,8 @@ none_next p x isnt (y ∷ ys) (suc i) h at = none_by p y ys i (p y) (λ e. none_
 pub none_more : (p : Letter → Bool) (xs : List Letter) (i : ℕ) (x : Letter) → find p (take i xs) ≡ None → slice_get xs i ≡ Some x → p x ≡ false → find p (take (i + 1) xs) ≡ None
 none_more p xs i x none at isnt = (let A : ℕ → Type 0 = λ n. find p (take n xs) ≡ None in subst A (sym (add-one i)) (none_next p x isnt xs i none at))
 
--- what another test finds is still there
+-- If the first element that passes one test is removed, another test that excludes the first still finds the same
+-- element.
 found_left : (p q : Letter → Bool) → ((x : Letter) → p x ≡ true → q x ≡ false) → (xs : List Letter) → find q (without p xs) ≡ find q xs
 found_left p q apart [] = refl
 found_left p q apart (x ∷ xs) = by (p x) refl (found_left p q apart xs)
@@ -75,7 +76,7 @@ row_few : (n round : ℕ) (xs : List Letter) → length (letters_by n round xs) 
 row_few zero round xs = omega arith
 row_few (suc n) round xs = (let l = row_few n round xs in let m = alone_few (letter_by n round xs) in omega (arith, length-append (letters_by n round xs) (option_to_list (letter_by n round xs))))
 
--- where one is missing the row is too short
+-- If a general has no letter of the round, the row of the round's letters is too short.
 pub row_short : (n g round : ℕ) (xs : List Letter) → g < n → letter_by g round xs ≡ None → length (letters_by n round xs) < n
 row_short zero g round xs lt none = omega arith
 row_short (suc n) g round xs lt none = ⊎_elim
@@ -91,7 +92,7 @@ pub record Row (n round : ℕ) (xs left row : List Letter) : Type 0 where
   pub left_is : left ≡ left_by_all n round xs
   pub row_is : row ≡ letters_by n round xs
 
--- one more of the round
+-- One more letter of the round is removed.
 pub row_more : (g round : ℕ) (xs left row left' row' : List Letter) (l : Letter) → left ≡ left_by_all g round xs → row ≡ letters_by g round xs → Some l ≡ letter_by g round left → left' ≡ left_by g round left → row' ≡ row ++ l ∷ []
     → Row (g + 1) round xs left' row'
 row_more g round xs left row left' row' l a b found c d =
@@ -103,7 +104,7 @@ pub record Rows (n r : ℕ) (xs left : List Letter) (rows : List (List Letter)) 
   pub left_is : left ≡ left_rounds n r xs
   pub rows_are : rows ≡ each r (λ k. letters_by n (suc k) xs ∷ [])
 
--- one more round
+-- The letters of one more round are removed.
 pub rows_more : (n r : ℕ) (xs left left' row : List Letter) (rows rows' : List (List Letter)) → left ≡ left_rounds n r xs → rows ≡ each r (λ k. letters_by n (suc k) xs ∷ []) → row ≡ letters_by n (r + 1) left → left' ≡ left_by_all n (r + 1) left → rows' ≡ rows ++ row ∷ []
     → Rows n (r + 1) xs left' rows'
 rows_more n r xs left left' row rows rows' a b c d e =
@@ -111,6 +112,6 @@ rows_more n r xs left left' row rows rows' a b c d e =
     let c' : row ≡ letters_by n (suc r) xs = c ∙ (ap (λ m. letters_by n m left) (add-one r) ∙ (ap (letters_by n (suc r)) a ∙ rounds_same n r xs)) in
     subst A (sym (add-one r)) (record { left_is = d ∙ (ap (λ m. left_by_all n m left) (add-one r) ∙ ap (left_by_all n (suc r)) a); rows_are = e ∙ (λ i. b i ++ c' i ∷ []) })
 
--- the length of the row that was taken is that of the row of all letters
+-- The letters of a round that are removed are as many as those of the round in the whole list.
 pub row_long : (n r : ℕ) (xs left : List Letter) → left ≡ left_rounds n r xs → length (letters_by n (r + 1) left) ≡ length (letters_by n (suc r) xs)
 row_long n r xs left a = ap length (ap (λ m. letters_by n m left) (add-one r) ∙ (ap (letters_by n (suc r)) a ∙ rounds_same n r xs))

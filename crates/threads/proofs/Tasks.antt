@@ -1,4 +1,4 @@
--- What a general is told is a context, tells whose it is, and tells his relay; and one more general's task.
+-- A general's context in a task names him and the round, and describes his relay. Also, one more general gets his task.
 use Rattle.std.proofs.Common.{◌≡◌, ℕ, suc, ◌+◌, ◌<◌, ◌≤◌, List, [], ◌∷◌, ◌++◌, length, sym, ap, subst, ◌∙◌}
 use Rattle.std.proofs.Math.Numerals.{add-one}
 use Rattle.label.specs.declared.shape.Shape.{Shape}

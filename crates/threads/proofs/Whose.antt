@@ -1,4 +1,5 @@
--- Letters that stand, and have the context of their round, are those of their generals; and what letters of a round are.
+-- A letter that passes the code's checks and has the right context is its general's letter of the round. Also, when
+-- letters are those of a round.
 use Rattle.std.proofs.Common.{◌≡◌, IsTrue, ℕ, zero, suc, ◌+◌, ◌<◌, ◌≤◌, List, [], ◌∷◌, ◌++◌, length, length-append, take, drop, refl, sym, ap, subst, ◌∙◌, Bool, arith, Option, None, Some}
 use Rattle.std.specs.Prelude.{◌↔◌, slice_get, sum_by}
 use Rattle.insn.specs.declared.insn.Insn.{Insn}
@@ -21,7 +22,7 @@ use Rattle.round.proofs.Patience.{within_none}
 loyal_over : (s : Scenario) (before : List (List Letter)) (g : ℕ) → EndedInTime s (faithful_letter s before g)
 loyal_over s before g = record { within = within_none s.patience; over = refl }
 
--- a letter of a general stands
+-- A general's letter of the round passes the checks.
 stood : (s : Scenario) (before : List (List Letter)) (piece : List Access) (g : ℕ) (o : Option (List Insn)) (l : Letter) → o ≡ program_of s g → IsLetterOf s before g o l → accesses_of g piece ≡ l.transcript
     → Stands s piece g (suc (length before)) l × (l.context ≡ context_of s before g)
 stood s before piece g None l is h part = (
@@ -104,12 +105,12 @@ module _ (s : Scenario) (before : List (List Letter)) (g : ℕ) (l : Letter) (is
   pub is_of : AreWords s before g → l.program ≡ program_of s g → EndedInTime s l → IsLetterOf s before g (program_of s g) l
   is_of small has over = by (program_of s g) small has over
 
--- both ways
+-- The same for a general of the scenario, in both directions.
 pub stands_for : (s : Scenario) (before : List (List Letter)) (piece : List Access) (g : ℕ) (l : Letter) → IsLetterOf s before g (program_of s g) l × (accesses_of g piece ≡ l.transcript)
     → Stands s piece g (suc (length before)) l × (l.context ≡ context_of s before g)
 stands_for s before piece g l h = stood s before piece g (program_of s g) l refl h.0 h.1
 
--- the tests of a letter are whose it is
+-- The checks are true exactly if the letter is the general's letter of the round.
 pub holds : (s : Scenario) (before : List (List Letter)) (piece : List Access) (g round : ℕ) (l : Letter) → IsScenario s → g < s.generals → length before ≤ s.bound → IsLetter l
     → round ≡ suc (length before) → AreWords s before g → Stands s piece g round l → (b : Bool) → IsTrue b ↔ (l.context ≡ context_of s before g)
     → IsTrue b ↔ (IsLetterOf s before g (program_of s g) l × (accesses_of g piece ≡ l.transcript))
@@ -128,7 +129,7 @@ whose s before g (Some p) l h = (
   ap (λ (x : Letter). x.outbox.relay.shape) h.2 ∙ ap (λ (k : ℕ). shape_of s k (suc (length before))) (sym (ap (λ (x : Letter). x.general) h.2)),
 )
 
--- the letters of an accounted round are of that round
+-- If a round is accounted for, its letters are letters of this round.
 pub are_letters_of : (s : Scenario) (before : List (List Letter)) (piece : List Access) (row : List Letter) → IsAccountedRound s before piece row → AreLettersOf s (suc (length before)) row
 are_letters_of s before piece row h i l at = whose s before i (program_of s i) l (h.each i l at).0
 
@@ -144,7 +145,7 @@ rounds_from s before (letters ∷ rows) ledger h (suc i) row at =
     let e : suc (length (before ++ letters ∷ []) + i) ≡ suc (length before + suc i) = omega (arith, length-append before (letters ∷ [])) in
     (let A : ℕ → Type 0 = λ n. AreLettersOf s n row in subst A e (rounds_from s (before ++ letters ∷ []) rows (drop (sum_by (λ l. length l.transcript) letters) ledger) h.1 i row at))
 
--- the letters of each accounted round are of that round
+-- If all rounds are accounted for, the letters of each are letters of that round.
 pub rounds_are : (s : Scenario) (ledger : List Access) (rows : List (List Letter)) → AreAccounted s [] ledger rows → AreRoundsOf s rows
 rounds_are s ledger rows h i row at =
     let e : suc (0 + i) ≡ suc i = omega arith in

@@ -1,4 +1,4 @@
--- What is checked of a letter, except for its context (own).
+-- What the code checks of a letter, except for its context (own).
 use Rattle.std.specs.Prelude.{ℕ, ◌≡◌, ◌||◌, true, List}
 use Rattle.board.specs.Board.{Access}
 use Rattle.round.specs.Scenario.{Scenario, program_of}
@@ -7,13 +7,14 @@ use Rattle.round.specs.Activation.{is_reached}
 use Rattle.round.specs.Runs.{IsWithin}
 use Rattle.world.specs.World.{accesses_of}
 
--- States that the letter's general has ended, within his patience.
+-- States that the letter's general has ended: his program has exited or used up its patience, and took no more steps
+-- than the patience allows.
 pub record EndedInTime (s : Scenario) (l : Letter) : Type 0 where
   pub within : IsWithin s.patience l.steps
   pub over : (l.exited || is_reached s.patience l.steps) ≡ true
 
--- States that the letter is of this general and this round, with his program. He has ended, and his accesses in `piece`
--- are those of the letter.
+-- States that the letter is of this general and this round, with his program. Its general has ended, and its transcript
+-- is exactly his accesses in `piece`.
 pub record Stands (s : Scenario) (piece : List Access) (g round : ℕ) (l : Letter) : Type 0 where
   pub general : l.general ≡ g
   pub round_is : l.round ≡ round

@@ -1,4 +1,4 @@
--- The general of an inbox, and what is left in it after its task is taken (own).
+-- The inboxes of the generals, and what an inbox contains after its task is taken (own).
 use Rattle.std.specs.Prelude.{ℕ, ◌≡◌, ◌<◌, List, length, slice_index_or}
 use Rattle.threads.specs.Duties.{Duty}
 use Rattle.threads.specs.declared.inbox.Inbox.{Inbox}
@@ -10,10 +10,10 @@ left_in (Given task) = Waiting
 left_in Waiting = Waiting
 left_in (Closed home) = Closed home
 
--- States that each general has an inbox of his own, ascending by general.
+-- States that the inboxes are ascending by general: the inbox at index `g` is general `g`'s.
 abbrev pub AreOwn : List Inbox → Type 0
 AreOwn inboxes = (g : ℕ) (d : Inbox) → g < length inboxes → (slice_index_or inboxes g d).general ≡ g
 
--- States that each general has a task of his own, ascending by general.
+-- States that the tasks are ascending by general: the task at index `g` is general `g`'s.
 abbrev pub AreByGeneral : List Duty → Type 0
 AreByGeneral tasks = (g : ℕ) (d : Duty) → g < length tasks → (slice_index_or tasks g d).general ≡ g

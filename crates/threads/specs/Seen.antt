@@ -1,20 +1,21 @@
--- How the contracts of a post's callers see the post and its passes (own).
+-- How contracts see a post, its posters and its collector (own).
 use Rattle.std.specs.Prelude.{ℕ, List}
 use Rattle.atomic_table.specs.Seated.{TableId}
 use Rattle.round.specs.Letters.{Letter}
 
--- The identity of a post, and the number of letters for which it has room.
+-- A post: its identity, and for how many letters it has room.
 pub record PostSeen : Type 0 where
   pub table : TableId
   pub capacity : ℕ
 
--- A poster: its post, its general, and the letters that were posted with it, in order.
+-- A poster: the identity of its post, its general, and the letters that were posted with it, in order.
 pub record PosterSeen : Type 0 where
   pub table : TableId
   pub general : ℕ
   pub posted : List Letter
 
--- A collector: its post, the letters that were taken with it, in order, and the number of generals of the post.
+-- A collector: the identity of its post, the letters that were taken with it, in order, and the number of the post's
+-- generals.
 pub record CollectorSeen : Type 0 where
   pub table : TableId
   pub taken : List Letter

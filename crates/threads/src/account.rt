@@ -12,7 +12,8 @@ use board::Access;
 use round::{Letter, Received, Round, Scenario};
 use std::alloc::{AllocError, Global};
 
-/// Returns whether the accesses of this general in `piece` are exactly those in `transcript`, in the same order.
+/// Returns whether `transcript` is exactly the list of this general's accesses in `piece`, in the same order. `piece`
+/// may also contain accesses of other generals.
 fn is_part(piece: &[Access], general: u32, transcript: &[Access]) -> bool
     ensures { IsTrue result ↔ (accesses_of general piece.now ≡ transcript.now) }
 {
@@ -28,15 +29,15 @@ fn is_part(piece: &[Access], general: u32, transcript: &[Access]) -> bool
     next == transcript.len()
 }
 
-/// Returns whether each access was made in this round, by a general whose number is below `generals`.
+/// Returns whether each access of `piece` was made in round `round`, by a general whose number is below `generals`.
 fn are_known(piece: &[Access], generals: u32, round: u32) -> bool
     ensures { IsTrue result ↔ All (λ a. (a.general < generals) × (a.round ≡ round)) piece.now }
 {
     piece.iter().all(|access| access.general < generals && access.round == round)
 }
 
-/// Returns whether the letter's general ended in time: he exited or used up his patience, and took no more steps than
-/// it allows.
+/// Returns whether the general's activation ended as it should: his program exited, or it used up its patience. It must
+/// not have taken more steps than the patience allows.
 fn is_over(scenario: &Scenario, letter: &Letter) -> bool
     ensures { IsTrue result ↔ EndedInTime scenario.now letter.now }
 {
@@ -46,8 +47,9 @@ fn is_over(scenario: &Scenario, letter: &Letter) -> bool
     }
 }
 
-/// Returns whether a letter is the one expected of this general in this round, except for its context. It has his
-/// program, he ended in time, and its transcript is his accesses in `piece`.
+/// Returns whether `letter` is the letter expected of this general in this round. It must name him and the round,
+/// contain his program and exactly his accesses in `piece`, and show that his activation ended in time. Its context is
+/// not checked here.
 fn stands(scenario: &Scenario, piece: &[Access], general: u8, round: u32, letter: &Letter) -> bool
     requires { general < scenario.now.generals }
     ensures { IsTrue result ↔ Stands scenario.now piece.now general round letter.now }
@@ -59,7 +61,8 @@ fn stands(scenario: &Scenario, piece: &[Access], general: u8, round: u32, letter
         && is_part(piece, u32::from(general), letter.transcript.as_slice())
 }
 
-/// Returns whether a letter has the context that its general has after the first `rounds` rounds.
+/// Returns whether the context in `letter` is the one that this general has after the first `rounds` rounds. `told`
+/// contains what the lieutenants received in these rounds, and perhaps in later ones.
 ///
 /// # Errors
 ///
@@ -85,8 +88,8 @@ fn has_context(
     Ok(letter.context.as_slice() == context.as_slice())
 }
 
-/// Returns whether a letter is its general's letter of round `rounds` + 1, and its transcript is his accesses in
-/// `piece`.
+/// Returns whether `letter` is this general's letter of round `rounds` + 1, and its transcript is exactly his accesses
+/// in `piece`. `told` contains what the lieutenants received in the first `rounds` rounds, and perhaps in later ones.
 ///
 /// # Errors
 ///
@@ -118,8 +121,9 @@ fn holds_letter(
     Ok(has)
 }
 
-/// Returns whether the letters are those of round `rounds` + 1, one for each general, and `piece` has exactly their
-/// accesses.
+/// Returns whether `letters` has exactly one letter of round `rounds` + 1 for each general, in ascending order, and
+/// `piece` has exactly the accesses in these letters. `told` contains what the lieutenants received in the first
+/// `rounds` rounds, and perhaps in later ones.
 ///
 /// # Errors
 ///
@@ -152,7 +156,7 @@ fn holds_round(
     Ok(true)
 }
 
-/// Returns the number of accesses in all these letters, or `most` if there are more.
+/// Returns how many accesses the transcripts of these letters contain together, but at most `most`.
 fn count_accesses(letters: &[Letter], most: usize) -> usize
     ensures { result ≡ min (sum_by (λ l. length l.transcript) letters.now) most }
 {
@@ -164,8 +168,9 @@ fn count_accesses(letters: &[Letter], most: usize) -> usize
     count
 }
 
-/// Returns whether the rest of the ledger accounts for the rounds from index `at` on. `told` is what was received
-/// through the letters of all rounds.
+/// Returns whether `rest`, the ledger's accesses from index `at` of the rounds on, accounts for the letters of these
+/// rounds: `rows[at]` and all later ones. `rows` has the letters of all rounds, and `told` is what the lieutenants
+/// received from them.
 ///
 /// # Errors
 ///

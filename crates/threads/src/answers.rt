@@ -1,4 +1,4 @@
-//! Turns what threads and checks report into the errors of a muster.
+//! Turns what threads and checks report into the errors of `muster`.
 ghost use Rattle.std.specs.Prelude.{◌≡◌, ◌≤◌, ◌+◌, ◌++◌, ◌∷◌, [], find, is_some, length, Ok, Err, IsSomeAnd, MatchBool, MatchOption, MatchResult};
 ghost use Rattle.threads.specs.Answers.{ended_as, first_failure};
 ghost use Rattle.threads.specs.declared.error.MusterError.TheVariants.{Memory, Unaccounted, Spawn};
@@ -6,14 +6,15 @@ ghost use Rattle.threads.specs.declared.error.MusterError.TheVariants.{Memory, U
 use crate::error::MusterError;
 use std::io;
 
-/// Evidence that not all threads were started, with the error to report. Only `kept` creates one.
+/// Evidence that a general's thread could not be started, or its handle not be stored, with the error to report. Only
+/// `kept` creates one.
 #[derive(Clone, Copy)]
 pub(crate) struct Refused {
     error: MusterError,
 }
 
 impl Refused {
-    /// Returns the error that a muster reports if not all threads were started.
+    /// Returns the error that `muster` reports because not all threads were started.
     pub(crate) fn error(self) -> MusterError
         ensures { result ≡ self.error }
     {
@@ -21,11 +22,11 @@ impl Refused {
     }
 }
 
-/// Checks a condition without which the letters are not accounted for.
+/// Returns `Ok` if `is_so`, a condition that must hold if the ledger accounts for the letters.
 ///
 /// # Errors
 ///
-/// `Unaccounted` if the condition does not hold.
+/// `Unaccounted` if `is_so` is false.
 pub(crate) fn accounted(is_so: bool) -> Result<(), MusterError>
     ensures { MatchBool is_so (result ≡ Ok tt) (result ≡ Err Unaccounted) }
 {
@@ -36,11 +37,11 @@ pub(crate) fn accounted(is_so: bool) -> Result<(), MusterError>
     }
 }
 
-/// Returns a value that must be there for the letters to be accounted for.
+/// Returns the value in `found`. If the ledger accounts for the letters, there is one.
 ///
 /// # Errors
 ///
-/// `Unaccounted` if there is no value.
+/// `Unaccounted` if `found` is `None`.
 pub(crate) fn found<T: Drop>(found: Option<T>) -> Result<T, MusterError>
     ensures { MatchOption found (result ≡ Err Unaccounted) (λ own. result ≡ Ok own) }
 {
@@ -50,8 +51,8 @@ pub(crate) fn found<T: Drop>(found: Option<T>) -> Result<T, MusterError>
     }
 }
 
-/// Keeps the handle of a thread that was started. Returns `None`, or what went wrong: `Spawn` if the thread was not
-/// started, or `Memory` if there is no memory for the handle.
+/// Appends the handle of a started thread to `handles` and returns `None`. If it cannot, it returns why: `Spawn` if the
+/// thread was not started, or `Memory` if there is no memory for the handle.
 pub(crate) fn kept<H: Drop>(handles: &mut Vec<H>, started: io::Result<H>) -> Option<Refused>
     ensures handle { MatchResult started
         (λ handle. MatchOption result (handles.new.items ≡ handles.old.items ++ handle ∷ []) (λ r. r.error ≡ Memory))
@@ -68,9 +69,9 @@ pub(crate) fn kept<H: Drop>(handles: &mut Vec<H>, started: io::Result<H>) -> Opt
     Some(Refused { error })
 }
 
-/// Returns how a muster ends: with the error `refused` if a thread was not started, otherwise with the first failure,
-/// otherwise with the outcome. If the failures are ordered by general, ascending, the first is that of the lowest
-/// general who failed.
+/// Returns the result of a muster: the error `refused` if a thread was not started, otherwise the first error in
+/// `failures`, otherwise `outcome`. If `failures` is ordered by general, ascending, its first error is that of the
+/// lowest general who failed.
 pub fn ended<T: Drop, E: Copy>(
     refused: Option<E>,
     failures: &[Option<E>],
@@ -84,7 +85,7 @@ pub fn ended<T: Drop, E: Copy>(
     }
 }
 
-/// Returns the first element that is a failure and not `None`, or `None` if there is no failure.
+/// Returns the first element that is not `None`, or `None` if every element is `None`.
 fn first_failed<E: Copy>(failures: &[Option<E>]) -> Option<Option<E>>
     ensures { result ≡ find (λ failure. is_some failure) failures.now }
 {

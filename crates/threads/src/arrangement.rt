@@ -8,7 +8,7 @@ ghost use Rattle.threads.specs.Taking.{left_by, left_by_all, IsGrid};
 use round::{Letter, Round};
 use std::alloc::{AllocError, Global};
 
-/// Returns the index of the first letter of this general in this round, or `None` if there is none.
+/// Returns the index of the first letter of this general in this round, or `None` if there is no such letter.
 fn index_of(letters: &[Letter], general: u32, round: u32) -> Option<usize>
     ensures within { IfSome result (λ i. i < length letters.now) }
     ensures found { MatchOption result (letter_by general round letters.now ≡ None)
@@ -24,7 +24,8 @@ fn index_of(letters: &[Letter], general: u32, round: u32) -> Option<usize>
     None
 }
 
-/// Removes the first letter of this general in this round and returns it, or returns `None` if there is none.
+/// Removes the first letter of this general in this round from `letters` and returns it. Returns `None` if there is no
+/// such letter.
 fn take(letters: &mut Vec<Letter>, general: u32, round: u32) -> Option<Letter>
     ensures found { result ≡ letter_by general round letters.old.items }
     ensures left { IfSome result (λ _. letters.new.items ≡ left_by general round letters.old.items) }
@@ -36,8 +37,8 @@ fn take(letters: &mut Vec<Letter>, general: u32, round: u32) -> Option<Letter>
     }
 }
 
-/// Removes a letter of each general in this round, and returns these letters by general, ascending. Returns `None` if a
-/// general has none.
+/// Removes the first letter of each general in this round from `letters`, and returns these letters, ascending by
+/// general. Returns `None` if a general has no letter of this round.
 ///
 /// # Errors
 ///
@@ -63,8 +64,8 @@ fn take_round(
     Ok(Some(row))
 }
 
-/// Arranges the letters by round, and in a round by general. Returns `None` unless there is exactly one letter for each
-/// general and round, and no other.
+/// Returns the letters by round, and within a round by general, ascending. Returns `None` unless `letters` has exactly
+/// one letter for each general and round and no other letter.
 ///
 /// # Errors
 ///

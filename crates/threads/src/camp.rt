@@ -1,4 +1,5 @@
-//! Defines what the generals' threads of a campaign share: the gate, the board, the inboxes, the post and the tally.
+//! Defines what the generals' threads of a campaign share: the gate, the board, the inboxes, the post and the count of
+//! posted letters.
 ghost use Rattle.std.specs.Prelude.{◌≡◌, ℕ, ◌<◌, ◌≤◌, ◌∷◌, [], List, length, slice_index_or, IfOk};
 ghost use Rattle.round.specs.Letters.{Letter as LetterSeen};
 ghost use Rattle.round.specs.Told.{WasTold};
@@ -25,24 +26,23 @@ use std::alloc::{AllocError, Global};
 use std::snapshot::Snapshot;
 use std::sync::Wait;
 
-/// Evidence that the generals were given their tasks of a round. Only `Crew::hand_out` creates one.
+/// Evidence that all generals were given their tasks of one round. Only `Crew::hand_out` creates one.
 #[derive(Drop)]
 pub(crate) struct HandedOut {
-    /// The scenario of these tasks.
+    /// The scenario to which the tasks belong.
     scenario: Snapshot<Scenario>,
-    /// What the lieutenants received in the earlier rounds.
+    /// What the lieutenants received in the rounds before the round of the tasks.
     told: Snapshot<Received>,
-    /// Evidence that each task was put into an inbox.
+    /// Evidence that each task was put into its general's inbox.
     given: AllGiven,
 }
 
-/// Evidence that the generals are sent home, since no more tasks will come. Only `Crew::close` creates one.
+/// Evidence that no more tasks will come, so that the generals' threads may end. Only `Crew::close` creates one.
 #[derive(Clone, Copy)]
 pub(crate) struct Home(());
 
-/// What the generals' threads share with each other and with the thread that conducts the rounds. It has the gate, the
-/// board, the inboxes through which the generals receive their tasks, the post for their letters, and the tally of the
-/// letters that were posted.
+/// What the generals' threads share with each other and with the thread that conducts the rounds: the gate, the board,
+/// an inbox for each general's tasks, the post for the letters, and the count of posted letters.
 #[derive(Drop)]
 pub(crate) struct Crew<'a, G, J: Room, C: Claim> {
     pub(crate) gate: &'a G,
@@ -53,8 +53,8 @@ pub(crate) struct Crew<'a, G, J: Room, C: Claim> {
 }
 
 impl<'a, G, J: Room, C: Claim> Crew<'a, G, J, C> {
-    /// Returns the crew of `generals` generals, their posters, ascending by general, and the collector of their
-    /// letters. The post has room for a letter from each general.
+    /// Returns what the threads of `generals` generals share, the generals' posters, ascending by general, and the
+    /// collector of their letters. The post has room for one letter from each general.
     ///
     /// # Errors
     ///
@@ -90,7 +90,7 @@ impl<'a, G, J: Room, C: Claim> Crew<'a, G, J, C> {
         Ok((camp, posters, collector))
     }
 
-    /// Returns the general of this number with his inbox, ready to run in a thread.
+    /// Returns the general of this number with his inbox, for his thread to run.
     pub(crate) fn resident<'c>(&'c self, general: u8) -> GeneralThread<'c, G, J>
         requires inbox { general < length self.now.inboxes.items }
         requires own { AreOwn self.now.inboxes.items }
@@ -109,8 +109,8 @@ impl<'a, G, J: Room, C: Claim> Crew<'a, G, J, C> {
         }
     }
 
-    /// Puts each general's task into his inbox. It is his task in the next round, where `told` is what the lieutenants
-    /// received in the earlier rounds.
+    /// Puts each general's task into his inbox. `tasks` are their tasks in the next round, ascending by general, and
+    /// `told` is what the lieutenants received in the earlier rounds.
     pub(crate) fn hand_out<R: Wait>(
         &self,
         rt: &R,
@@ -138,7 +138,7 @@ impl<'a, G, J: Room, C: Claim> Crew<'a, G, J, C> {
         }
     }
 
-    /// Closes all inboxes, so that the generals get no more tasks.
+    /// Closes all inboxes, so that the generals' threads end. Returns evidence that each inbox was closed.
     pub(crate) fn close<R: Wait>(&self, rt: &R) -> AllShut
         requires own { AreOwn self.now.inboxes.items }
         ensures shut { result.inboxes ≡ length self.now.inboxes.items }
@@ -152,7 +152,7 @@ impl<'a, G, J: Room, C: Claim> Crew<'a, G, J, C> {
     }
 }
 
-/// Returns an empty inbox for each general.
+/// Returns `generals` empty inboxes, one for each general, ascending.
 ///
 /// # Errors
 ///

@@ -1,9 +1,9 @@
-//! Defines claims, which are statements that hold for each letter in a post.
+//! Defines claims: statements that hold for each letter in a post.
 use std::marker::Brand;
 
-/// A statement about letters. It holds for each letter that a post accepts, and so for each letter that is taken out. A
-/// function may be generic over a claim that no type of its signature names. If it is called with `Brand`, the caller's
-/// proof picks the statement.
+/// A statement about letters. It holds for each letter that a post accepts, and so for each letter that is taken out of
+/// it. A function may be generic over a claim that no type of its signature names. If such a function is called with
+/// `Brand` as the claim, the caller's proof chooses the statement.
 pub trait Claim {
     ghost use Rattle.round.specs.Letters.{Letter};
 
@@ -15,7 +15,7 @@ impl Claim for Brand {
     ghost holds = { λ _. Unit {0} };
 }
 
-/// The claim that says nothing, and so holds for any letter.
+/// The claim that holds for every letter.
 pub struct AnyLetter;
 
 impl Claim for AnyLetter {

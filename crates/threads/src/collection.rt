@@ -1,4 +1,4 @@
-//! Collects the letters of a campaign from generals' threads that run through all rounds.
+//! Collects the letters of a campaign from the generals' threads.
 ghost use Rattle.std.specs.Prelude.{◌≡◌, ℕ, ◌<◌, ◌≤◌, [], suc, length, slice_index_or, vec_capacity, None, All, IsPermutation, IfOk, IfSome, Err};
 ghost use Rattle.round.specs.Letters.{Letter as LetterSeen};
 ghost use Rattle.round.specs.Told.{WasTold};
@@ -26,13 +26,13 @@ use std::sync::Wait;
 use std::thread;
 use std::thread::{JoinHandle, Threads};
 
-/// Returns the letters of all rounds, in each round by general, and what was received through them. Each general acts
-/// in a thread of his own through all rounds, with a stack of `stack` bytes. All threads that were started have ended
-/// when it returns.
+/// Returns the letters of all rounds, within a round ascending by general, and what the lieutenants received from them.
+/// Each general has one thread for all rounds, with a stack of `stack` bytes. Before the function returns, all threads
+/// that were started have ended.
 ///
 /// # Errors
 ///
-/// `Memory` if an allocation fails before a thread is started. `Unstarted` if a thread could not be started. Otherwise
+/// `Memory` if an allocation fails before a thread is started, `Unstarted` if a thread could not be started. Otherwise
 /// `Failed` with the failure of the lowest general who failed. Otherwise `Halted` if not all rounds were conducted.
 pub(crate) fn collect<
     R: Threads + Wait + Sync,
@@ -62,7 +62,8 @@ pub(crate) fn collect<
     ending.told()
 }
 
-/// Starts a thread for each poster's general, conducts the rounds, and returns how the campaign ended.
+/// Starts a thread for each general that has a poster, conducts the rounds, and joins the threads. Returns how the
+/// campaign ended.
 ///
 /// # Errors
 ///
@@ -158,8 +159,8 @@ fn through_residents<
     Ok(ending)
 }
 
-/// Conducts the rounds if all threads were started, closes the inboxes, and joins the threads. Returns how the campaign
-/// ended.
+/// Conducts the rounds if all threads were started (`refused` is `None`), closes the inboxes, and joins the threads.
+/// Returns how the campaign ended.
 fn finish<R: Threads + Wait, G, J: Room, C: Claim>(
     rt: &R,
     alloc: Global,
@@ -191,7 +192,8 @@ fn finish<R: Threads + Wait, G, J: Room, C: Claim>(
     Ending::new(refused, answers, outcome)
 }
 
-/// Conducts the rounds if all threads were started.
+/// Conducts the rounds if all threads were started (`refused` is `None`). Returns the letters of all rounds, and what
+/// the lieutenants received from them.
 ///
 /// # Errors
 ///
@@ -219,8 +221,8 @@ fn conducted<R: Wait, G, J: Room, C: Claim>(
     }
 }
 
-/// Joins the threads, and returns an answer of each in a list that must have room for them. At least as many inboxes
-/// must have been closed as there are threads.
+/// Joins the threads of `handles`, and returns their answers. `answers` must be empty, with room for them. `shut` is
+/// evidence that as many inboxes were closed as there are threads, or more, so that the threads end.
 fn joined<R: Threads>(
     rt: &R,
     shut: AllShut,
@@ -240,7 +242,7 @@ fn joined<R: Threads>(
     answers
 }
 
-/// Returns the same answers, ascending by general.
+/// Sorts the answers by general, ascending.
 fn by_general(mut answers: Vec<Answer>) -> Vec<Answer>
     ensures same { IsPermutation answers.items result.items }
     ensures count { length result.items ≡ length answers.items }

@@ -9,8 +9,8 @@ use crate::halt::Halt;
 use crate::tally::Reported;
 use std::alloc::AllocError;
 
-/// Why the letters of a campaign were not all collected. Each variant except `Memory` has evidence, which only the code
-/// that finds the fault can create.
+/// Why the letters of a campaign were not all collected. Each variant except `Memory` contains evidence that only the
+/// code that finds this fault can create.
 #[derive(Clone, Copy)]
 pub(crate) enum Uncollected {
     /// An allocation failed.
@@ -24,7 +24,7 @@ pub(crate) enum Uncollected {
 }
 
 impl Uncollected {
-    /// Returns the error that a muster reports if the letters were not collected for this reason.
+    /// Returns the error that `muster` reports because the letters were not all collected.
     pub(crate) fn error(self) -> MusterError
         ensures { result ≡ uncollected_as self }
     {

@@ -1,10 +1,10 @@
-//! Defines the collector, the pass with which letters are taken out of a post.
+//! Defines the collector: the permission to take letters out of a post.
 use crate::knowledge::Known;
 use crossbeam_queue::Pass;
 use round::Letter;
 use std::marker::Model;
 
-/// The permission to take letters out of a post. It takes no bytes, and there is one for each post.
+/// The permission to take letters out of a post. It takes no memory, and each post has exactly one collector.
 #[derive(Drop)]
 pub struct Collector {
     pub(crate) pass: Pass<Letter, Known>,

@@ -28,13 +28,13 @@ use world::Chronicle;
 /// Evidence that a board does not account for the letters of a campaign. Only `accounted` creates one.
 #[derive(Drop)]
 pub(crate) struct Unlike {
-    /// The board that does not account for the letters.
+    /// A snapshot of this board.
     board: Snapshot<Board>,
 }
 
-/// Returns what the lieutenants decide, ascending by number, if the ledger of the board that served the campaign
-/// accounts for its letters. `told` is what was received through all these letters. The letters are compared with the
-/// ledger while the decisions are made, since neither needs the other.
+/// Returns the order on which each lieutenant decides, ascending by lieutenant, if the ledger of `board` accounts for
+/// the letters in `rows`. `board` served the campaign, and `told` is what the lieutenants received from these letters.
+/// One thread compares the letters with the ledger while another makes the decisions.
 ///
 /// # Errors
 ///
@@ -87,8 +87,8 @@ pub(crate) fn judge<R: Threads + Sync>(
     Ok(decided?)
 }
 
-/// Checks that the board that served a campaign accounts for its letters, which are given by round. `told` is what was
-/// received through all these letters.
+/// Checks that the ledger of `board` accounts for the letters in `rows`, which has them by round. `board` served the
+/// campaign, and `told` is what the lieutenants received from these letters.
 ///
 /// # Errors
 ///
@@ -120,11 +120,11 @@ fn account(
     Ok(())
 }
 
-/// Checks a condition without which this board does not account for the letters.
+/// Returns `Ok` if `is_so`, a condition that must hold if the board accounts for the letters.
 ///
 /// # Errors
 ///
-/// `Unlike` with the board if the condition does not hold.
+/// `Unlike` with a snapshot of the board if `is_so` is false.
 fn accounted(board: &Board, is_so: bool) -> Result<(), Unlike>
     ensures { MatchBool is_so (result ≡ Ok tt) (IsErrAnd result (λ unlike. unlike.board.value ≡ board.now)) }
 {
@@ -137,7 +137,7 @@ fn accounted(board: &Board, is_so: bool) -> Result<(), Unlike>
     }
 }
 
-/// Returns what the lieutenants decide from what they received, ascending by number.
+/// Returns the order on which each lieutenant decides, ascending by lieutenant. `told` is what they received.
 ///
 /// # Errors
 ///
@@ -157,7 +157,7 @@ fn decide<R: Threads + Sync>(
     Ok(as_array(orders.as_slice()))
 }
 
-/// Returns the same orders in an array.
+/// Copies at most 12 orders into an array.
 fn as_array(orders: &[u32]) -> ArrayVec<u32, 12>
     requires { length orders.now ≤ 12 }
     ensures { result.items ≡ orders.now }
@@ -169,8 +169,8 @@ fn as_array(orders: &[u32]) -> ArrayVec<u32, 12>
     list
 }
 
-/// Returns the chronicle of a campaign, made of its accesses, its letters by round and its decisions. The accesses must
-/// account for the letters. The chronicle is that of the replay of the accesses.
+/// Returns the chronicle of a campaign: its accesses, its letters by round and the lieutenants' decisions. The accesses
+/// must account for the letters, so the chronicle is the same as that of the replay of the accesses.
 pub(crate) fn conclude(
     scenario: Scenario,
     accesses: Vec<Access>,

@@ -19,12 +19,14 @@ use shared_board::Room;
 use std::alloc::{AllocError, Global};
 use std::sync::Wait;
 
-/// Conducts all rounds, and returns the letters of each round by general, and what was received through them. In each
-/// round it gives the generals their tasks, and takes their letters once all generals have posted.
+/// Conducts all rounds. In each round it gives the generals their tasks, waits until all have posted their letters, and
+/// takes these out of the post. Returns the letters of all rounds, within a round ascending by general, and what the
+/// lieutenants received from them.
 ///
 /// # Errors
 ///
-/// `Memory` if an allocation fails, `Failed` if a general has failed, `Strayed` if letters are not of their round.
+/// `Memory` if an allocation fails, `Failed` if a general has failed, `Strayed` if the letters taken are not those of
+/// their round.
 pub(crate) fn conduct<R: Wait, G, J: Room, C: Claim>(
     rt: &R,
     alloc: Global,
@@ -57,7 +59,8 @@ pub(crate) fn conduct<R: Wait, G, J: Room, C: Claim>(
     Ok((rows, told))
 }
 
-/// Returns the generals' tasks in the next round, ascending by general.
+/// Returns the generals' tasks in the next round, ascending by general. `told` is what the lieutenants received in the
+/// earlier rounds.
 ///
 /// # Errors
 ///

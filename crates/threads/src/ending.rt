@@ -1,4 +1,4 @@
-//! Defines how a campaign with threads ends, and turns that into letters or an error.
+//! Defines how a campaign with threads ends: with letters or with an error.
 ghost use Rattle.std.specs.Prelude.{◌≡◌, ◌≤◌, length, map, option_map};
 ghost use Rattle.threads.specs.Answers.{ended_as, failure_of, first_failure, outcome_as};
 ghost use Rattle.threads.specs.declared.collection_error.Uncollected.TheVariants.{Unstarted};
@@ -10,7 +10,8 @@ use crate::resident::Answer;
 use arrayvec::ArrayVec;
 use round::{Received, Round};
 
-/// How a campaign with threads has ended. Only `told` turns it into a result, so no answer is lost.
+/// How a campaign with threads has ended. Only `Ending::told` turns it into a result, and that looks at every thread's
+/// answer.
 #[derive(Drop)]
 pub(crate) struct Ending {
     refused: Option<Refused>,
@@ -19,8 +20,8 @@ pub(crate) struct Ending {
 }
 
 impl Ending {
-    /// Returns the ending with these parts: why a thread was not started, the answers of those that were, and the
-    /// outcome of the rounds.
+    /// Returns an ending. `refused` says why a thread was not started, `answers` are the results of the threads that
+    /// were, and `outcome` is the result of conducting the rounds.
     pub(crate) fn new(
         refused: Option<Refused>,
         answers: Vec<Answer>,
@@ -37,12 +38,12 @@ impl Ending {
         }
     }
 
-    /// Returns the letters of all rounds, and what was received through them.
+    /// Returns the letters of all rounds, and what the lieutenants received from them.
     ///
     /// # Errors
     ///
-    /// `Unstarted` if not all threads were started, otherwise the first failure among the answers. Otherwise `Halted`
-    /// if not all rounds were conducted.
+    /// `Unstarted` if not all threads were started, otherwise `Failed` with the first failure among the answers.
+    /// Otherwise `Halted` if not all rounds were conducted.
     pub(crate) fn told(self) -> Result<(Vec<Round>, Received), Uncollected>
         requires { length self.answers.items ≤ 13 }
         ensures { result ≡ ended_as (option_map Unstarted self.refused)
@@ -55,7 +56,7 @@ impl Ending {
     }
 }
 
-/// Returns why each general has failed, or `None` for a general who has not.
+/// Returns for each answer why its general has failed, or `None` if he has not.
 fn failures(answers: &[Answer]) -> ArrayVec<Option<Uncollected>, 13>
     requires { length answers.now ≤ 13 }
     ensures { result.items ≡ map failure_of answers.now }

@@ -1,4 +1,4 @@
-//! Defines the errors of musters.
+//! Defines the errors of `muster` and `gather`.
 ghost use Rattle.std.specs.Prelude.{◌≡◌};
 ghost use Rattle.threads.specs.declared.error.MusterError.TheVariants.{Memory};
 
@@ -6,16 +6,16 @@ use std::alloc::{AllocError, AllocFailed};
 use std::error::Error;
 use std::fmt;
 
-/// Why a muster has no chronicle.
+/// Why `muster` returns no chronicle, or `gather` no letters.
 #[derive(Clone, Copy, Debug, PartialEq, Eq)]
 pub enum MusterError {
     /// An allocation failed.
     Memory,
-    /// M2: the ledger does not account for the letters, or the board did not open with the scenario's words.
+    /// M2: the ledger does not account for the letters, or the board's first words were not the scenario's.
     Unaccounted,
     /// M3: a thread could not be started.
     Spawn,
-    /// M4: the post was full.
+    /// M4: the post had no room for a general's letter.
     Post,
 }
 

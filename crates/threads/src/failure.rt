@@ -1,4 +1,4 @@
-//! Defines why a general's thread fails.
+//! Defines why a general's thread can fail.
 ghost use Rattle.std.specs.Prelude.{◌≡◌, ◌≢◌, MatchResult};
 ghost use Rattle.threads.specs.Answers.{failure_as};
 ghost use Rattle.threads.specs.declared.failure.Failure.TheVariants.{Memory, Foreign as NotHis, Returned as Back};
@@ -11,24 +11,24 @@ use std::alloc::AllocError;
 /// Evidence that a general was given another general's task. Only `is_his` creates one.
 #[derive(Clone, Copy)]
 pub(crate) struct Foreign {
-    /// The general who was given the task.
+    /// The general who was given another general's task.
     general: u32,
 }
 
-/// Why a general has failed. Each variant except `Memory` has evidence, which only the code that finds the fault can
-/// create.
+/// Why a general has failed. Each variant except `Memory` contains evidence that only the code that finds this fault
+/// can create.
 #[derive(Clone, Copy)]
 pub(crate) enum Failure {
     /// An allocation failed.
     Memory,
     /// He was given another general's task.
     Foreign(Foreign),
-    /// The post returned a letter of his.
+    /// The post had no room for his letter, and returned it.
     Returned(Returned),
 }
 
 impl Failure {
-    /// Returns the error that a muster reports for this failure.
+    /// Returns the error that `muster` reports for this failure.
     pub(crate) fn error(self) -> MusterError
         ensures { result ≡ failure_as self }
     {
@@ -64,11 +64,11 @@ impl From<Returned> for Failure {
     }
 }
 
-/// Checks that a task is this general's.
+/// Checks that a task belongs to this general.
 ///
 /// # Errors
 ///
-/// `Foreign` if it is another general's.
+/// `Foreign` if it belongs to another general.
 pub(crate) fn is_his(task: &Task, general: u32) -> Result<(), Foreign>
     ensures { MatchResult result (λ _. task.now.general ≡ general)
         (λ foreign. (task.now.general ≢ general) × (foreign.general ≡ general)) }

@@ -1,4 +1,5 @@
-//! Defines gates, which may hold a general before each access, and the board as a general uses it through a gate.
+//! Defines gates, which may hold a general before each access to the board, and the board as a general reaches it
+//! through a gate.
 ghost use Rattle.std.specs.Prelude.{◌≡◌, ℕ, ◌++◌, ◌∷◌, ◌<◌, ◌==◌, [], true, List, count_by, vec_len, vec_capacity, IfOk, OnErr};
 ghost use Rattle.semantics.specs.Call.{fits};
 ghost use Rattle.semantics.specs.Replies.{words_in};
@@ -17,20 +18,20 @@ use std::alloc::{AllocError, Global};
 use std::marker::{Model, PhantomData};
 use std::sync::Wait;
 
-/// A gate, which may hold generals before their accesses for as long as it likes.
+/// A gate, which may hold a general before each of his accesses to the board for as long as it likes.
 pub trait Gate {
-    /// What holds for a general, a round and a number once the access of this number has passed. A gate that does not
-    /// define it says nothing.
+    /// What is known after this gate has let a general pass, given his number, the round, and the number of the access
+    /// in that round, counted from 0. A gate that does not define it states nothing.
     ghost passed: { Self → ℕ → ℕ → ℕ → Type 0 } = { λ _ _ _ _. Unit {0} };
 
-    /// Holds a general before an access. It is called each time before the board's lock is taken, and never while the
-    /// lock is held. `nth` is the number of the access, counted from 0 for this general and round. The contract does
+    /// Holds a general before an access until he may go on. `nth` is the number of the access, counted from 0 for this
+    /// general and round. It is called before each access, and never while the board's lock is held. The contract does
     /// not promise this to an implementer.
     fn before_access(&self, general: u32, round: u32, nth: u64)
         ensures { passed self.now general round nth };
 }
 
-/// A gate that lets everyone pass at once.
+/// A gate that lets every general pass at once.
 #[derive(Clone, Copy)]
 pub struct Open;
 
@@ -38,9 +39,9 @@ impl Gate for Open {
     fn before_access(&self, _general: u32, _round: u32, _nth: u64) {}
 }
 
-/// The board as one general uses it for one task. For each access he first passes the gate and then takes the lock.
-/// Contracts see the accesses that its session `T` names, followed by those served for this task, and the beginning of
-/// the board's history that he has met.
+/// The board as one general uses it for one task. For each access he first passes the gate and then takes the board's
+/// lock. Contracts see the accesses of his earlier tasks (`T::before`) followed by those of this task, and the part of
+/// the board's history that he has seen.
 #[derive(Drop)]
 pub(crate) struct Gated<'a, R, G: Gate, J: Room, T: Session> {
     rt: &'a R,
@@ -48,7 +49,7 @@ pub(crate) struct Gated<'a, R, G: Gate, J: Room, T: Session> {
     board: &'a SharedBoard<J>,
     /// The general's permission to have accesses served.
     me: Witness<J>,
-    /// All accesses that were served to him for this task.
+    /// All accesses that the board has served for this task.
     made: Made,
     session: PhantomData<T>,
 }
@@ -67,8 +68,8 @@ impl<'a, R, G: Gate, J: Room, T: Session> Model for Gated<'a, R, G, J, T> {
 }
 
 impl<'a, R, G: Gate, J: Room, T: Session> Gated<'a, R, G, J, T> {
-    /// Returns the board as the general with this witness uses it. As many accesses were served through the witness as
-    /// `T::before` has, and the history that it has met contains them all.
+    /// Returns the board as the general with the witness `me` uses it for his next task. The witness must have been
+    /// used for as many accesses as `T::before` has, and the board's history that it has seen must contain these.
     pub(crate) fn new(
         rt: &'a R,
         alloc: Global,
@@ -90,8 +91,8 @@ impl<'a, R, G: Gate, J: Room, T: Session> Gated<'a, R, G, J, T> {
         }
     }
 
-    /// Returns the witness when the task is done. As many accesses were served through it as before and for the task
-    /// together. For each access of the task, `T::passed` holds.
+    /// Returns the witness when the task is done. It has been used for exactly the accesses of the earlier tasks and of
+    /// this one. Each access of this task has passed the gate (`T::passed`).
     pub(crate) fn into_witness(self) -> Witness<J>
         ensures served { AreWitnessed self.entry.made result }
         ensures passed { (now : List Entry) × (self.entry.made ≡ T.before ++ now) × HavePassed T.passed [] now }
@@ -100,16 +101,17 @@ impl<'a, R, G: Gate, J: Room, T: Session> Gated<'a, R, G, J, T> {
     }
 }
 
-/// A poster whose letters contain as many accesses as were served through a witness. The history that the witness has
-/// met contains them all. Only `Settled::new` creates one.
+/// Evidence that a general's posted letters contain as many accesses as were served to him, and that the board's
+/// history contains them all. Only `Settled::new` creates one.
 #[derive(Drop)]
 pub(crate) struct Settled {
     poster: Poster,
 }
 
 impl Settled {
-    /// Returns a settled poster. The poster's letters must contain as many accesses as were served through this
-    /// witness, and the history that it has met must contain them all.
+    /// Drops the witness, and returns the evidence for its general's poster. The letters posted with `poster` must
+    /// contain as many accesses as were served through the witness, and the history that the witness has seen must
+    /// contain them all.
     pub(crate) fn new<J: Room>(poster: Poster, me: Witness<J>) -> Settled
         requires { AreWitnessed (told_in poster.posted) me }
         ensures { result.poster ≡ poster }
@@ -137,11 +139,12 @@ impl<'a, R: Wait, G: Gate, J: Room, T: Session> Server for Gated<'a, R, G, J, T>
     }
 }
 
-/// Passes the gate, has an access served, and enters it into the list, which must have room for it.
+/// Passes the gate, has the board serve an access, and appends the access to `made`, which must have room for it.
+/// Returns the board's reply.
 ///
 /// # Errors
 ///
-/// `AllocError` if an allocation fails. Then nothing was served or entered.
+/// `AllocError` if an allocation fails. Then nothing was served or appended.
 fn serve_entered<R: Wait, G: Gate, J: Room>(
     rt: &R,
     gate: &G,

@@ -9,8 +9,8 @@ use crate::round_letters::Strayed;
 use crate::tally::SomeoneFailed;
 use std::alloc::{AllocError, AllocFailed};
 
-/// Why not all rounds were conducted. Each variant except `Memory` has evidence, which only the code that finds the
-/// fault can create.
+/// Why not all rounds of a campaign were conducted. Each variant except `Memory` contains evidence that only the code
+/// that finds this fault can create.
 #[derive(Clone, Copy)]
 pub(crate) enum Halt {
     /// An allocation failed.
@@ -19,12 +19,12 @@ pub(crate) enum Halt {
     Unstarted(Refused),
     /// A general has failed.
     Failed(SomeoneFailed),
-    /// Letters are not of their round.
+    /// The letters taken for a round are not exactly one letter of that round for each general.
     Strayed(Strayed),
 }
 
 impl Halt {
-    /// Returns the error that a muster reports if the rounds stopped for this reason.
+    /// Returns the error that `muster` reports because not all rounds were conducted.
     pub(crate) fn error(self) -> MusterError
         ensures { result ≡ halt_as self }
     {

@@ -1,4 +1,4 @@
-//! Defines the inbox, in which a general's thread waits for its next task.
+//! Defines the inbox, from which a general's thread takes its tasks.
 ghost use Rattle.std.specs.Prelude.{◌≡◌, ◌≢◌, IfErr, MatchResult};
 ghost use Rattle.threads.specs.Inboxes.{left_in};
 ghost use Rattle.threads.specs.declared.inbox.Phase.TheVariants.{Waiting as NoneYet, Given as Tasked, Closed as NoMore};
@@ -16,14 +16,14 @@ pub(crate) use steps::{Given, Shut};
 enum Phase {
     /// There is no task yet.
     Waiting,
-    /// There is a task to be done.
+    /// There is a task for the general's thread to take.
     Given(Task),
-    /// No more tasks will come, since the general is sent home.
+    /// No more tasks will come, so the general's thread ends.
     Closed(Home),
 }
 
 impl Phase {
-    /// Takes the task that was given. There must be a task, or the inbox must be closed.
+    /// Takes the task out of the inbox. The inbox must have a task or be closed. A closed inbox stays closed.
     ///
     /// # Errors
     ///
@@ -44,16 +44,16 @@ impl Phase {
     }
 }
 
-/// Evidence that an inbox was found closed. Only `Crew::close` closes inboxes, and only the inbox creates this value.
+/// Evidence that a general's inbox was found closed. Only `Inbox::next` creates one.
 #[derive(Drop)]
 pub(crate) struct Closed {
-    /// The general whose inbox it is.
+    /// The general whose inbox was found closed.
     general: u32,
-    /// Evidence that he is sent home.
+    /// Evidence that no more tasks will come.
     home: Home,
 }
 
-/// The inbox of one general, through which he is given his tasks, one at a time.
+/// The inbox of one general. It holds at most one task, which his thread takes out.
 #[derive(Drop)]
 pub(crate) struct Inbox {
     /// The general whose inbox it is.
@@ -74,7 +74,8 @@ impl Inbox {
         }
     }
 
-    /// Puts a task of the inbox's general into the inbox, and wakes his thread.
+    /// Puts a task of the inbox's general into the inbox, and wakes his thread. Returns evidence that the task was
+    /// given.
     pub(crate) fn put<R: Wait>(&self, rt: &R, task: Task) -> Given
         requires { task.general ≡ self.now.general }
         ensures { result.general ≡ self.now.general }
@@ -84,7 +85,8 @@ impl Inbox {
         given
     }
 
-    /// Closes the inbox, so that its general gets no more tasks, and wakes his thread.
+    /// Closes the inbox, so that its general gets no more tasks, and wakes his thread. Returns evidence that the inbox
+    /// was closed.
     pub(crate) fn close<R: Wait>(&self, rt: &R, home: Home) -> Shut
         ensures { result.general ≡ self.now.general }
     {
@@ -93,7 +95,7 @@ impl Inbox {
         shut
     }
 
-    /// Waits for the next task, and takes it.
+    /// Waits until the inbox has a task, takes it out and returns it.
     ///
     /// # Errors
     ///

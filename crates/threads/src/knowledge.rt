@@ -1,4 +1,5 @@
-//! Defines what the passes of a post know. No value of these types is ever created.
+//! Defines what the holder of a post's pass knows. These types occur only in contracts, and no value of them is ever
+//! created.
 use round::Letter;
 use std::collections::LinkedList;
 
@@ -8,9 +9,9 @@ pub(crate) struct Posted {
     pub(crate) letters: LinkedList<Letter>,
 }
 
-/// What a pass knows. A poster knows its general and the letters that it has posted. The collector knows the letters
-/// that were taken, the number of generals for whom posters were made, and the letters of each poster that was
-/// returned.
+/// What the holder of a pass of the post knows. A poster knows its general and the letters that it has posted. The
+/// collector knows the letters that it has taken, for how many generals it has made posters, and the letters posted
+/// with each poster that was returned to it.
 pub(crate) struct Known {
     pub(crate) posts: bool,
     pub(crate) takes: bool,

@@ -13,14 +13,14 @@ use board::Access;
 use round::{Letter, Received, Round, Scenario, are_letters_of};
 use std::alloc::{AllocError, Global};
 
-/// Returns the letters by round, and in a round by general, if the ledger accounts for them. Then there is one letter
-/// for each general and round, and no other. Each letter has its general's program, and the context that results from
-/// the letters of the rounds before. Each traitor has ended. The ledger has exactly the letters' accesses, round by
-/// round.
+/// Returns the letters by round, and within a round by general, if the ledger accounts for them. Then there is exactly
+/// one letter for each general and round. Each letter has its general's program, and the context that results from the
+/// letters of the earlier rounds. Each traitor's activation has ended. The ledger contains exactly the accesses in the
+/// letters, round by round.
 ///
 /// # Errors
 ///
-/// `Memory` if an allocation fails, and otherwise `Unaccounted` exactly if the ledger does not account for the letters.
+/// `Memory` if an allocation fails, otherwise `Unaccounted` exactly if the ledger does not account for the letters.
 pub fn gather(
     alloc: Global,
     scenario: &Scenario,
@@ -42,8 +42,8 @@ pub fn gather(
     Ok(rows)
 }
 
-/// Delivers the letters of all rounds, and returns what was received through them. Returns `None` if the letters of
-/// some round are not letters of that round.
+/// Delivers the letters of all rounds, and returns what the lieutenants received. Returns `None` if some element of
+/// `rows` is not the letters of its round, one for each general.
 ///
 /// # Errors
 ///

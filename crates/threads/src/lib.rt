@@ -1,5 +1,5 @@
-//! Plays campaigns with a thread for each general, in `muster`. The threads give their letters through a queue, the
-//! post, and `gather` checks letters against the ledger.
+//! Plays campaigns with one thread for each general (`muster`). The threads put their generals' letters into a shared
+//! queue, the post. `gather` checks the letters against the board's ledger.
 #![tactic(auto)]
 
 mod account;

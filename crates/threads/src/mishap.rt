@@ -1,4 +1,4 @@
-//! Defines why a muster has no chronicle, with the evidence for it.
+//! Defines why `muster` returns no chronicle, with the evidence for it.
 ghost use Rattle.std.specs.Prelude.{◌≡◌};
 ghost use Rattle.threads.specs.Answers.{mishap_as};
 ghost use Rattle.threads.specs.declared.mishap.Mishap.TheVariants.{Memory, Uncollected as NotAll, Unlike as NotTheirs};
@@ -8,8 +8,8 @@ use crate::conclusion::Unlike;
 use crate::error::MusterError;
 use std::alloc::AllocError;
 
-/// Why a muster has no chronicle. Each variant except `Memory` has evidence, which only the code that finds the fault
-/// can create.
+/// Why `muster` returns no chronicle. Each variant except `Memory` contains evidence that only the code that finds this
+/// fault can create.
 #[derive(Drop)]
 pub(crate) enum Mishap {
     /// An allocation failed.

@@ -1,4 +1,4 @@
-//! Plays campaigns with a thread for each general.
+//! Plays campaigns with one thread for each general.
 ghost use Rattle.std.specs.Prelude.{◌≡◌, ◌≤◌, ◌↔◌, suc, length, All, IfOk, IfErr};
 ghost use mathlib.Core.List.{IsPrefix};
 ghost use Rattle.board.specs.Board.{IsLegal};
@@ -30,31 +30,31 @@ use world::Chronicle;
 /// The stack size of each thread, in bytes.
 const STACK: usize = 1 << 20;
 
-/// Plays the scenario's campaign with a thread for each general. A general acts in his thread through all rounds, and
-/// posts his letters. Before each access of a traitor's program to the board, the gate may hold the traitor.
+/// Plays the scenario's campaign with one thread for each general. The thread makes its general's letter in each round.
+/// Before each access to the board, `gate` may hold the traitor who makes it.
 ///
-/// The following is so for all programs that the verifier accepts, for all gates, and in whatever order the generals
-/// take the lock:
+/// The following holds for all programs that the verifier accepts, for all gates, and in whatever order the generals
+/// take the board's lock:
 ///
-/// - The chronicle is that of a complete run, namely of the replay of its own accesses.
-/// - The accesses are one legal history that begins with the scenario's words.
+/// - The chronicle is the one that replaying its own accesses gives, and this replay is a complete run.
+/// - The accesses are a legal ledger of a board that has the scenario's words at first.
 /// - No activation traps or takes more steps than its program has instructions (`safe`).
-/// - Each letter is complete: a traitor's is the run of his program to its end, with his accesses (`whole`).
+/// - Each letter is complete: a traitor's letter is the run of his program to its end, with his accesses (`whole`).
 /// - Each lieutenant decides what OM(m) gives from the recorded messages.
-/// - If the bound holds, all loyal lieutenants decide alike, on the commander's order if he is loyal (TOPLAS 1982,
-///   Theorem 1).
+/// - If the bound holds, all loyal lieutenants decide on the same order, and on the commander's order if he is loyal
+///   (TOPLAS 1982, Theorem 1).
 ///
-/// Each access in a letter of the chronicle satisfies what the gate says of an access that has passed. `Gate::passed`
-/// holds for its general, its round and its number, counted from 0 in the letter.
+/// For each access in a letter of the chronicle, `Gate::passed` holds for its general, its round and its number in the
+/// letter, counted from 0.
 ///
-/// The function joins its threads, and returns when all of them have ended.
+/// The function returns after it has joined all its threads.
 ///
 /// # Errors
 ///
 /// `Spawn` if a thread could not be started; the threads that were started are joined first. `Memory` if an allocation
 /// fails. `Post` if the post was full when a general posted his letter. If several generals fail, the error is that of
-/// the lowest. `Unaccounted` if the letters are not those that the ledger accounts for. It is not proved that `Post`
-/// and `Unaccounted` never happen with the threads that are started here.
+/// the lowest. `Unaccounted` if the ledger does not account for the letters. It is not proved that `Post` and
+/// `Unaccounted` never happen with the threads that are started here.
 pub fn muster<R: Threads + Wait + Sync, G: Gate + Sync>(
     rt: &R,
     alloc: Global,
@@ -80,7 +80,7 @@ pub fn muster<R: Threads + Wait + Sync, G: Gate + Sync>(
     Ok(muster_on(rt, alloc, scenario, gate, STACK)?)
 }
 
-/// Plays the scenario's campaign as `muster` does, where each thread gets a stack of `stack` bytes.
+/// Plays the scenario's campaign as `muster` does. Each thread gets a stack of `stack` bytes.
 ///
 /// # Errors
 ///
@@ -111,11 +111,11 @@ pub fn muster_with<R: Threads + Wait + Sync, G: Gate + Sync>(
     Ok(muster_on(rt, alloc, scenario, gate, stack)?)
 }
 
-/// Plays the scenario's campaign as `muster` does, where each thread gets a stack of `stack` bytes.
+/// Plays the scenario's campaign as `muster` does. Each thread gets a stack of `stack` bytes.
 ///
 /// # Errors
 ///
-/// Why there is no chronicle, with the evidence for it.
+/// `Mishap` says why there is no chronicle, with the evidence for it.
 fn muster_on<R: Threads + Wait + Sync, G: Gate + Sync>(
     rt: &R,
     alloc: Global,
@@ -144,12 +144,12 @@ fn muster_on<R: Threads + Wait + Sync, G: Gate + Sync>(
     mustered::<R, G, Brand>(rt, alloc, scenario, gate, stack, unshared)
 }
 
-/// Plays the scenario's campaign as `muster` does, on this board, which has the name `J` and is not shared yet. The
-/// board opens with the scenario's words.
+/// Plays the scenario's campaign as `muster` does, on the board `unshared`. `J` is this board's name in proofs. No
+/// thread uses the board yet, and it must have the scenario's words.
 ///
 /// # Errors
 ///
-/// Why there is no chronicle, with the evidence for it.
+/// `Mishap` says why there is no chronicle, with the evidence for it.
 fn mustered<R: Threads + Wait + Sync, G: Gate + Sync, J: Room + Send + Sync>(
     rt: &R,
     alloc: Global,
@@ -187,13 +187,13 @@ fn mustered<R: Threads + Wait + Sync, G: Gate + Sync, J: Room + Send + Sync>(
     by_board::<R, G, J, Brand>(rt, alloc, scenario, gate, stack, board, witness, witnesses)
 }
 
-/// Plays the scenario's campaign as `muster` does, on this board. The board opens with the scenario's words. Each
-/// general gets one of `witnesses`, while `witness` stays here. The accesses of the chronicle begin with those that
-/// `witness` has met. The post's claim about each letter is that its accesses have passed this gate.
+/// Plays the scenario's campaign as `muster` does, on `board`, which must have the scenario's words at first. Each
+/// general gets one of `witnesses`. `witness` is kept to take the board back at the end, so the chronicle's accesses
+/// begin with those that it has seen.
 ///
 /// # Errors
 ///
-/// Why there is no chronicle, with the evidence for it.
+/// `Mishap` says why there is no chronicle, with the evidence for it.
 fn by_board<
     R: Threads + Wait + Sync,
     G: Gate + Sync,

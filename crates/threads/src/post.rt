@@ -1,5 +1,5 @@
-//! Defines the post, the queue through which threads give their letters. The letters of each general are taken in the
-//! order in which he posted them, each once.
+//! Defines the post: the queue into which the generals' threads put their letters. Each general's letters are taken out
+//! in the order in which he posted them, each exactly once.
 ghost use Rattle.std.specs.Prelude.{◌≡◌, ℕ, ◌<◌, ◌++◌, ◌∷◌, [], List, All, map, true, length, IfOk, IfErr, slice_index_or, IfSome, MatchOption, MatchResult};
 ghost use Rattle.crossbeam_queue.specs.Passes.{view, IsPassOf};
 ghost use Rattle.round.specs.Letters.{Letter as LetterSeen};
@@ -17,9 +17,8 @@ use std::alloc::{AllocError, Global};
 use std::marker::Model;
 use std::sync::Wait;
 
-/// A queue of letters that threads share. For each general, the letters that were taken and then those that are queued
-/// are the letters that he has posted, in order and each once, whatever the threads do. The claim that its type names
-/// holds for each letter in it.
+/// A queue of letters that threads share. For each general, the letters already taken, followed by those still queued,
+/// are exactly the letters that he has posted, in order. The claim `C` holds for each letter in the queue.
 #[derive(Drop)]
 pub struct PostOf<C: Claim> {
     queue: Queue<C>,
@@ -39,7 +38,8 @@ impl<C: Claim> Model for PostOf<C> {
 }
 
 impl<C: Claim> PostOf<C> {
-    /// Returns an empty post with room for `capacity` letters, a poster for each general, ascending, and the collector.
+    /// Returns an empty post with room for `capacity` letters, a poster for each of `generals` generals, ascending, and
+    /// the collector.
     ///
     /// # Errors
     ///
@@ -65,8 +65,8 @@ impl<C: Claim> PostOf<C> {
         Ok((PostOf { queue, alloc }, posters, Collector { pass }))
     }
 
-    /// Posts a letter of the poster's general, for which the claim holds. Returns the letter as an error if the post is
-    /// full.
+    /// Posts a letter of the poster's general, for which the claim `C` must hold. Returns the poster, and the letter as
+    /// an error if the post is full.
     pub fn post<R: Wait>(
         &self,
         rt: &R,
@@ -87,7 +87,7 @@ impl<C: Claim> PostOf<C> {
         (Poster { pass }, sent)
     }
 
-    /// Takes the oldest letter, if there is one.
+    /// Takes the oldest letter out of the post. Returns the collector, and the letter or `None` if the post is empty.
     pub fn take<R: Wait>(&self, rt: &R, collector: Collector) -> (Collector, Option<Letter>)
         requires post { collector.table ≡ self.now.table }
         ensures post { result.0.table ≡ collector.table }
@@ -102,12 +102,12 @@ impl<C: Claim> PostOf<C> {
         (Collector { pass }, taken)
     }
 
-    /// Ends the post, and returns the queued letters, oldest first. After the letters that were taken before, they are
-    /// what the posters' generals have posted. The memory for them is allocated before the first is taken.
+    /// Ends the post, and returns the letters still queued, oldest first. Together with the letters taken earlier, they
+    /// are exactly the letters that the generals of `posters` have posted.
     ///
     /// # Errors
     ///
-    /// `AllocError` if an allocation fails. The letters that were taken before are then a beginning of those that came.
+    /// `AllocError` if an allocation fails. Then only letters that were still queued are lost.
     pub fn settle<R: Wait>(
         self,
         rt: &R,
@@ -133,7 +133,8 @@ impl<C: Claim> PostOf<C> {
     }
 }
 
-/// Takes all posters back into the collector's pass, and returns that pass.
+/// Returns all posters to the collector's pass, so that this pass knows which letters each of them has posted. Returns
+/// the collector's pass.
 fn all_back<C: Claim>(
     queue: &Queue<C>,
     mut pass: Pass<Letter, Known>,
@@ -155,7 +156,8 @@ fn all_back<C: Claim>(
     pass
 }
 
-/// Takes the letters that are left, in the order in which they come.
+/// Takes all queued letters, oldest first, and appends them to `left`, which must be empty. Returns the collector's
+/// pass and these letters.
 ///
 /// # Errors
 ///

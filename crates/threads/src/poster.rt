@@ -1,10 +1,10 @@
-//! Defines the poster, the pass with which one general posts letters.
+//! Defines the poster: one general's permission to post letters.
 use crate::knowledge::Known;
 use crossbeam_queue::Pass;
 use round::Letter;
 use std::marker::Model;
 
-/// One general's permission to post letters. It takes no bytes, and there is one for each general of a post.
+/// One general's permission to post letters. It takes no memory, and a post has exactly one for each general.
 #[derive(Drop)]
 pub struct Poster {
     pub(crate) pass: Pass<Letter, Known>,

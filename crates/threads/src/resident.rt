@@ -23,14 +23,14 @@ use std::alloc::Global;
 use std::marker::Brand;
 use std::sync::Wait;
 
-/// Evidence that a general has failed for good, and why. Only `GeneralThread::stay` creates one.
+/// Evidence that a general has failed, and why. Only `GeneralThread::stay` creates one.
 #[derive(Clone, Copy)]
 pub(crate) struct Failed {
     failure: Failure,
 }
 
 impl Failed {
-    /// Returns the error that a muster reports for this failure.
+    /// Returns the error that `muster` reports for this failure.
     pub(crate) fn error(self) -> MusterError
         ensures { result ≡ failure_as self.failure }
     {
@@ -41,15 +41,15 @@ impl Failed {
 /// The result of a general's thread. Only `GeneralThread::stay` creates one.
 #[derive(Drop)]
 pub(crate) struct Answer {
-    /// The general whose thread it was.
+    /// The general whose thread returned this answer.
     general: u32,
-    /// If his inbox was closed, the evidence for that and his settled poster, which a failing task takes from him. If
-    /// he failed, the evidence that he reported it to the thread that waits for the letters.
+    /// `Ok` if his inbox was closed: the evidence for that, and evidence that his letters contain all his accesses.
+    /// `Err` if he failed: the evidence that he reported it to the thread that waits for the letters.
     ended: Result<(Closed, Settled), Reported>,
 }
 
 impl Answer {
-    /// Returns the general whose thread it was.
+    /// Returns the general whose thread returned this answer.
     pub(crate) fn general(&self) -> u32
         ensures { result ≡ self.now.general }
     {
@@ -67,7 +67,7 @@ impl Answer {
     }
 }
 
-/// A general who acts in one thread through all rounds: his inbox, and what he shares with the others.
+/// A general, with his inbox and what he shares with the other generals. His thread runs it through all rounds.
 #[derive(Drop)]
 pub(crate) struct GeneralThread<'a, G, J: Room> {
     pub(crate) general: u32,
@@ -78,8 +78,8 @@ pub(crate) struct GeneralThread<'a, G, J: Room> {
 }
 
 impl<'a, G: Gate, J: Room> GeneralThread<'a, G, J> {
-    /// Does the general's tasks until his inbox is closed or he fails. If he fails, he reports it to the thread that
-    /// waits for the letters.
+    /// Does the general's tasks until his inbox is closed or he fails. If he fails, this reports it to the thread that
+    /// waits for the letters. Returns how his thread ended.
     pub(crate) fn stay<R: Wait, C: Claim>(
         self,
         rt: &R,
@@ -110,13 +110,12 @@ impl<'a, G: Gate, J: Room> GeneralThread<'a, G, J> {
         }
     }
 
-    /// Does the tasks that the inbox gives, until it is closed. Nothing else ends them without an error. No task has
-    /// failed then, since the poster and the witness are still there. The poster's letters contain as many accesses as
-    /// were served through the witness.
+    /// Does each task from the general's inbox until the inbox is closed. Returns evidence that it was closed, and
+    /// evidence that the letters he posted contain all his accesses.
     ///
     /// # Errors
     ///
-    /// The errors are those of `do_task`.
+    /// `Memory` if an allocation fails, `Returned` if the post is full, `Foreign` if a task is another general's.
     fn do_tasks<R: Wait, C: Claim>(
         &self,
         rt: &R,
@@ -148,8 +147,9 @@ impl<'a, G: Gate, J: Room> GeneralThread<'a, G, J> {
         unreachable!()
     }
 
-    /// Does a task: posts the general's letter for it, which must then be counted. His letters including this one
-    /// contain as many accesses as were served through his witness, and the history that it has met contains them all.
+    /// Makes the general's letter for `task` and posts it. Returns his poster, which the caller must pass on to be
+    /// counted, and his witness. His posted letters, with this one, contain exactly the accesses that were served
+    /// through his witness.
     ///
     /// # Errors
     ///
@@ -181,9 +181,8 @@ impl<'a, G: Gate, J: Room> GeneralThread<'a, G, J> {
         Ok((uncounted, me))
     }
 
-    /// Makes the general's letter for a task. Each access in it satisfies what the gate says of an access that has
-    /// passed. Together with those of his earlier letters, its accesses are as many as were served through his witness,
-    /// and the board's history contains them all.
+    /// Makes the general's letter for `task`, and returns it with his witness. Each access in it has passed the gate.
+    /// The accesses in his earlier letters and in this one are all that were served through his witness.
     ///
     /// # Errors
     ///

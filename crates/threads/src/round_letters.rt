@@ -15,19 +15,20 @@ use round::{Letter, Received, Scenario, are_letters_of};
 use std::alloc::{AllocError, Global};
 use std::sync::Wait;
 
-/// Evidence that letters are not all of their round. Only `of_round` creates one.
+/// Evidence that the letters taken for a round are not exactly one letter of that round for each general. Only
+/// `of_round` creates one.
 #[derive(Clone, Copy)]
 pub(crate) struct Strayed {
-    /// The round of which they should be.
+    /// The round for which the letters were taken.
     round: u32,
 }
 
-/// Takes the letters of the next round out of the post, and returns them ascending by general. All generals have posted
-/// them for their tasks of that round.
+/// Takes the letters of the next round out of the post, and returns the collector and these letters, ascending by
+/// general. `all` is evidence that every general has posted.
 ///
 /// # Errors
 ///
-/// `Memory` if an allocation fails, `Strayed` if letters are not of that round.
+/// `Memory` if an allocation fails, `Strayed` if the letters are not exactly one letter of that round for each general.
 pub(crate) fn receive<R: Wait, C: Claim>(
     rt: &R,
     alloc: Global,
@@ -57,7 +58,7 @@ pub(crate) fn receive<R: Wait, C: Claim>(
     Ok((collector, letters))
 }
 
-/// Checks that letters are of this round of the campaign.
+/// Checks that `letters` are the letters of this round, one for each general.
 ///
 /// # Errors
 ///
@@ -74,9 +75,8 @@ fn of_round(scenario: &Scenario, round: u32, letters: &[Letter]) -> Result<(), S
     }
 }
 
-/// Takes letters out of the post until it finds none, and returns all of them, ascending by general. The post's claim
-/// holds for each. The contract promises no more here: the letters are checked when they are delivered, and judged at
-/// the end.
+/// Takes letters out of the post until it is empty, and returns the collector and these letters, ascending by general.
+/// The contract does not promise that they are those of one round, since the caller checks that.
 ///
 /// # Errors
 ///
@@ -107,7 +107,7 @@ fn take_letters<R: Wait, C: Claim>(
     Ok((collector, by_general(letters)))
 }
 
-/// Returns the same letters, ascending by general.
+/// Sorts the letters by general, ascending.
 fn by_general(mut letters: Vec<Letter>) -> Vec<Letter>
     ensures same { IsPermutation letters.items result.items }
     ensures ascending { IsSortedByKey (λ (letter : LetterSeen). letter.general) nat_cmp result.items }

@@ -1,4 +1,5 @@
-//! Defines the rule of the post, and the moves that the rule allows.
+//! Defines the rule of the post, and the moves that the rule allows. A move is an operation on the post, or on the
+//! passes of its users.
 use crate::claim::Claim;
 use crate::knowledge::Known;
 use crossbeam_queue::RuledArrayQueue;
@@ -6,11 +7,11 @@ use crossbeam_queue::protocol::{Join, Lesson, Outcome, Protocol, Split};
 use round::Letter;
 use std::marker::PhantomData;
 
-/// A queue that obeys the post's rule.
+/// The queue of a post. Its type guarantees that every operation obeys the post's rule.
 pub(crate) type Queue<C> = RuledArrayQueue<Letter, Known, Delivery<C>>;
 
-/// The rule of the post. For each general, the letters that were taken and then those that are queued are the letters
-/// that he has posted. The claim holds for each queued letter.
+/// The rule of the post. For each general, the letters already taken, followed by those still queued, are exactly the
+/// letters that he has posted. The claim `C` holds for each queued letter.
 #[derive(Drop)]
 pub(crate) struct Delivery<C> {
     of: PhantomData<C>,
@@ -25,7 +26,7 @@ impl<C: Claim> Protocol<Letter, Known> for Delivery<C> {
     ghost first = { collector [] 0 [] };
 }
 
-/// The move in which the collector makes the next general's poster.
+/// The move in which the collector makes the poster of the next general.
 pub(crate) struct Hire;
 
 impl Split<Known> for Hire {
@@ -64,7 +65,7 @@ impl Lesson<Letter, Known> for Put {
     ghost fact = { λ v items. Unit {0} };
 }
 
-/// The move in which the collector takes a letter, for which the claim holds, or finds none.
+/// The move in which the collector takes a letter, or finds the queue empty. The claim `C` holds for the letter.
 pub(crate) struct Took<C> {
     of: PhantomData<C>,
 }

@@ -1,4 +1,4 @@
-//! Keeps the accesses that were served to one general for one task, for each of which he passed a gate.
+//! Keeps the accesses that the board served to one general for one task. He has passed a gate before each.
 ghost use Rattle.std.specs.Prelude.{◌≡◌, ◌++◌, ◌∷◌, ◌==◌, ◌<◌, [], true, count_by, vec_len, vec_capacity, IfOk, OnOk, OnErr};
 ghost use Rattle.semantics.specs.Call.{fits};
 ghost use Rattle.semantics.specs.Replies.{words_in};
@@ -14,7 +14,8 @@ use std::marker::Model;
 use std::snapshot::Snapshot;
 use std::sync::Wait;
 
-/// Evidence that a general has passed a gate for the access of this number. Only `Passed::gate` creates one.
+/// Evidence that a general has passed a gate for his access number `nth` of a round, counted from 0. Only
+/// `Passed::gate` creates one.
 #[derive(Drop)]
 pub(crate) struct Passed {
     general: u32,
@@ -23,7 +24,8 @@ pub(crate) struct Passed {
 }
 
 impl Passed {
-    /// Waits at this gate before the access of number `nth`, counted from 0.
+    /// Waits at `gate` before the general's access number `nth` of this round, counted from 0. Returns evidence that he
+    /// has passed.
     pub(crate) fn gate<G: Gate>(gate: &G, general: u32, round: u32, nth: u64) -> Passed
         ensures general { result.general ≡ general }
         ensures round { result.round ≡ round }
@@ -38,7 +40,8 @@ impl Passed {
         }
     }
 
-    /// Has the access served by the board, under its lock. Returns the reply, and the access to be entered.
+    /// Has the board serve the access, under its lock. Returns the reply and the served access, which must then be
+    /// entered into the general's list (`Made::enter`).
     ///
     /// # Errors
     ///
@@ -82,15 +85,15 @@ impl Passed {
     }
 }
 
-/// An access that was served and is not entered yet, with its number. Only `Passed::apply` creates one, so the general
-/// has passed a gate for this number.
+/// An access that the board has served but that is not yet in its general's list (`Made`), with its number. Only
+/// `Passed::apply` creates one, so the general has passed a gate for this number.
 #[derive(Drop)]
 pub(crate) struct Unentered {
     mark: Mark,
     nth: u64,
 }
 
-/// An access that was made: its round, and a snapshot of the whole access for proofs, which takes no bytes.
+/// An access that was served: its round, and a snapshot of the whole access for proofs, which takes no memory.
 #[derive(Drop)]
 struct Mark {
     round: u32,
@@ -109,7 +112,7 @@ impl Model for Mark {
 }
 
 impl Mark {
-    /// Returns the mark of this access.
+    /// Returns the mark of an access: its round, and a snapshot of it for proofs.
     fn new(access: &Access) -> Mark
         ensures { result ≡ access.now }
     {
@@ -127,7 +130,8 @@ impl Mark {
     }
 }
 
-/// The accesses that were served to a general for a task, in order. Before each of them he has passed a gate.
+/// The accesses that the board has served to a general for one task, in order. Before each of them he has passed a
+/// gate.
 #[derive(Drop)]
 pub(crate) struct Made {
     accesses: Vec<Mark>,
@@ -143,7 +147,7 @@ impl Made {
         }
     }
 
-    /// Returns the number of accesses of this round.
+    /// Returns how many accesses of this round are in the list.
     pub(crate) fn count(&self, round: u32) -> u64
         ensures { result ≡ count_by (λ a. a.round == round) self.now.accesses.items }
     {
@@ -165,8 +169,8 @@ impl Made {
         self.accesses.reserve(1)
     }
 
-    /// Enters an access, for which there must be room. Its number, which a gate was given, must be the number of
-    /// accesses of its round so far.
+    /// Appends a served access, for which there must be room. Its number must be the count of the accesses of its round
+    /// that are already in the list.
     pub(crate) fn enter(&mut self, unentered: Unentered)
         requires room { vec_len self.old.accesses < vec_capacity self.old.accesses }
         requires nth { unentered.nth ≡ count_by (λ a. a.round == unentered.mark.round) self.old.accesses.items }

@@ -1,8 +1,9 @@
-//! Defines sessions, which name what contracts know when a general begins a task.
+//! Defines sessions: names for what contracts know when a general begins a task.
 use std::marker::Brand;
 
-/// A name for the accesses that a general's letters contain before a task, and for what a gate says of an access that
-/// has passed. Each task picks a name. The task's server has it in its type, so serving cannot change it.
+/// A name, used only in proofs, for the accesses that a general's earlier letters contain and for what his gate
+/// guarantees. Each task has its own session. It is part of the type of the task's server (`Gated`), so serving cannot
+/// change it.
 pub(crate) trait Session {
     ghost use Rattle.std.specs.Prelude.{ℕ, List};
     ghost use Rattle.board.specs.Board.{Access};
@@ -10,7 +11,8 @@ pub(crate) trait Session {
     /// The accesses that the general's earlier letters contain.
     ghost before: { List Access };
 
-    /// What holds for a general, a round and a number once the access of this number has passed.
+    /// What is known after the gate has let a general pass, given his number, the round, and the number of the access
+    /// in that round, counted from 0.
     ghost passed: { ℕ → ℕ → ℕ → Type 0 };
 }
 

@@ -1,4 +1,4 @@
-//! Counts the letters that generals have posted, for the thread that waits for them.
+//! Counts the letters that the generals have posted, so that a thread can wait until all have.
 ghost use Rattle.std.specs.Prelude.{◌≡◌, ◌≤◌, IfOk};
 ghost use Rattle.threads.specs.Answers.{failure_as};
 
@@ -14,8 +14,8 @@ pub(crate) use count::{AllPosted, SomeoneFailed, Uncounted, send};
 pub(crate) use returned_letter::Returned;
 use std::sync::{Condvar, Mutex, Wait};
 
-/// Evidence that a general has failed, and that this was recorded where the thread that waits for the letters reads it.
-/// Only `PostedCount::failed` creates one.
+/// Evidence that a general has failed, and that this was reported to the thread that waits for the letters. Only
+/// `PostedCount::failed` creates one.
 #[derive(Clone, Copy)]
 pub(crate) struct Reported {
     failed: Failed,
@@ -23,7 +23,7 @@ pub(crate) struct Reported {
 }
 
 impl Reported {
-    /// Returns the error that a muster reports for this failure.
+    /// Returns the error that `muster` reports for this failure.
     pub(crate) fn error(self) -> MusterError
         ensures { result ≡ failure_as self.failed.failure }
     {
@@ -31,8 +31,8 @@ impl Reported {
     }
 }
 
-/// The count of the letters posted in a round, and any failure, which the generals share with the thread that waits for
-/// their letters.
+/// How many letters were posted in the current round, and whether a general has failed. The generals' threads update
+/// it, and the thread that conducts the rounds waits for it.
 #[derive(Drop)]
 pub(crate) struct PostedCount {
     generals: usize,
@@ -41,7 +41,7 @@ pub(crate) struct PostedCount {
 }
 
 impl PostedCount {
-    /// Returns the count for `generals` generals, of whom none has posted a letter.
+    /// Returns the count for `generals` generals, none of whom has posted a letter.
     pub(crate) fn new(generals: usize) -> PostedCount
         ensures { result.generals ≡ generals }
     {
@@ -52,7 +52,8 @@ impl PostedCount {
         }
     }
 
-    /// Counts one more letter that was posted in the round, and returns its general's poster.
+    /// Counts a letter that was posted in the current round, and returns the poster with which it was posted. Wakes the
+    /// waiting thread if all letters are posted or a general has failed.
     pub(crate) fn posted<R: Wait>(&self, rt: &R, uncounted: Uncounted) -> Poster
         ensures { result ≡ uncounted.poster }
     {
@@ -64,7 +65,8 @@ impl PostedCount {
         poster
     }
 
-    /// Records that a general has failed, so that no more letters of his will come.
+    /// Records that a general has failed, and wakes the thread that waits for the letters. Returns evidence that the
+    /// failure was reported.
     pub(crate) fn failed<R: Wait>(&self, rt: &R, failed: Failed) -> Reported
         ensures { result.failed ≡ failed }
     {
@@ -73,8 +75,8 @@ impl PostedCount {
         Reported { failed, counted }
     }
 
-    /// Waits until all generals have posted their letters for the tasks that they were given, and begins the next
-    /// round.
+    /// Waits until every general has posted his letter of this round, and sets the count to 0 for the next round. `out`
+    /// is evidence that all generals were given their tasks.
     ///
     /// # Errors
     ///

@@ -1,4 +1,4 @@
-//! Defines the task of a general in a round, and makes his letter for it.
+//! Defines the task of a general in a round, and makes his letter for that round.
 ghost use Rattle.std.specs.Prelude.{◌≡◌, ◌<◌, ◌≤◌, ◌++◌, List, IfOk};
 ghost use Rattle.round.specs.Letters.{Letter as LetterSeen};
 ghost use Rattle.round.specs.Told.{WasTold};
@@ -8,8 +8,8 @@ use round::{Letter, Player, Received, Scenario, Server, live, loyal_letter};
 use std::alloc::{AllocError, Global};
 use std::marker::Model;
 
-/// The task of a general in a round. A traitor runs his program, and a loyal general relays what he received. Contracts
-/// see it as his duty.
+/// The task of a general in a round: a traitor runs his program, and a loyal general relays what he received. Contracts
+/// see it as a `Duty`.
 #[derive(Drop)]
 pub(crate) struct Task {
     program: Player,
@@ -40,7 +40,7 @@ impl Model for Task {
 }
 
 impl Task {
-    /// Returns a general's task in the next round.
+    /// Returns this general's task in the next round. `told` is what the lieutenants received in the earlier rounds.
     ///
     /// # Errors
     ///
@@ -70,15 +70,15 @@ impl Task {
         })
     }
 
-    /// Returns the general whose task it is.
+    /// Returns the general who must do this task.
     pub(crate) fn general(&self) -> u32
         ensures { result ≡ self.now.general }
     {
         self.general
     }
 
-    /// Makes the general's letter. The server serves the requests of his program, and the letter contains exactly the
-    /// accesses that it has served.
+    /// Makes the general's letter for this task. `server` serves the requests of his program, and the letter's
+    /// transcript lists exactly the accesses that it has served.
     ///
     /// # Errors
     ///

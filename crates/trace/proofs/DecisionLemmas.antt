@@ -1,4 +1,4 @@
--- The lines of decisions, lieutenant by lieutenant.
+-- The lines of the decisions are written, one lieutenant at a time.
 use Rattle.std.proofs.Common.{◌≡◌, ◌≢◌, ℕ, zero, suc, ◌+◌, ◌-◌, ◌<◌, ◌≤◌, arith, Bool, not, List, [], ◌∷◌, ◌++◌, drop, refl, sym, ap, subst, ◌∙◌, append_assoc, append-nil, Option}
 use Rattle.std.specs.Prelude.{filter, slice_get}
 use Rattle.label.specs.Labels.{on}
@@ -11,9 +11,10 @@ use Rattle.trace.proofs.WrittenLemmas.{wrote-nothing}
 use Rattle.trace.proofs.RoundLemmas.{then_lines}
 use Rattle.world.proofs.Counted.{range_none, from_commander, from_lieutenant, from}
 
--- the lieutenants from a general on
+-- The lieutenants from a general on.
 
--- the lines of the lieutenants before this general were written; the next decides at this place
+-- States that the lines of the lieutenants below `g` are written, and that the next lieutenant's decision is at index
+-- `place`.
 pub record HasTold (s : Scenario) (ds : List ℕ) (g place : ℕ) (a : Option (List ℕ)) (f : Bool) (b : Option (List ℕ)) (h : Bool) : Type 0 where
   pub lines : List Line
   pub behind : place ≤ g
@@ -35,7 +36,7 @@ none-lines : (s : Scenario) (gs : List ℕ) → decision_lines s gs [] ≡ []
 none-lines s [] = refl
 none-lines s (g ∷ gs) = refl
 
--- one lieutenant more
+-- One more lieutenant's line is written.
 one_more : (s : Scenario) (g : ℕ) (gs ds : List ℕ) (place : ℕ) → decision_lines s (g ∷ gs) (drop place ds) ≡ decided_lines s g (slice_get ds place) ++ decision_lines s gs (drop (suc place) ds)
 one_more s g gs [] zero = sym (none-lines s gs)
 one_more s g gs [] (suc place) = sym (none-lines s gs)

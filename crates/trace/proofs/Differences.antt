@@ -1,4 +1,4 @@
--- A text and what was written to a sink that compares with it.
+-- A text, and what was written to a sink that compares with it.
 use Rattle.std.proofs.Common.{◌≡◌, ◌≢◌, ℕ, zero, suc, ◌<◌, ◌≤◌, Bool, true, false, List, [], ◌∷◌, ◌++◌, length, take, Option, Some, None, refl, sym, ap, subst, ◌∙◌, append_assoc, append-nil, arith}
 use Rattle.std.specs.Prelude.{slice_get, is_some, IfNone, IfSome}
 use Rattle.std.specs.Io.KnownBytes.{Appends}
@@ -10,7 +10,7 @@ use Rattle.text.proofs.CutLemmas.{take_front}
 use Rattle.std.proofs.Math.Seq.{take-length}
 use Rattle.std.proofs.lemmas.List.{length-take-le}
 
--- texts of one length before something are those texts
+-- If two joined texts are equal and their first parts have the same length, the parts are equal.
 split_same : (xs ys us vs : List ℕ) → length xs ≡ length ys → xs ++ us ≡ ys ++ vs → (xs ≡ ys) × (us ≡ vs)
 split_same [] [] us vs e h = (refl, h)
 split_same [] (y ∷ ys) us vs e h = absurd cc
@@ -22,7 +22,7 @@ split_same (x ∷ xs) (y ∷ ys) us vs e h =
     let rest = split_same xs ys us vs lengths tails in
     ((λ i. first i ∷ rest.0 i), rest.1)
 
--- the text stays, and what was taken is known
+-- The text stays the same, and the received bytes are known.
 pub known_again : (text now front bytes : List ℕ) → Appends (compared text []) (compared now bytes) front → (now ≡ text) × (bytes ≡ front)
 known_again text now front bytes h =
     let heads : length now ≡ length text = cc in
@@ -42,7 +42,7 @@ not_failed : (failed : Bool) (other : Option ℕ) → (failed ≡ true → is_so
 not_failed true other h e = absurd (let s = h refl in let n = ap is_some e in cc)
 not_failed false other h e = refl
 
--- all of the text was written and nothing else
+-- Exactly the text was written.
 pub same_texts : (text now written : List ℕ) (same : ℕ) (other : Option ℕ) (failed : Bool)
     → Wrote (compared text []) false written (compared now (taken now same other)) failed
     → (failed ≡ true → is_some other ≡ true) → (other ≡ None) × (same ≡ length now) → text ≡ written
@@ -74,7 +74,7 @@ same_before text front rest same other le h =
     ∙ ap (λ l. take (length (take same text)) l) (append_assoc (take same text) (option_to_list other) rest)
     ∙ take_front (take same text) (option_to_list other ++ rest))
 
--- the first difference
+-- The first difference between the text and what was written.
 pub first_difference : (text now written : List ℕ) (same : ℕ) (other : Option ℕ) (failed : Bool) (place : ℕ)
     → Wrote (compared text []) false written (compared now (taken now same other)) failed
     → same ≤ length now → (slice_get now same ≡ other → other ≡ None) → (failed ≡ true → is_some other ≡ true)
@@ -90,7 +90,7 @@ first_difference text now written same other failed place w within differs refus
     subst (λ p. IsFirstDifference text written p) (sym e.0)
     (subst (λ t. IsFirstDifference t written same) k.0 (subst (λ u. IsFirstDifference now u same) (sym w.parts) there))
 
--- a comparison that began with the text
+-- A comparison that begins with this text.
 pub started : (text first written : List ℕ) (same : ℕ) (other : Option ℕ) (failed : Bool) (new : Option (List ℕ)) (after : Bool)
     → first ≡ text → (same ≡ 0) × (other ≡ None) × (failed ≡ false) → Wrote (compared first (taken first same other)) failed written new after → Wrote (compared text []) false written new after
 started text first written same other failed new after e fresh w =
@@ -99,7 +99,7 @@ started text first written same other failed new after e fresh w =
     (subst (λ o. Wrote (compared first (taken first same o)) false written new after) fresh.1
     (subst (λ b. Wrote (compared first (taken first same other)) b written new after) fresh.2 w)))
 
--- what follows in either case
+-- What follows whether or not there is a result.
 pub if_none : {P Q : Type 0} (r : Option ℕ) → (P → Q) → IfNone r P → IfNone r Q
 if_none None f h = f h
 if_none (Some n) f h = tt

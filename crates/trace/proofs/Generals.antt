@@ -1,4 +1,4 @@
--- The general of a word is the small number that it tells.
+-- A word is a general's number exactly if it spells this number in decimal.
 use Rattle.std.proofs.Common.{◌≡◌, ◌≢◌, ℕ, zero, suc, ◌+◌, ◌*◌, ◌^◌, ◌<◌, ◌≤◌, Bool, true, false, List, [], ◌∷◌, Option, Some, None, refl, sym, ap, ◌∙◌, arith}
 use Rattle.std.specs.Prelude.{decimal, filter, bytes_eq, min, nat_le, ◌==◌, ◌&&◌, if◌then◌else◌}
 use Rattle.std.specs.Fmt.{digits}
@@ -13,11 +13,11 @@ use Rattle.trace.specs.Schedules.{number_within}
 use Rattle.trace.specs.Names.{general_of}
 use Rattle.trace.proofs.Naming.{general_told}
 
--- a digit of base 10
+-- A digit of base 10.
 digit_inverse : (c d : ℕ) → digit_in 10 c ≡ Some d → (c ≡ 48 + d) × (d < 10)
 digit_inverse c d h = grind (arith, nat_tests)
 
--- digits only make a number greater
+-- Further digits only make a number greater.
 grown : (k n : ℕ) (o : Option ℕ) (cs : List ℕ) → ((j : ℕ) → j ≤ 2 ^ 64 → digits_on 10 j cs ≡ Some n → j ≤ n)
     → (o >>= λ d. digits_on 10 (capped (k * 10 + d)) cs) ≡ Some n → min (k * 10) (2 ^ 64) ≤ n
 grown k n None cs ih h = absurd cc
@@ -27,7 +27,7 @@ grows : (n : ℕ) (cs : List ℕ) (k : ℕ) → k ≤ 2 ^ 64 → digits_on 10 k 
 grows n [] k le h = let same : k ≡ n = cc in omega arith
 grows n (c ∷ cs) k le h = let e = grown k n (digit_in 10 c) cs (grows n cs) h in omega arith
 
--- one digit
+-- A number of one digit.
 one_digit : (c n : ℕ) (o : Option ℕ) → digit_in 10 c ≡ o → (o >>= λ d. digits_on 10 (capped (0 * 10 + d)) []) ≡ Some n → c ∷ [] ≡ decimal n
 one_digit c n None e h = absurd cc
 one_digit c n (Some d) e h =
@@ -36,7 +36,7 @@ one_digit c n (Some d) e h =
     let same : d ≡ n = cc in
     ap (λ x. x ∷ []) i.0 ∙ sym (decimal_digit d i.1) ∙ ap decimal same
 
--- a small number of two digits
+-- A number from 10 to 12.
 teens : (y : ℕ) → y ≤ 2 → 49 ∷ (48 + y) ∷ [] ≡ decimal (10 + y)
 unfolding digits
 teens zero h = refl
@@ -44,7 +44,7 @@ teens (suc zero) h = refl
 teens (suc (suc zero)) h = refl
 teens (suc (suc (suc y))) h = absurd (omega arith)
 
--- what follows two digits of a small number, and which they are
+-- Which two digits a number up to 12 can have, and that no other digit follows.
 two_digits : (c d n x y : ℕ) (cs : List ℕ) → digit_in 10 c ≡ Some x → digit_in 10 d ≡ Some y → c ≢ 48 → n ≤ 12 → digits_on 10 (capped (capped (0 * 10 + x) * 10 + y)) cs ≡ Some n → c ∷ d ∷ cs ≡ decimal n
 two_digits c d n x y [] ex ey some le h =
     let i = digit_inverse c x ex in
@@ -73,7 +73,7 @@ without_zero c d n cs false e le h =
     let some : c ≢ 48 = grind (arith, nat_tests) in
     more_digits c d n cs (digit_in 10 c) (digit_in 10 d) refl refl some le h
 
--- a small number is read only from its own decimal
+-- A number up to 12 is read only from its own decimal digits.
 decimal_inverse : (w : List ℕ) (n : ℕ) → n ≤ 12 → decimal_of w ≡ Some n → w ≡ decimal n
 unfolding decimal_of
 decimal_inverse [] n le h = absurd cc
@@ -88,7 +88,7 @@ within_inverse w n (Some k) e h = by (nat_le 0 k && nat_le k 12) refl h
     by true t i = let same : k ≡ n = cc in let le : n ≤ 12 = grind (arith, nat_tests) in (decimal_inverse w n le (e ∙ ap (λ x. Some x) same), le)
     by false t i = absurd cc
 
--- the number of a general is his
+-- A general's number names him.
 pub general_some : (w : List ℕ) (n : ℕ) → number_within 0 12 w ≡ Some n → n ∷ [] ≡ general_of w
 unfolding number_within
 general_some w n h = let i = within_inverse w n (decimal_of w) refl h in sym (ap general_of i.0 ∙ general_told n (let le = i.1 in omega arith))
@@ -104,7 +104,7 @@ number_told g lt =
     let least : nat_le 0 g ≡ true = grind (arith, nat_tests) in
     rw (decimal_of-decimal g (omega arith), small, least) refl
 
--- any other word is nobody's
+-- Any other word names nobody.
 pub general_none : (w : List ℕ) → number_within 0 12 w ≡ None → [] ≡ general_of w
 general_none w h = sym (no_one (λ g. bytes_eq (decimal g) w) 13 0 (λ g le lt. by g lt (bytes_eq (decimal g) w) refl))
   where

@@ -1,4 +1,4 @@
--- The names of a chronicle's text are those of its accesses.
+-- The generals named in a chronicle's text are those of its accesses.
 use Rattle.std.proofs.Common.{◌≡◌, ◌≢◌, ℕ, zero, suc, ◌+◌, ◌<◌, List, [], ◌∷◌, ◌++◌, length, map, flat_map, Bool, true, false, cond, refl, ap, ◌∙◌, Option, None, Some, append_assoc, append-nil, arith}
 use Rattle.std.specs.Prelude.{decimal, filter, bytes_eq, All, ◌==◌, ◌≤◌}
 use Rattle.std.specs.List.{list_all}
@@ -21,7 +21,7 @@ use Rattle.trace.specs.Names.{general_of, Named, with_line, named, names_of}
 use Rattle.trace.proofs.Splitting.{AreLines, text-split}
 use Rattle.trace.proofs.Plain.{chronicle_plain}
 
--- a number below 13 tells the general of that number alone
+-- Returns whether the decimal of this number names exactly this general.
 is_told : ℕ → Bool
 is_told g = bytes_eq (general_of (decimal g)) (g ∷ [])
 
@@ -56,7 +56,7 @@ silent-append : (ls ks : List Line) → AreSilent ls → AreSilent ks → AreSil
 silent-append [] ks p q = q
 silent-append (l ∷ ls) ks p q = (p.0, silent-append ls ks p.1 q)
 
--- each access is a general's
+-- States that each access is by a general below 13.
 abbrev pub AreKnown : List Access → Type 0
 AreKnown [] = Unit {0}
 AreKnown (a ∷ xs) = (a.general < 13) × AreKnown xs
@@ -115,7 +115,7 @@ rounds-named told silent xs r (ls ∷ rest) ks k e =
     ∙ (λ i. (append-nil (map (λ a. a.general) here) i, names_in (suc r) xs (length rest))) in
     (λ i. ([], (inner i).0 ∷ (inner i).1))
 
--- where the head's lines and the letters' name nobody, the text names those who made the accesses
+-- If the first lines and the letters' lines name nobody, the text names exactly the generals who made the accesses.
 pub lines_named : (head : List Line) (told : ℕ → Letter → List Line) (c : Chronicle) → AreSilent head → ((r : ℕ) (l : Letter) → AreSilent (told r l)) → AreLines (lines_behind head told c) → AreKnown c.accesses
     → names_of (text (lines_behind head told c)) ≡ names_in 1 c.accesses (length c.letters)
 unfolding names_of

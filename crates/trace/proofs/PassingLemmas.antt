@@ -1,4 +1,4 @@
--- Lines with neither a `u` nor an `s` say neither `round` nor `access`: they may be passed over.
+-- Lines with neither a `u` nor an `s` say neither `round` nor `access`, so they may be skipped.
 use Rattle.std.proofs.Common.{◌≡◌, ℕ, zero, suc, ◌+◌, ◌-◌, ◌<◌, ◌≤◌, Bool, true, false, cond, subst, List, [], ◌∷◌, ◌++◌, length, map, take, drop, refl, sym, ap, ◌∙◌, append-nil, arith}
 use Rattle.std.specs.Prelude.{◌==◌, bytes_eq, codes}
 use Rattle.std.proofs.lemmas.Bool.{false_from_ne_true}
@@ -13,11 +13,11 @@ use Rattle.trace.specs.Names.{Named, named, with_line}
 use Rattle.trace.proofs.MarkLemmas.{some_piece}
 use Rattle.trace.proofs.WrittenLemmas.{drop-length}
 
--- the bytes for which a line is looked at
+-- Returns whether a byte is `u` or `s`. Only lines with such a byte are looked at.
 abbrev is_telling : ℕ → Bool
 is_telling = is_byte2 117 115
 
--- without such a byte
+-- States that a text has no such byte.
 abbrev IsQuiet : List ℕ → Type 0
 IsQuiet [] = Unit {0}
 IsQuiet (c ∷ cs) = (is_telling c ≡ false) × IsQuiet cs
@@ -44,7 +44,7 @@ quiet_pieces stop (c ∷ cs) h = by (is_stop stop c) (pieces stop cs) (quiet_pie
     by true ps q = (tt, q)
     by false ps q = onto ps q
 
--- a quiet word is not one with such a byte
+-- A word without such a byte differs from one with such a byte.
 other_word : (w x : Word) → IsQuiet w → (IsQuiet x → ⊥) → bytes_eq w x ≡ false
 other_word w x q loud = false_from_ne_true (bytes_eq w x) (λ e. loud (subst IsQuiet ((bytes_eq-Decides w x).0 e) q))
 
@@ -59,7 +59,7 @@ quiet_line [] q rest = refl
 quiet_line (w ∷ []) q rest = refl
 quiet_line (w ∷ v ∷ vs) q rest = rw (other_word w (codes "round") q.0 round_is_loud, other_word w (codes "access") q.0 access_is_loud) refl
 
--- quiet lines before others
+-- Lines without such a byte may come before others.
 quiet_lines : (ls more : List (List ℕ)) → AreQuiet ls → named (map (pieces space) (ls ++ more)) ≡ named (map (pieces space) more)
 quiet_lines [] more q = refl
 quiet_lines (l ∷ ls) more q =
@@ -68,7 +68,7 @@ quiet_lines (l ∷ ls) more q =
 onto_front : (c : ℕ) (w : List ℕ) (ws ps more : List (List ℕ)) → ps ≡ w ∷ ws → onto_first c (ps ++ more) ≡ onto_first c ps ++ more
 onto_front c w ws ps more e = rw e refl
 
--- the lines before a line feed, and those behind it
+-- The lines before a line feed, and those after it.
 split_at_feed : (t : List ℕ) (k : ℕ) → k < length t → Passes (is_byte 10) t k → pieces feed t ≡ pieces feed (take k t) ++ pieces feed (drop (suc k) t)
 split_at_feed [] k lt is = absurd (omega arith)
 split_at_feed (c ∷ cs) zero lt is = rw is refl
@@ -81,13 +81,13 @@ split_at_feed (c ∷ cs) (suc k) lt is = by (c == 10) (split_at_feed cs k (omega
         let p = some_piece feed (take k cs) in
         ap (onto_first c) ih ∙ onto_front c p.0 p.1 (pieces feed (take k cs)) (pieces feed (drop (suc k) cs)) p.2
 
--- nothing is named where no such byte stands
+-- A text without such a byte names nobody.
 pub names_no_one : (t : List ℕ) → Nowhere (Passes is_telling t) 0 (length t) → ([], []) ≡ named (map (pieces space) (pieces feed t))
 names_no_one t none =
     let q : IsQuiet t = subst IsQuiet (take_all (length t) t (omega arith)) (quiet_front t (length t) (omega arith) none) in
     sym (ap (λ ls. named (map (pieces space) ls)) (sym (append-nil (pieces feed t))) ∙ quiet_lines (pieces feed t) [] (quiet_pieces feed t q))
 
--- what is named behind a line feed, where no such byte stands before it
+-- The text after a line feed names the same generals, if no such byte is before it.
 pub names_later : (t : List ℕ) (place k : ℕ) → place < length t → Nowhere (Passes is_telling t) 0 place → k < length (take place t) → Passes (is_byte 10) (take place t) k
     → named (map (pieces space) (pieces feed (take (length t - (k + 1)) (drop (k + 1) t)))) ≡ named (map (pieces space) (pieces feed t))
 names_later t place k lt none before is =

@@ -1,4 +1,4 @@
--- The lines of a chronicle are lines of plain words.
+-- The words in a chronicle's lines have no spaces and no line ends.
 use Rattle.std.proofs.Common.{◌≡◌, ℕ, suc, List, [], ◌∷◌, ◌++◌, map, flat_map, Bool, true, false, refl, Option, None, Some, arith}
 use Rattle.std.specs.Prelude.{decimal, codes, nat_lt, filter, ◌==◌}
 use Rattle.std.specs.List.{list_all}
@@ -118,7 +118,7 @@ verdict_plain : (v : Verdict) → IsLine (verdict_line v)
 verdict_plain v =
     (by_test (codes "verdict") refl, (by_test (codes "alike") refl, (yes_no_plain v.alike, (by_test (codes "obeyed") refl, (yes_no_none_plain v.obeyed, (by_test (codes "bound") refl, (yes_no_plain v.bound, tt)))))))
 
--- where the head's lines and the letters' are plain, all are
+-- If the words of the first lines and of the letters' lines are such words, all are.
 pub lines_plain : (head : List Line) (told : ℕ → Letter → List Line) (c : Chronicle) → AreLines head → ((r : ℕ) (l : Letter) → AreLines (told r l)) → AreLines (lines_behind head told c)
 lines_plain head told c front plain =
     let s = c.scenario in
@@ -126,7 +126,7 @@ lines_plain head told c front plain =
     (lines-append (rounds_told told c.accesses 1 c.letters) _ (rounds_plain told plain c.accesses 1 c.letters)
     (lines-append (decision_lines s (lieutenants s.generals s.commander) c.decisions) _ (decisions_plain s (lieutenants s.generals s.commander) c.decisions) (verdict_plain c.verdict, tt)))
 
--- the words of the campaign, and words behind them
+-- The words that describe the campaign, and further words after them.
 pub campaign_plain : (n m c order : ℕ) (ws : List Word) → ArePlain ws → ArePlain (campaign_words n m c order ++ ws)
 campaign_plain n m c order ws p =
     (by_test (codes "generals") refl, (decimal_plain n, (by_test (codes "bound") refl, (decimal_plain m, (by_test (codes "commander") refl, (decimal_plain c, (by_test (codes "order") refl, (decimal_plain order, p))))))))

@@ -1,4 +1,4 @@
--- What some texts tell as schedules, computed in the kernel.
+-- What some texts mean as schedules, computed in the kernel.
 use Rattle.std.specs.Prelude.{◌≡◌, ℕ, [], ◌∷◌, ◌++◌, replicate, codes, Ok, Err, refl}
 use Rattle.text.specs.Number.{decimal_of}
 use Rattle.world.specs.declared.schedule.Repeat.{Repeat}
@@ -9,12 +9,12 @@ use Rattle.trace.specs.Schedules.{number_within, schedule_told}
 entry : ℕ → ℕ → Repeat
 entry general times = record { general = general; times = times }
 
--- entries and repeated entries; the last line may lack its line feed
+-- A line has entries and repeated entries. The last line need not end with a line feed.
 told : schedule_told (codes "3*4096 3 12") ≡ Ok ((entry 3 4096 ∷ entry 3 1 ∷ entry 12 1 ∷ []) ∷ [])
 unfolding entry schedule_told number_within decimal_of
 told = refl
 
--- an empty text has no line, and a line may be empty
+-- An empty text has no line, and a line may be empty.
 none : schedule_told [] ≡ Ok []
 unfolding entry schedule_told
 none = refl
@@ -23,7 +23,7 @@ later : schedule_told (10 ∷ 10 ∷ codes "4*15" ++ 10 ∷ []) ≡ Ok ([] ∷ [
 unfolding entry schedule_told number_within decimal_of
 later = refl
 
--- five lines may stand, a sixth one not, and a fault before it comes first
+-- There may be five lines but not six. A fault in an earlier line is reported first.
 five : schedule_told (replicate 5 10) ≡ Ok (replicate 5 [])
 unfolding schedule_told
 five = refl
@@ -36,7 +36,7 @@ fifth : schedule_told (replicate 4 10 ++ 48 ∷ 48 ∷ 10 ∷ 10 ∷ []) ≡ Err
 unfolding schedule_told number_within decimal_of
 fifth = refl
 
--- no general past 12, no repetition past 4,096 or of none, and no part that is no entry
+-- Not allowed are a general above 12, more than 4,096 repetitions or none, and a part that is no entry.
 thirteen : schedule_told (codes "13") ≡ Err (At Line 1)
 unfolding schedule_told number_within decimal_of
 thirteen = refl

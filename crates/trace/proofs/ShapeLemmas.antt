@@ -1,4 +1,4 @@
--- The lines of a text, one after the other.
+-- The form of the lines of a text is checked one after another.
 use Rattle.std.proofs.Common.{◌≡◌, ℕ, suc, true, false, List, [], ◌∷◌, Option, Some, refl, sym, ap, ◌∙◌}
 use Rattle.std.specs.Prelude.{if◌then◌else◌}
 use Rattle.text.specs.Stop.{feed, space}
@@ -8,7 +8,7 @@ use Rattle.trace.specs.Text.{Word}
 use Rattle.std.specs.List.{list_all}
 use Rattle.trace.specs.Shapes.{are_places, is_nothing_left, is_place, is_shaped, unshaped_from}
 
--- a line with its LF is looked at for its shape
+-- A line with its LF is checked for its form.
 line_by : (number : ℕ) (line next : List ℕ) (lines : List (List ℕ)) → unshaped_from number (line ∷ next ∷ lines) ≡ (if is_shaped line then unshaped_from (suc number) (next ∷ lines) else Some number)
 line_by number line next lines = refl
 
@@ -24,11 +24,11 @@ unshaped_line number line rest h = let e = by_shape number line rest in rw (e, h
 some_left : (rest : List ℕ) → is_nothing_left (Some (pieces space rest)) ≡ false
 some_left rest = rw (pieces_is space rest) refl
 
--- where words are left, there is no end
+-- If words remain, the line does not end here.
 pub more_left : (rest : List ℕ) (o : Option (List Word)) → Some (pieces space rest) ≡ o → false ≡ is_nothing_left o
 more_left rest o h = sym (some_left rest) ∙ ap is_nothing_left h
 
--- a row has places
+-- A row has orders for its receivers.
 pub some_places : (rest : List ℕ) (o : Option (List Word)) → Some (pieces space rest) ≡ o → list_all is_place (pieces space rest) ≡ are_places o
 some_places rest o h = places (pieces_is space rest) ∙ ap are_places h
   where

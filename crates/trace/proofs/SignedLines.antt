@@ -1,4 +1,4 @@
--- The lines of signed letters and of the first lines, part by part.
+-- The lines of signed letters, and the first two lines, are made from their parts.
 use Rattle.std.proofs.Common.{◌≡◌, ℕ, List, [], ◌∷◌, ◌++◌, map, sym, ap, ◌∙◌, append_assoc, Option}
 use Rattle.std.specs.Prelude.{codes, decimal}
 use Rattle.round.specs.Letters.{Letter}
@@ -11,20 +11,20 @@ use Rattle.trace.specs.Text.{Word, author_line, campaign_words, further, place, 
 use Rattle.trace.proofs.LineLemmas.{said, text-append}
 use Rattle.trace.proofs.WrittenLemmas.{further-append, further-one}
 
--- a letter's lines
+-- The lines of a letter are made from their parts.
 pub letter_parts : (sent : Sent) (round : ℕ) (l : Letter) (g : ℕ) (o : Option ℕ) (xs : List (Chain × ℕ)) → g ≡ l.general → o ≡ steps_of l → map dispatch_of xs ≡ sent_by sent round l.general
     → text (author_line g o ∷ []) ++ text (map chain_line (map dispatch_of xs)) ≡ text (letter_lines sent round l)
 letter_parts sent round l g o xs eg eo ex =
     (λ i. text (author_line (eg i) (eo i) ∷ []) ++ text (map chain_line (ex i)))
     ∙ sym (text-append (author_line l.general (steps_of l) ∷ []) (map chain_line (sent_by sent round l.general)))
 
--- words behind those of the campaign
+-- Words after those that describe the campaign.
 behind_campaign : (n m c order : ℕ) (ws : List Word) → spaced (campaign_words n m c order) ++ further ws ≡ spaced (campaign_words n m c order ++ ws)
 behind_campaign n m c order ws =
     let all : List Word = decimal n ∷ codes "bound" ∷ decimal m ∷ codes "commander" ∷ decimal c ∷ codes "order" ∷ decimal order ∷ [] in
     append_assoc (codes "generals") (further all) (further ws) ∙ ap (λ t. codes "generals" ++ t) (sym (further-append all ws))
 
--- the first two lines
+-- The first two lines are made from their parts.
 pub head_parts : (s : Scenario) (patience : Option ℕ) → patience ≡ s.patience
     → (((codes "chronicle 3\nsigned " ++ spaced (campaign_words s.generals s.bound s.commander s.order)) ++ codes " patience") ++ (32 ∷ place patience)) ++ 10 ∷ [] ≡ text (head_lines s)
 head_parts s patience e =

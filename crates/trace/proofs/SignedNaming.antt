@@ -1,4 +1,4 @@
--- The names of a signed text are those of its accesses.
+-- The generals named in a signed chronicle's text are those of its accesses.
 use Rattle.std.proofs.Common.{◌≡◌, ◌<◌, ℕ, List, [], ◌∷◌, ◌++◌, map, flat_map, length, refl, arith}
 use Rattle.std.specs.Prelude.{All, codes, decimal}
 use Rattle.round.specs.Letters.{Letter}

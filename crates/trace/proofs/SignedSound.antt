@@ -1,4 +1,4 @@
--- The texts that an audit of a signed campaign finds sound are those of complete runs.
+-- The texts that an audit of a signed campaign accepts are the chronicles of complete runs.
 use Rattle.std.proofs.Common.{◌≡◌, ℕ, suc, List, sym, ap, ◌∙◌, arith}
 use Rattle.round.specs.Scenario.{Scenario, IsScenario}
 use Rattle.world.specs.declared.event.Event.{Event}
@@ -16,7 +16,7 @@ use Rattle.trace.specs.SignedText.{signed_text}
 use Rattle.trace.proofs.Naming.{AreKnown, known_all}
 use Rattle.trace.proofs.SignedNaming.{signed_names_told}
 
--- the names of a complete run's text are those of its ledger
+-- The generals named in a complete run's text are those of its ledger.
 names_replay : (s : Scenario) (events : List Event) → IsScenario s → IsComplete signed_kind s events
     → names_of (signed_text (signed_chronicle_of (played s events))) ≡ names_in 1 (played s events).ledger (suc s.bound)
 names_replay s events is complete =

@@ -1,4 +1,4 @@
--- The texts that an audit finds sound are those of complete runs.
+-- The texts that an audit accepts are the chronicles of complete runs.
 use Rattle.std.proofs.Common.{◌≡◌, ℕ, suc, List, [], ◌∷◌, ◌++◌, length, take, drop, subst, sym, ap, ◌∙◌, arith}
 use Rattle.std.specs.Prelude.{sum_by}
 use Rattle.std.proofs.lemmas.List.{take-append-drop}
@@ -23,7 +23,7 @@ known-append : (xs ys : List Access) → AreKnown xs → AreKnown ys → AreKnow
 known-append [] ys p q = q
 known-append (x ∷ xs) ys p q = (p.0, known-append xs ys p.1 q)
 
--- whose ledger accounts for its letters, has entries of generals alone
+-- A ledger that accounts for letters has only accesses by generals.
 known_accounted : (s : Scenario) → IsScenario s → (before : List (List Letter)) (ledger : List Access) (rounds : List (List Letter)) → AreAccounted s before ledger rounds → AreKnown ledger
 known_accounted s is before ledger [] h = subst AreKnown (sym h.1) tt
 known_accounted s is before ledger (letters ∷ rounds) h =
@@ -33,7 +33,7 @@ known_accounted s is before ledger (letters ∷ rounds) h =
     let back : AreKnown (drop n ledger) = known_accounted s is (before ++ letters ∷ []) (drop n ledger) rounds h.1 in
     subst AreKnown (take-append-drop n ledger) (known-append (take n ledger) (drop n ledger) front back)
 
--- the names of a complete run's text are those of its ledger
+-- The generals named in a complete run's text are those of its ledger.
 names_replay : (v : Version) (s : Scenario) (events : List Event) → IsScenario s → IsComplete s events
     → names_of (text_in v (chronicle_of (run (opening s) events))) ≡ names_in 1 (run (opening s) events).ledger (suc s.bound)
 names_replay v s events is complete =

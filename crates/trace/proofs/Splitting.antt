@@ -1,4 +1,4 @@
--- A text of lines of plain words is split into them again.
+-- A text made from lines of words is split into the same lines and words again.
 use Rattle.std.proofs.Common.{◌≡◌, ℕ, zero, suc, ◌+◌, ◌<◌, ◌≤◌, List, [], ◌∷◌, ◌++◌, map, Bool, true, false, cond, refl, ap, ◌∙◌, arith, append-nil}
 use Rattle.std.specs.Prelude.{◌==◌, not, decimal, nat_lt, ◌/◌, ◌%◌}
 use Rattle.std.specs.Fmt.{digits, digits_onto, digit_glyph}
@@ -10,12 +10,12 @@ use Rattle.text.proofs.BytesLemmas.{all-append}
 use Rattle.text.proofs.CutLemmas.{Lacks, pieces-append, pieces-all}
 use Rattle.trace.specs.Text.{Word, Line, further, spaced, text}
 
--- no space and no line's end in it
+-- States that a word has no space and no line end.
 abbrev pub IsPlain : Word → Type 0
 IsPlain [] = Unit {0}
 IsPlain (c ∷ cs) = (32 < c) × IsPlain cs
 
--- a stop at a byte that is no part of a word
+-- A space or line end is not part of a word.
 not_stop : (c sep : ℕ) → sep ≤ 32 → 32 < c → not (is_stop (Byte sep) c) ≡ true
 not_stop c sep le lt = rw (ne_eqb c sep (λ e. let f = e in omega arith)) refl
 
@@ -27,7 +27,7 @@ abbrev pub ArePlain : List Word → Type 0
 ArePlain [] = Unit {0}
 ArePlain (w ∷ ws) = IsPlain w × ArePlain ws
 
--- a line has a word, and its words are plain
+-- States that a line has at least one word, and that no word has a space or a line end.
 abbrev pub IsLine : Line → Type 0
 IsLine [] = ⊥
 IsLine (w ∷ ws) = IsPlain w × ArePlain ws
@@ -52,7 +52,7 @@ line-lacks : (l : Line) → IsLine l → Lacks feed (spaced l)
 line-lacks [] p = absurd p
 line-lacks (w ∷ ws) p = all-append (λ c. not (is_stop feed c)) w (further ws) (plain_lacks 10 (omega arith) w p.0) (further_lacks ws p.1)
 
--- a text's lines, and behind the last line's end an empty one
+-- The lines of a text, and the empty one after the last line feed.
 pub text-split : (ls : List Line) → AreLines ls → map (pieces space) (pieces feed (text ls)) ≡ ls ++ ([] ∷ []) ∷ []
 text-split [] p = refl
 text-split (l ∷ ls) p =

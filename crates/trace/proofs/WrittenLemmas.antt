@@ -1,4 +1,4 @@
--- One text after another, and a piece in several calls.
+-- One text is written after another, and a piece in several calls.
 use Rattle.std.proofs.Common.{◌≡◌, ℕ, zero, suc, ◌+◌, ◌-◌, ◌<◌, ◌≤◌, arith, List, [], ◌∷◌, ◌++◌, length, map, take, drop, get_or, Bool, true, false, refl, sym, ap, subst, ◌∙◌, append_assoc, append-nil, Option}
 use Rattle.std.specs.Prelude.{decimal, OnOk, Result, Ok, Err}
 use Rattle.std.proofs.Math.ListN.{set, length-set}
@@ -16,7 +16,7 @@ either false A x y = y refl
 appends-same : (a b : Option (List ℕ)) (x y : List ℕ) → x ≡ y → Appends a b x → Appends a b y
 appends-same a b x y e h = subst (λ t. Appends a b t) e h
 
--- a text behind another
+-- A text is written after another one.
 pub then_wrote : {a b c : Option (List ℕ)} {x y : List ℕ} {f g h : Bool} → Wrote a f x b g → Wrote b g y c h → Wrote a f (x ++ y) c h
 then_wrote {a} {b} {c} {x} {y} {f} {g} {h} v w =
     either g (Wrote a f (x ++ y) c h)
@@ -41,19 +41,19 @@ then_wrote {a} {b} {c} {x} {y} {f} {g} {h} v w =
       nothing = λ e. absurd (let q = v.sound fine in let r = e in cc);
     })
 
--- nothing is written
+-- Nothing is written.
 pub wrote-nothing : {a : Option (List ℕ)} {f : Bool} → Wrote a f [] a f
 wrote-nothing {a} {f} = record { front = []; rest = []; parts = refl; grown = Appends-nil a; whole = λ e. refl; sound = λ e. e; nothing = λ e. refl }
 
--- a text of no bytes
+-- An empty text is written.
 pub wrote_none : {a : Option (List ℕ)} {f : Bool} (x : List ℕ) → x ≡ [] → Wrote a f x a f
 wrote_none {a} {f} x e = subst (λ t. Wrote a f t a f) (sym e) wrote-nothing
 
--- the same text in other words
+-- A text is replaced by an equal one.
 pub wrote-same : {a b : Option (List ℕ)} {f g : Bool} (x y : List ℕ) → x ≡ y → Wrote a f x b g → Wrote a f y b g
 wrote-same {a} {b} {f} {g} x y e w = subst (λ t. Wrote a f t b g) e w
 
--- what was left is written too
+-- The text that was still in a buffer is written, too.
 pub then_rest : {a b c : Option (List ℕ)} {x left : List ℕ} {f g h : Bool} → WroteBut a f x b g left → Wrote b g left c h → Wrote a f x c h
 then_rest {a} {b} {c} {x} {left} {f} {g} {h} v w = wrote-same _ _ v.2 (then_wrote v.1 w)
 
@@ -62,14 +62,14 @@ drop-length zero xs le = omega arith
 drop-length (suc n) [] le = absurd (omega arith)
 drop-length (suc n) (x ∷ xs) le = let h = drop-length n xs (omega arith) in omega arith
 
--- the rest of a piece from a place on, as it is handed to a call
+-- Returns the part of a piece from index `from` on, which is passed to the next call.
 abbrev pub behind : ℕ → List ℕ → List ℕ
 behind from piece = take (length piece - from) (drop from piece)
 
 behind_is : (piece : List ℕ) (from : ℕ) → from < length piece → behind from piece ≡ drop from piece
 behind_is piece from lt = let long = drop-length from piece (omega arith) in take_all (length piece - from) (drop from piece) (omega arith)
 
--- a call took some more
+-- A call has accepted more bytes.
 pub put_more : (piece : List ℕ) (from n : ℕ) (old mid new : Option (List ℕ)) → from < length piece → n ≤ length (behind from piece)
     → Appends old mid (take from piece) → Appends mid new (take n (behind from piece)) → (from + n ≤ length piece) × Appends old new (take (from + n) piece)
 put_more piece from n old mid new lt le so then =
@@ -78,7 +78,7 @@ put_more piece from n old mid new lt le so then =
     let le' : n ≤ length (drop from piece) = (let A : List ℕ → Type 0 = λ t. n ≤ length t in subst A all le) in
     ((omega arith), appends-same old new (take from piece ++ take n (behind from piece)) (take (from + n) piece) (ap (λ t. take from piece ++ take n t) all ∙ sym (take-split from n piece)) (Appends-trans old mid new (take from piece) (take n (behind from piece)) so then))
 
--- a call took none
+-- A call has accepted no byte.
 pub put_none : (piece : List ℕ) (from : ℕ) (old mid new : Option (List ℕ)) (f after : Bool) → Appends old mid (take from piece) → Keeps mid new → after ≡ true → f ≡ false → Wrote old f piece new after
 put_none piece from old mid new f after so same failed fine = record {
   front = take from piece;
@@ -90,7 +90,7 @@ put_none piece from old mid new f after so same failed fine = record {
   nothing = λ e. absurd (let r = fine in cc);
 }
 
--- all was taken
+-- All bytes were accepted.
 pub put_whole : (piece : List ℕ) (from : ℕ) (old new : Option (List ℕ)) (f after : Bool) → from ≤ length piece → length piece ≤ from → Appends old new (take from piece) → after ≡ false → f ≡ false → Wrote old f piece new after
 put_whole piece from old new f after le ge so fine was = record {
   front = piece;
@@ -102,7 +102,7 @@ put_whole piece from old new f after le ge so fine was = record {
   nothing = λ e. absurd (let r = was in cc);
 }
 
--- the sink had failed
+-- The sink had failed before.
 pub put_failed : (piece : List ℕ) (old : Option (List ℕ)) (f : Bool) → f ≡ true → Wrote old f piece old f
 put_failed piece old f failed = record {
   front = [];
@@ -119,7 +119,7 @@ some_left piece from lt =
     let long = drop-length from piece (omega arith) in
     (let A : List ℕ → Type 0 = λ t. 0 < length t in subst A (sym (behind_is piece from lt)) (omega arith))
 
--- digits behind a sign in a row of 21 bytes
+-- Digits are written after a sign, at the end of an array of 21 bytes.
 pub next_digits : (sign n s : ℕ) (old new : List ℕ) → s + length (decimal n) ≡ 21 → 1 ≤ s → length new ≡ 21 → length old ≡ 21 → drop s new ≡ decimal n ++ drop 21 old
     → take (21 - (s - 1)) (drop (s - 1) (set new (s - 1) sign)) ≡ sign ∷ decimal n
 next_digits sign n s old new e le long short w =
@@ -134,7 +134,7 @@ next_digits sign n s old new e le long short w =
     ∙ ap (λ j. sign ∷ drop j new) sk
     ∙ ap (λ t. sign ∷ t) (w ∙ ap (λ t. decimal n ++ t) (drop_all 21 old (omega arith)) ∙ append-nil (decimal n))
 
--- words behind words
+-- Words after words.
 pub further-append : (vs ws : List Word) → further (vs ++ ws) ≡ further vs ++ further ws
 further-append [] ws = refl
 further-append (v ∷ vs) ws = ap (λ t. 32 ∷ v ++ t) (further-append vs ws) ∙ sym (append_assoc (32 ∷ v) (further vs) (further ws))
@@ -142,7 +142,7 @@ further-append (v ∷ vs) ws = ap (λ t. 32 ∷ v ++ t) (further-append vs ws) �
 pub further-one : (w : Word) → further (w ∷ []) ≡ 32 ∷ w
 further-one w = append-nil (32 ∷ w)
 
--- one word more of a list
+-- One more word of a list is written.
 pub further_more : {X : Type 0} (word : X → Word) (xs : List X) (i : ℕ) (d : X) → i < length xs → further (map word (take (i + 1) xs)) ≡ further (map word (take i xs)) ++ (32 ∷ word (get_or xs i d))
 further_more {X} word xs i d lt =
     let x : X = get_or xs i d in
@@ -152,11 +152,11 @@ pub one_further : {X : Type 0} {a b c : Option (List ℕ)} {f g h : Bool} (word 
     → Wrote a f (further (map word (take i xs))) b g → Wrote b g (32 ∷ word (get_or xs i d)) c h → Wrote a f (further (map word (take (i + 1) xs))) c h
 one_further {X} {a} {b} {c} {f} {g} {h} word xs i d lt so then = wrote-same _ _ (sym (further_more word xs i d lt)) (then_wrote so then)
 
--- what was written to a sink that has not failed is the whole text
+-- If the sink has not failed, the whole text was written.
 pub wrote-all : {a b : Option (List ℕ)} {f g : Bool} {x : List ℕ} → Wrote a f x b g → g ≡ false → Appends a b x
 wrote-all {a} {b} {f} {g} {x} w fine = appends-same a b w.front x (sym (w.parts ∙ ap (λ t. w.front ++ t) (w.whole fine) ∙ append-nil w.front)) w.grown
 
--- so a call that says that it has not failed wrote all
+-- So a call that returns no error has written the whole text.
 pub all-written : {E : Type 0} (r : Result (Unit {0}) E) {a b : Option (List ℕ)} {f g : Bool} {x : List ℕ} → OnOk r (g ≡ false) → Wrote a f x b g → OnOk r (Appends a b x)
 all-written (Ok u) fine w = wrote-all w fine
 all-written (Err e) fine w = tt

@@ -1,4 +1,4 @@
--- The text that a campaign should have in place of one that is not sound: the chronicle of the replay of the accesses
+-- The sound text for a campaign, computed from a text that is not sound: the chronicle of the replay of the accesses
 -- that the text lists (own).
 use Rattle.std.specs.Prelude.{ℕ, List, Option, Some, None}
 use Rattle.round.specs.Scenario.{Scenario}
@@ -10,16 +10,17 @@ use Rattle.trace.specs.SignedAudit.{signed_chronicle_told}
 use Rattle.trace.specs.SignedText.{signed_text}
 use Rattle.trace.specs.Text.{chronicle_text, text_in}
 
--- Returns the text of a chronicle in the given version, or in the version of its campaign if none is given.
+-- Returns the text of a chronicle in this version, or, if the first argument is `None`, in the version that its
+-- campaign needs.
 abbrev pub text_again : Option Version → Chronicle → List ℕ
 text_again None c = chronicle_text c
 text_again (Some version) c = text_in version c
 
--- Returns the text that replaces a text of this scenario: the chronicle of the replay, in the version that the text
--- names.
+-- Returns the sound text that replaces `t`: the chronicle of the replay, in the version that `t` names. If `t` names
+-- none in which the campaign may be written, it is the version that the campaign needs.
 abbrev pub told_again : Scenario → List ℕ → List ℕ
 told_again s t = text_again (version_named s.rule t) (chronicle_told s t)
 
--- Returns the text that replaces a text of this signed scenario: the chronicle of the replay.
+-- Returns the sound text that replaces `t` for a signed campaign: the chronicle of the replay.
 abbrev pub signed_told_again : Scenario → List ℕ → List ℕ
 signed_told_again s t = signed_text (signed_chronicle_told s t)

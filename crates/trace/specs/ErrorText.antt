@@ -11,7 +11,7 @@ code_of Line = codes "X1"
 code_of Scenario = codes "X2"
 code_of Differs = codes "X3"
 
--- Returns the text of an error: its code, and the line if it is in one.
+-- Returns the text of an error: its code, with the number of the line if it is in a line.
 abbrev pub told : TraceError → List ℕ
 told (At fault line) = code_of fault ++ codes " line " ++ decimal line
 told Write = codes "X4"

@@ -12,24 +12,26 @@ use Rattle.trace.specs.declared.version.Version.{Version}
 use Rattle.trace.specs.declared.version.Version.TheVariants.{First, Second}
 use Rattle.trace.specs.Names.{names_of, chronicle_told}
 
--- States that the generals that the access lines of a chronicle's text name are those of its accesses, round by round.
+-- States that the access lines in a chronicle's text name the same generals, round by round, as the chronicle's
+-- accesses.
 abbrev pub NamesAreTold : Type 0
 NamesAreTold = (v : Version) (c : Chronicle) → All (λ a. a.general < 13) c.accesses →
     names_of (text_in v c) ≡ names_in 1 c.accesses (length c.letters)
 
--- States that a campaign may always be written in the second version, and in the first one with the default rule only.
+-- States that a campaign with this rule may be written in this version: always in the second, and in the first only if
+-- the rule is the default one.
 abbrev pub Admits : Rule → Version → Type 0
 Admits rule Second = Unit {0}
 Admits rule First = is_default rule ≡ true
 
--- States that the text is what the audit expects: the text of the replay of the accesses that it lists, in a version
--- that the rule admits.
+-- States that the audit accepts the text: it is the chronicle of the replay of its own accesses, in a version in which
+-- the campaign may be written.
 pub record IsSoundText (s : Scenario) (t : List ℕ) : Type 0 where
   pub version : Version
   pub admitted : Admits s.rule version
   pub same : t ≡ text_in version (chronicle_told s t)
 
--- States that the text is that of a complete run.
+-- States that the text is the chronicle of a complete run, in a version in which the campaign may be written.
 pub record IsRunText (s : Scenario) (t : List ℕ) : Type 0 where
   pub version : Version
   pub admitted : Admits s.rule version
@@ -37,6 +39,6 @@ pub record IsRunText (s : Scenario) (t : List ℕ) : Type 0 where
   pub complete : IsComplete s events
   pub same : t ≡ text_in version (chronicle_of (run (opening s) events))
 
--- States that the texts that an audit finds sound are exactly those of complete runs.
+-- States that the texts that the audit accepts are exactly the chronicles of complete runs.
 abbrev pub SoundTextsAreRuns : Type 0
 SoundTextsAreRuns = (s : Scenario) (t : List ℕ) → IsScenario s → IsSoundText s t ↔ IsRunText s t

@@ -1,5 +1,5 @@
--- The generals who make the accesses of each round, by the lines of a text, and the chronicle of the replay of these
--- accesses (own).
+-- The generals who make the accesses that a text lists, by round, and the chronicle of the replay of these accesses
+-- (own).
 use Rattle.std.specs.Prelude.{ℕ, cond, List, [], ◌∷◌, ◌++◌, map, filter, decimal, codes, bytes_eq}
 use Rattle.text.specs.Stop.{space, feed}
 use Rattle.text.specs.Parts.{pieces}
@@ -10,15 +10,16 @@ use Rattle.world.specs.Lists.{replayed}
 use Rattle.world.specs.Chronicle.{Chronicle, chronicle_of}
 use Rattle.trace.specs.Text.{Word, Line}
 
--- Returns the general with this number, or no element if there is none.
+-- Returns the general whose number (0 to 12) this word is, as a list. The list is empty if it is no such number.
 abbrev pub general_of : Word → List ℕ
 general_of w = filter (λ g. bytes_eq (decimal g) w) (generals 13)
 
--- The generals named before the first round line, and those named after each round line.
+-- Lists of generals named in a text: one for the lines before the first round line, and one for the lines after each
+-- round line.
 abbrev pub Named : Type 0
 Named = List ℕ × List (List ℕ)
 
--- Returns the generals named from this line on, where `rest` has those named after it.
+-- Returns the lists of generals named from this line on. `rest` has the lists for the lines after it.
 abbrev pub with_line : Line → Named → Named
 with_line (w ∷ v ∷ vs) rest =
     cond (bytes_eq w (codes "round")) ([], rest.0 ∷ rest.1)
@@ -29,7 +30,7 @@ abbrev pub named : List Line → Named
 named [] = ([], [])
 named (l ∷ ls) = with_line l (named ls)
 
--- Returns, for each round line of a text, the generals named by the access lines between it and the next round line.
+-- Returns for each round line of a text the generals named by the access lines between it and the next round line.
 unfoldable pub names_of : List ℕ → List (List ℕ)
 names_of t = (named (map (pieces space) (pieces feed t))).1
 

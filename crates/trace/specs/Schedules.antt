@@ -1,4 +1,4 @@
--- The text of a schedule: a line for each round, which has entries with a space between them (own).
+-- The text of a schedule: a line for each round, with entries separated by spaces (own).
 use Rattle.std.specs.Prelude.{ℕ, suc, ◌&&◌, nat_lt, nat_le, if◌then◌else◌, List, [], ◌∷◌, ◌++◌, length, Option, Some, None, Result, Ok, Err}
 use Rattle.text.specs.declared.stop.Stop.{Stop}
 use Rattle.text.specs.declared.stop.Stop.TheVariants.{Byte}
@@ -14,11 +14,13 @@ use Rattle.trace.specs.declared.fault.TraceError.TheVariants.{At}
 abbrev pub star : Stop
 star = Byte 42
 
--- Returns the number from `least` to `most` that a text spells in decimal, without leading zeros.
+-- Returns the number that a text spells in decimal, without leading zeros, or `None` if it is not a number from `least`
+-- to `most`.
 unfoldable pub number_within : ℕ → ℕ → List ℕ → Option ℕ
 number_within least most part = decimal_of part >>= λ n. if nat_le least n && nat_le n most then Some n else None
 
--- Returns an entry: `G`, or `G*K` for K entries of general G.
+-- Returns the entry that a text describes, given its parts between stars: `G`, or `G*K` for general G, K times. Returns
+-- `None` if it is neither.
 abbrev pub entry_of : List (List ℕ) → Option Repeat
 entry_of (g ∷ []) = number_within 0 12 g >>= λ general. Some (record { general = general; times = 1 })
 entry_of (g ∷ k ∷ []) = number_within 0 12 g >>= λ general. number_within 1 4096 k >>= λ times. Some (record {
@@ -28,29 +30,31 @@ entry_of (g ∷ k ∷ []) = number_within 0 12 g >>= λ general. number_within 1
 })
 entry_of _ = None
 
--- Returns the entries before, and then those of the parts, or `None` if a part is not an entry.
+-- Returns the entries `before`, followed by the entries that these parts of a line describe. Returns `None` if a part
+-- is not an entry.
 abbrev pub entries_told : List Repeat → List (List ℕ) → Option (List Repeat)
 entries_told before [] = Some before
 entries_told before (part ∷ parts) = entry_of (pieces star part) >>= λ entry. entries_told (before ++ entry ∷ []) parts
 
--- Returns the entries of a line, which may be empty.
+-- Returns the entries of a line, which may be empty, or `None` if the line is not a list of entries.
 abbrev pub line_told : List ℕ → Option (List Repeat)
 line_told [] = Some []
 line_told (c ∷ cs) = entries_told [] (pieces space (c ∷ cs))
 
--- The lines after this one are read only if this line is a list of entries, and at most the fifth. Otherwise the fault
--- is in this line.
+-- Returns the result of reading a schedule from this line on. `rest` reads the lines after it. The fault is in this
+-- line if it is not a list of entries (`None`), or if its number is above 5.
 abbrev pub with_line_told : ℕ → Option (List Repeat) → (List Repeat → Result (List (List Repeat)) TraceError) →
     Result (List (List Repeat)) TraceError
 with_line_told number None rest = Err (At Line number)
 with_line_told number (Some entries) rest = if nat_lt 5 number then Err (At Line number) else rest entries
 
--- Returns the entries of the lines before, and then those of the lines from this number on, or the first fault.
+-- Returns the entries `before` of earlier lines, followed by the entries of the lines from this number on, or the first
+-- fault.
 abbrev pub schedule_lines_told : List (List Repeat) → ℕ → List (List ℕ) → Result (List (List Repeat)) TraceError
 schedule_lines_told before number [] = Ok before
 schedule_lines_told before number (line ∷ lines) =
     with_line_told number (line_told line) (λ entries. schedule_lines_told (before ++ entries ∷ []) (suc number) lines)
 
--- Returns the schedule that a text of at most 1,048,576 bytes describes, or the first line that is not valid.
+-- Returns the schedule that a text describes, or the first line with a fault. A text may have at most 1,048,576 bytes.
 unfoldable pub schedule_told : List ℕ → Result (List (List Repeat)) TraceError
 schedule_told text = if nat_le (length text) 1048576 then schedule_lines_told [] 1 (lines_of text) else Err (At Line 1)

@@ -1,4 +1,4 @@
--- What an audit of a signed campaign's text accepts, and the fault that it reports otherwise (own).
+-- Which texts the audit of a signed campaign accepts, and the fault that it reports for others (own).
 use Rattle.std.specs.Prelude.{ℕ, ◌≡◌, Bool, true, false, List, [], ◌∷◌, bytes_eq, codes}
 use Rattle.text.specs.Stop.{feed}
 use Rattle.text.specs.Parts.{pieces}
@@ -16,26 +16,26 @@ use Rattle.trace.specs.SignedText.{signed_text}
 unfoldable pub signed_chronicle_told : Scenario → List ℕ → Chronicle
 signed_chronicle_told s t = signed_chronicle_of (played s (replayed signed_kind s (names_of t)))
 
--- States that the text is what the audit expects: the text of the replay of the accesses that it lists.
+-- States that the audit accepts the text: it is the chronicle of the replay of its own accesses.
 abbrev pub IsSoundSignedText : Scenario → List ℕ → Type 0
 IsSoundSignedText s t = t ≡ signed_text (signed_chronicle_told s t)
 
--- Returns whether the first line names the version of signed campaigns.
+-- Returns whether the first line is `chronicle 3`, the version of signed campaigns.
 abbrev pub is_third : List (List ℕ) → Bool
 is_third [] = false
 is_third (line ∷ lines) = bytes_eq line (codes "chronicle 3")
 
--- Returns whether a text names the version of signed campaigns in its first line.
+-- Returns whether the first line of a text is `chronicle 3`, the version of signed campaigns.
 unfoldable pub is_third_version : List ℕ → Bool
 is_third_version t = is_third (pieces feed t)
 
--- States that the text first differs from the text of its replay at `place`. If the text names another version, `place`
--- is 0.
+-- States that the text first differs from the chronicle of its replay at byte offset `place`. If the first line is not
+-- `chronicle 3`, `place` is 0.
 abbrev pub SignedDiffersAt : Scenario → List ℕ → Bool → ℕ → Type 0
 SignedDiffersAt s t false place = place ≡ 0
 SignedDiffersAt s t true place = IsFirstDifference t (signed_text (signed_chronicle_told s t)) place
 
--- `e` says why the text is not sound: it is the fault for its first difference.
+-- States that `e` is the error to report for a text that is not sound: it results from the first difference.
 pub record IsSignedFaultOf (s : Scenario) (t : List ℕ) (e : TraceError) : Type 0 where
   pub place : ℕ
   pub differs : SignedDiffersAt s t (is_third_version t) place

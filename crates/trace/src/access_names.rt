@@ -1,4 +1,4 @@
-//! Reads from a chronicle's text which generals make accesses in each round.
+//! Reads from the text of a chronicle which generals make the accesses of each round.
 ghost use Rattle.std.specs.Prelude.{◌≡◌, ◌<◌, ◌≤◌, ◌∷◌, ◌++◌, length, map, take, option_to_list, IfOk, IfSome};
 ghost use Rattle.text.specs.Stop.{space, feed};
 ghost use Rattle.text.specs.Parts.{pieces};
@@ -12,18 +12,18 @@ use memchr::{memchr2, memrchr};
 use std::alloc::{AllocError, Global};
 use text::{SPACE, piece};
 
-/// What a line says about rounds and accesses.
+/// What one line of a chronicle's text says about rounds and accesses.
 #[derive(Clone, Copy)]
 enum Mark {
     /// The line begins a round.
     Round,
-    /// The line is an access by the general of this number.
+    /// The line records an access by the general of this number (0 to 12).
     Access(u8),
-    /// The line neither begins a round nor is an access by a general.
+    /// The line neither begins a round nor records an access by a general.
     Other,
 }
 
-/// Returns the number of a general (0 to 12) that a word spells in decimal, or `None` if it spells none.
+/// Returns the general's number (0 to 12) that a word spells in decimal, or `None` if the word is not such a number.
 #[tactic(auto, using(crate::proofs::Generals::general_none))]
 fn general(word: &[u8]) -> Option<u8>
     ensures { option_to_list result ≡ general_of word.now }
@@ -31,8 +31,8 @@ fn general(word: &[u8]) -> Option<u8>
     Some(number_within(0, 12, word)? as u8)
 }
 
-/// Returns the mark of an access line whose general is given by this word. A word that is not a general's number gives
-/// `Other`.
+/// Returns `Access` with the general whose number this word is, or `Other` if the word is not a general's number (0 to
+/// 12). The word is the second one of a line that begins with `access`.
 fn access(number: &[u8]) -> Mark
     ensures { (rest : Named) → marked result rest ≡ (general_of number.now ++ rest.0, rest.1) }
 {
@@ -42,7 +42,7 @@ fn access(number: &[u8]) -> Mark
     }
 }
 
-/// Returns what a line says about rounds and accesses.
+/// Returns what a line says: it begins a round, it records an access by a general, or neither.
 fn said(line: &[u8]) -> Mark
     ensures { (rest : Named) → marked result rest ≡ with_line (pieces space line.now) rest }
 {
@@ -59,8 +59,8 @@ fn said(line: &[u8]) -> Mark
     }
 }
 
-/// Returns the text from the first line on that has a `u` or an `s`, or `None` if there is no such line. Only such a
-/// line can say `round` or `access`. Most lines are rows, which have neither letter.
+/// Returns the text from the first line that contains a `u` or an `s`, or `None` if no line does. The lines before it
+/// cannot begin with `round` or `access`. Most lines are rows of orders, which have neither letter.
 fn from_next(text: &[u8]) -> Option<&[u8]>
     ensures names { named (map (pieces space) (lines_left result)) ≡ named (map (pieces space) (pieces feed text.now)) }
     ensures no_longer { IfSome result (λ rest. length rest.now ≤ length text.now) }
@@ -72,9 +72,9 @@ fn from_next(text: &[u8]) -> Option<&[u8]>
     }
 }
 
-/// Returns the generals who make the accesses of a text, in the order of its lines. The first list has those before the
-/// first round line, and each further list has those after one round line. There are at most `most` lists, and the text
-/// is read only as far as they need.
+/// Returns the generals who make the accesses that a text lists, in the order of its lines. The first list is for the
+/// lines before the first `round` line, and each further list is for the lines after one `round` line. The result has
+/// at most `most` lists, and the text is read only as far as they need.
 ///
 /// # Errors
 ///

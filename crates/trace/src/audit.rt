@@ -1,4 +1,4 @@
-//! Audits a chronicle's text: replays its accesses, and compares the text with the chronicle of that replay.
+//! Audits the text of a chronicle: replays its accesses, and compares the text with the chronicle of that replay.
 ghost use Rattle.std.specs.Prelude.{◌≡◌, ◌≢◌, IfOk, IfErr, IfSome, IfNone, None};
 ghost use Rattle.trace.specs.declared.fault.TraceError.TheVariants.{Memory};
 ghost use Rattle.trace.specs.Text.{text_in};
@@ -18,7 +18,8 @@ use std::alloc::{AllocError, Global};
 use text::{FEED, piece};
 use world::{Chronicle, Verdict, replay};
 
-/// Returns the first version if a campaign with this rule may be written in it. Only the default rule may.
+/// Returns the first version if a campaign with this rule may be written in it, otherwise `None`. Only a campaign with
+/// the default rule may, since the first version does not name the rule.
 fn first_version(rule: Rule) -> Option<Version>
     ensures { result ≡ first_version rule }
 {
@@ -29,7 +30,8 @@ fn first_version(rule: Rule) -> Option<Version>
     }
 }
 
-/// Returns the version that a chronicle's first line names, if a campaign with this rule may be written in it.
+/// Returns the version that `line`, the first line of a chronicle, names. Returns `None` if it names no version in
+/// which a campaign with this rule may be written.
 fn line_version(rule: Rule, line: &[u8]) -> Option<Version>
     ensures { result ≡ line_version rule line.now }
 {
@@ -42,8 +44,8 @@ fn line_version(rule: Rule, line: &[u8]) -> Option<Version>
     }
 }
 
-/// Returns the version that a chronicle's text names in its first line, if a campaign with this rule may be written in
-/// it.
+/// Returns the version that the first line of a chronicle's text names. Returns `None` if it names no version in which
+/// a campaign with this rule may be written.
 #[tactic(auto, unfolding(crate::specs::Audit::version_named))]
 pub(crate) fn version_named(rule: Rule, text: &[u8]) -> Option<Version>
     ensures { result ≡ version_named rule text.now }
@@ -52,7 +54,7 @@ pub(crate) fn version_named(rule: Rule, text: &[u8]) -> Option<Version>
     line_version(rule, line)
 }
 
-/// Replays the campaign with the accesses in the order in which the text lists them, and returns the chronicle of that
+/// Replays the campaign with the accesses in the order in which the text lists them, and returns the chronicle of this
 /// replay.
 ///
 /// # Errors
@@ -66,14 +68,14 @@ pub(crate) fn replayed(
 ) -> Result<Chronicle, AllocError>
     ensures { IfOk result (λ chronicle. chronicle ≡ chronicle_told scenario.now text.now) }
 {
-    // One list is for the accesses before the first round line, and one for each of the campaign's rounds.
+    // `names` returns a list for the lines before the first round, and then a list for each of the campaign's rounds.
     let most = scenario.bound() as usize + 2;
     let lists = names(alloc, text, most)?;
     replay(alloc, scenario.copy(alloc)?, &lists[1..])
 }
 
-/// Returns the byte offset at which a text first differs from a chronicle's text in this version, or `None` if the two
-/// are the same.
+/// Returns the byte offset at which `text` first differs from the chronicle's text in this version, or `None` if the
+/// two are equal.
 fn difference(text: &[u8], version: Version, chronicle: &Chronicle) -> Option<usize>
     ensures same { IfNone result (text.now ≡ text_in version chronicle.now) }
     ensures differs { IfSome result (IsFirstDifference text.now (text_in version chronicle.now)) }
@@ -83,12 +85,13 @@ fn difference(text: &[u8], version: Version, chronicle: &Chronicle) -> Option<us
     comparison.difference()
 }
 
-/// Audits the text of a chronicle, and returns the verdict of its campaign. The text is sound if it is the chronicle of
-/// the replay of its own accesses, in a version that the scenario's rule admits.
+/// Audits the text of a chronicle, and returns the verdict of the campaign. The text is sound if it is the chronicle of
+/// the replay of its own accesses, in a version in which a campaign with the scenario's rule may be written.
 ///
 /// # Errors
 ///
-/// The errors are those of `sound_chronicle`.
+/// `At` with `Line` and the first line that is not a valid line of a chronicle or has no LF. Otherwise `At` with the
+/// first line that differs and `Scenario` (lines 1 and 2) or `Differs` (later lines). `Memory` if an allocation fails.
 pub fn check(alloc: Global, scenario: &Scenario, text: &str) -> Result<Verdict, TraceError>
     ensures sound { IfOk result (λ v. IsSoundText scenario.now text.now) }
     ensures verdict { IfOk result (λ v. v ≡ (chronicle_told scenario.now text.now).verdict) }
@@ -102,14 +105,14 @@ pub fn check(alloc: Global, scenario: &Scenario, text: &str) -> Result<Verdict, 
 
 /// Audits the text of a chronicle, and returns the chronicle.
 ///
-/// The accesses are replayed in the order in which the text lists them, and the chronicle of that replay is compared
-/// with the text.
+/// It replays the accesses in the order in which the text lists them, and compares the text with the chronicle of this
+/// replay.
 ///
 /// # Errors
 ///
-/// `At` with `Line` and the first line that has no valid shape or no LF. If there is no such line, `At` with the first
-/// line that differs and `Scenario` (in the first two lines) or `Differs` (after them). `Memory` if an allocation
-/// fails, which cannot happen if the text names no version that the scenario's rule admits.
+/// `At` with `Line` and the first line that is not a valid line of a chronicle or has no LF. Otherwise `At` with the
+/// first line that differs and `Scenario` (lines 1 and 2) or `Differs` (later lines). `Memory` if an allocation fails.
+/// Nothing is allocated if the text names no version in which a campaign with the scenario's rule may be written.
 pub fn sound_chronicle(
     alloc: Global,
     scenario: &Scenario,

@@ -1,4 +1,4 @@
-//! Writes the chains of a signed campaign to a sink, a line for each chain.
+//! Writes the chains of a signed campaign to a sink, one line for each chain.
 ghost use Rattle.std.specs.Prelude.{◌≡◌, ◌∷◌, [], decimal, flat_map, map};
 ghost use Rattle.signed.specs.Sending.{dispatch_of, named};
 ghost use Rattle.trace.specs.Sinks.{Wrote};
@@ -10,7 +10,7 @@ use crate::sink::Sink;
 use crate::writer::{put_all, put_behind, put_headed, put_next};
 use signed::Chain;
 
-/// Writes the generals' numbers, each after a dot.
+/// Writes each general's number with a dot before it, such as `.2.5`.
 fn put_joined<S: Sink>(sink: &mut S, generals: &[u8])
     ensures { Wrote (S.contents sink.old) (S.has_failed sink.old) (flat_map (λ g. 46 ∷ decimal g) generals.now)
         (S.contents sink.new) (S.has_failed sink.new) }
@@ -20,7 +20,7 @@ fn put_joined<S: Sink>(sink: &mut S, generals: &[u8])
     }
 }
 
-/// Writes a space, then the generals' numbers joined by dots, or a dash if there are none.
+/// Writes a space and the generals' numbers joined by dots, such as ` 0.2.5`. If there are no generals, it writes ` -`.
 fn put_dotted<S: Sink>(sink: &mut S, generals: &[u8])
     ensures { Wrote (S.contents sink.old) (S.has_failed sink.old) (32 ∷ dotted generals.now) (S.contents sink.new)
         (S.has_failed sink.new) }
@@ -34,7 +34,8 @@ fn put_dotted<S: Sink>(sink: &mut S, generals: &[u8])
     }
 }
 
-/// Writes a space, then the generals whose bits are set joined by dots, or a dash if no bit is set. Bit g is general g.
+/// Writes a space and the numbers of the generals whose bits are set, joined by dots, such as ` 2.5`. If no bit is set,
+/// it writes ` -`. Bit g means general g.
 fn put_receivers<S: Sink>(sink: &mut S, receivers: u16)
     ensures { Wrote (S.contents sink.old) (S.has_failed sink.old) (32 ∷ dotted (named receivers)) (S.contents sink.new)
         (S.has_failed sink.new) }
@@ -43,7 +44,7 @@ fn put_receivers<S: Sink>(sink: &mut S, receivers: u16)
     put_dotted(sink, generals.as_slice());
 }
 
-/// Writes the line of a chain: its order, its signers and its receivers. Bit g of `receivers` is general g.
+/// Writes the line of a chain: its order, its signers and its receivers. Bit g of `receivers` means general g.
 fn put_chain<S: Sink>(sink: &mut S, chain: &Chain, receivers: u16)
     ensures { Wrote (S.contents sink.old) (S.has_failed sink.old)
         (text (chain_line (dispatch_of (chain.now, receivers)) ∷ [])) (S.contents sink.new) (S.has_failed sink.new) }
@@ -55,7 +56,7 @@ fn put_chain<S: Sink>(sink: &mut S, chain: &Chain, receivers: u16)
     put_all(sink, b"\n");
 }
 
-/// Writes the lines of chains in their order, each with its receivers as bits.
+/// Writes a line for each chain, in the given order. With each chain go its receivers: bit g means general g.
 pub fn put_chains<S: Sink>(sink: &mut S, chains: &[(Chain, u16)])
     ensures { Wrote (S.contents sink.old) (S.has_failed sink.old) (text (map chain_line (map dispatch_of chains.now)))
         (S.contents sink.new) (S.has_failed sink.new) }

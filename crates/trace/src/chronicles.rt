@@ -1,4 +1,4 @@
-//! Writes whole chronicles to a sink.
+//! Writes chronicles to a sink.
 ghost use Rattle.std.specs.Prelude.{◌≡◌, ◌∷◌, [], IfErr, OnOk, false, is_err};
 ghost use Rattle.std.specs.Io.KnownBytes.{Appends};
 ghost use Rattle.label.specs.Lieutenants.{lieutenants};
@@ -16,7 +16,8 @@ use crate::writer::put_all;
 use round::Scenario;
 use world::{Chronicle, Verdict};
 
-/// Writes the numbers that begin the second line: the generals, the bound, the commander and the order.
+/// Writes the numbers in the second line of a chronicle: the number of generals, the bound, the commander and his
+/// order.
 pub(crate) fn put_campaign_of<S: Sink>(sink: &mut S, scenario: &Scenario)
     ensures { Wrote (S.contents sink.old) (S.has_failed sink.old)
         (spaced (campaign_words scenario.now.generals scenario.now.bound scenario.now.commander scenario.now.order))
@@ -31,7 +32,8 @@ pub(crate) fn put_campaign_of<S: Sink>(sink: &mut S, scenario: &Scenario)
     );
 }
 
-/// Writes what the version adds to the second line after the numbers: the patience and the rule, or nothing.
+/// Writes the end of the second line of a chronicle: the patience and the rule in the second version, nothing in the
+/// first.
 fn put_further_of<S: Sink>(sink: &mut S, version: Version, scenario: &Scenario)
     ensures { Wrote (S.contents sink.old) (S.has_failed sink.old)
         (further (further_words version scenario.now.patience scenario.now.rule)) (S.contents sink.new)
@@ -40,7 +42,7 @@ fn put_further_of<S: Sink>(sink: &mut S, version: Version, scenario: &Scenario)
     put_further(sink, version, scenario.patience(), scenario.rule());
 }
 
-/// Writes the first two lines of a chronicle: the version and the campaign.
+/// Writes the first two lines of a chronicle. The first names the version, and the second describes the campaign.
 fn put_head<S: Sink>(sink: &mut S, version: Version, scenario: &Scenario)
     ensures { Wrote (S.contents sink.old) (S.has_failed sink.old) (text (head_lines version scenario.now))
         (S.contents sink.new) (S.has_failed sink.new) }
@@ -51,7 +53,7 @@ fn put_head<S: Sink>(sink: &mut S, version: Version, scenario: &Scenario)
     put_all(sink, b"\n");
 }
 
-/// Writes the lines of a chronicle in this version.
+/// Writes all lines of a chronicle in this version.
 pub(crate) fn put_chronicle<S: Sink>(sink: &mut S, version: Version, chronicle: &Chronicle)
     ensures { Wrote (S.contents sink.old) (S.has_failed sink.old) (text_in version chronicle.now) (S.contents sink.new)
         (S.has_failed sink.new) }
@@ -62,7 +64,7 @@ pub(crate) fn put_chronicle<S: Sink>(sink: &mut S, version: Version, chronicle: 
     put_verdict(sink, chronicle.verdict());
 }
 
-/// Writes the lines of a chronicle in the version of its campaign.
+/// Writes all lines of a chronicle, in the version that its campaign needs.
 fn put_whole<S: Sink>(sink: &mut S, chronicle: &Chronicle)
     ensures { Wrote (S.contents sink.old) (S.has_failed sink.old) (chronicle_text chronicle.now) (S.contents sink.new)
         (S.has_failed sink.new) }
@@ -88,12 +90,12 @@ pub(crate) fn write_in<S: Sink>(
     written(sink)
 }
 
-/// Writes the text of a chronicle in the version of its campaign. It allocates no memory.
+/// Writes the text of a chronicle, in the version that its campaign needs. It allocates no memory.
 ///
 /// # Errors
 ///
-/// `Write` exactly if the sink has failed when the function returns. Then only a beginning of the text was written, and
-/// nothing if the sink had failed before.
+/// `Write` exactly if the sink has failed when the function returns. Then at most a beginning of the text was written.
+/// Nothing was written if the sink had failed before the call.
 pub fn write_chronicle<S: Sink>(chronicle: &Chronicle, sink: &mut S) -> Result<(), TraceError>
     ensures written { OnOk result (Appends (S.contents sink.old) (S.contents sink.new) (chronicle_text chronicle.now)) }
     ensures beginning { Wrote (S.contents sink.old) (S.has_failed sink.old) (chronicle_text chronicle.now)
@@ -105,11 +107,11 @@ pub fn write_chronicle<S: Sink>(chronicle: &Chronicle, sink: &mut S) -> Result<(
     written(sink)
 }
 
-/// Writes the line of a verdict. It allocates no memory.
+/// Writes the line of a verdict, which ends with an LF. It allocates no memory.
 ///
 /// # Errors
 ///
-/// `Write` exactly if the sink has failed when the function returns. Then only a beginning of the line was written.
+/// `Write` exactly if the sink has failed when the function returns. Then at most a beginning of the line was written.
 pub fn write_verdict<S: Sink>(verdict: Verdict, sink: &mut S) -> Result<(), TraceError>
     ensures written { OnOk result
         (Appends (S.contents sink.old) (S.contents sink.new) (text (verdict_line verdict ∷ []))) }
@@ -122,7 +124,7 @@ pub fn write_verdict<S: Sink>(verdict: Verdict, sink: &mut S) -> Result<(), Trac
     written(sink)
 }
 
-/// Checks that the sink has not failed, so that all was written.
+/// Checks that the sink has not failed, which means that all earlier writes succeeded.
 ///
 /// # Errors
 ///

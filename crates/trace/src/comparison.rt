@@ -1,19 +1,19 @@
-//! Compares a text with another text while that is being written.
+//! Compares a text with another one while the other is being written.
 ghost use Rattle.std.specs.Prelude.{◌≡◌, ◌≢◌, ◌<◌, ◌≤◌, ◌+◌, true, false, IfNone, IfSome, None, is_some, length, slice_get, take};
 ghost use Rattle.std.specs.Int.{to_le_bytes, w64};
 ghost use Rattle.trace.specs.Compared.{eight};
 
 use crate::sink::Sink;
 
-/// A sink that compares the bytes it receives with a text, and keeps the first difference.
+/// A sink that compares the bytes it receives with `text`, and remembers the first difference.
 #[derive(Drop)]
 pub struct ComparingSink<'a> {
     text: &'a [u8],
-    /// The number of received bytes that are the same as in the text.
+    /// How many of the first received bytes are the same as in `text`.
     same: usize,
-    /// The first received byte that differs from the text or comes after the text's end.
+    /// The first received byte that differs from `text` or comes after its end, or `None` if there is no such byte yet.
     other: Option<u8>,
-    /// Whether the sink has rejected bytes because an earlier byte differed.
+    /// Whether the sink has rejected bytes. It does so once a received byte differs from `text`.
     failed: bool,
     ghost within: { same ≤ length text.now },
     ghost differs: { slice_get text.now same ≡ other → other ≡ None },
@@ -21,7 +21,7 @@ pub struct ComparingSink<'a> {
 }
 
 impl<'a> ComparingSink<'a> {
-    /// Returns a sink that compares with this text and has received nothing.
+    /// Returns a sink that will compare the bytes it receives with `text`.
     pub fn new(text: &'a [u8]) -> ComparingSink<'a>
         ensures text { result.text.now ≡ text.now }
         ensures fresh { (result.same ≡ 0) × (result.other ≡ None) × (result.failed ≡ false) }
@@ -34,8 +34,8 @@ impl<'a> ComparingSink<'a> {
         }
     }
 
-    /// Returns the byte offset of the first difference, or `None` if the sink has received exactly the text. If the
-    /// received bytes end too early, the offset is where they end.
+    /// Returns the byte offset at which the received bytes first differ from the text, or `None` if they are exactly
+    /// the text. If they are only a beginning of the text, the offset is their number.
     pub fn difference(&self) -> Option<usize>
         ensures none { IfNone result ((self.now.other ≡ None) × (self.now.same ≡ length self.now.text.now)) }
         ensures some { IfSome result (λ place. (place ≡ self.now.same)
@@ -52,7 +52,7 @@ impl<'a> ComparingSink<'a> {
 impl<'a> Sink for ComparingSink<'a> {
     ghost use Rattle.trace.specs.Compared.{compared, taken};
 
-    // The contents are the text and then the received bytes, so the contracts show that the text does not change.
+    // Contracts see the text followed by the received bytes, which shows that the text does not change.
     ghost contents = { λ c. compared c.text.now (taken c.text.now c.same c.other) };
 
     ghost has_failed = { λ c. c.failed };
@@ -79,7 +79,7 @@ impl<'a> Sink for ComparingSink<'a> {
     }
 }
 
-/// Returns the number of leading bytes in which a text and a piece agree.
+/// Returns the number of first bytes in which `text` and `piece` agree.
 fn alike(text: &[u8], piece: &[u8]) -> usize
     ensures text { result ≤ length text.now }
     ensures piece { result ≤ length piece.now }
@@ -95,8 +95,8 @@ fn alike(text: &[u8], piece: &[u8]) -> usize
     most
 }
 
-/// Returns a multiple of 8 such that a text and a piece agree in that many leading bytes. It compares eight bytes at a
-/// time.
+/// Returns a multiple of 8. In at least this number of first bytes, `text` and `piece` agree. It compares eight bytes
+/// at a time, and stops at the first eight that differ.
 fn alike_words(text: &[u8], piece: &[u8]) -> usize
     ensures text { result ≤ length text.now }
     ensures piece { result ≤ length piece.now }
@@ -112,7 +112,7 @@ fn alike_words(text: &[u8], piece: &[u8]) -> usize
     8 * words
 }
 
-/// Reads the 64-bit little-endian number in the 8 bytes of `bytes` that begin at index `place`.
+/// Returns the 64-bit number in the 8 bytes of `bytes` from index `place` on, in little-endian order.
 fn word_at(bytes: &[u8], place: usize) -> u64
     requires { place + 8 ≤ length bytes.now }
     ensures { to_le_bytes w64 result ≡ eight place bytes.now }

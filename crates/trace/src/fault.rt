@@ -1,4 +1,4 @@
-//! The errors of schedules and chronicles: what is wrong with a text, and in which line.
+//! Defines the errors of schedules and chronicles: what is wrong with a text, and in which line.
 ghost use Rattle.std.specs.Prelude.{◌≡◌};
 ghost use Rattle.trace.specs.declared.fault.TraceError.TheVariants.{Memory};
 
@@ -9,11 +9,11 @@ use std::fmt;
 /// A fault in a line of a schedule or a chronicle.
 #[derive(Clone, Copy, Debug, PartialEq, Eq, Drop)]
 pub enum TraceFault {
-    /// The line is not a valid line of such a text.
+    /// X1: the line is not a valid line of a schedule or a chronicle.
     Line,
-    /// The first or second line is missing, or it is not the scenario's.
+    /// X2: the first or second line of a chronicle is missing, or it is not the one for the scenario.
     Scenario,
-    /// A line after the second differs from the chronicle of the replay.
+    /// X3: a line after the second differs from the chronicle of the replay.
     Differs,
 }
 
@@ -34,12 +34,12 @@ impl fmt::Display for TraceFault {
 
 impl Error for TraceFault {}
 
-/// Why a text is not a schedule or not a chronicle of a scenario, or why a text was not written.
+/// Why a text is not a schedule, or not the chronicle of a scenario, or why a text could not be written.
 #[derive(Clone, Copy, Debug, PartialEq, Eq, Drop)]
 pub enum TraceError {
     /// The text has this fault in this line, counted from 1.
     At(TraceFault, u64),
-    /// The sink failed.
+    /// X4: the sink failed.
     Write,
     /// An allocation failed.
     Memory,

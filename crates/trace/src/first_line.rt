@@ -5,7 +5,8 @@ ghost use Rattle.text.specs.Parts.{GivesPieces, pieces};
 
 use memchr::memchr;
 
-/// Returns the first line of a text without its LF, and the text after that LF, or `None` if the text has no LF.
+/// Returns the first line of a text without its LF, and the text after this LF. If the text has no LF, returns the
+/// whole text and `None`.
 pub fn parted(text: &[u8]) -> (&[u8], Option<&[u8]>)
     ensures first { GivesPieces feed result.0.now result.1 (pieces feed text.now) }
     ensures last { IfNone result.1 (result.0.now ≡ text.now) }

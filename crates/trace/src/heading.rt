@@ -1,4 +1,5 @@
-//! Writes the first two lines of a chronicle to a sink.
+//! Writes the first two lines of a chronicle to a sink. The first names the version, and the second describes the
+//! campaign.
 ghost use Rattle.std.specs.Prelude.{◌≡◌, ◌∷◌, [], Option};
 ghost use Rattle.combine.specs.Rule.{rule_name};
 ghost use Rattle.trace.specs.Sinks.{Wrote};
@@ -10,7 +11,7 @@ use crate::version::Version;
 use crate::writer::{put_all, put_headed};
 use combine::Rule;
 
-/// Writes the line that names the version.
+/// Writes the first line of a chronicle, which names the version, such as `chronicle 1`.
 pub fn put_version<S: Sink>(sink: &mut S, version: Version)
     ensures { Wrote (S.contents sink.old) (S.has_failed sink.old) (text (version_line version ∷ []))
         (S.contents sink.new) (S.has_failed sink.new) }
@@ -21,7 +22,7 @@ pub fn put_version<S: Sink>(sink: &mut S, version: Version)
     }
 }
 
-/// Writes the numbers that begin the second line: the generals, the bound, the commander and the order.
+/// Writes the numbers in the second line of a chronicle, such as `generals 4 bound 1 commander 0 order 1`.
 pub fn put_campaign<S: Sink>(sink: &mut S, generals: u32, bound: u32, commander: u32, order: u32)
     ensures { Wrote (S.contents sink.old) (S.has_failed sink.old)
         (spaced (campaign_words generals bound commander order)) (S.contents sink.new) (S.has_failed sink.new) }
@@ -41,7 +42,8 @@ fn put_rule<S: Sink>(sink: &mut S, rule: Rule)
     put_all(sink, rule.name().as_bytes());
 }
 
-/// Writes the patience and the rule, with their words, as the second version has them.
+/// Writes the patience and the rule as the second version has them, such as ` patience 100 rule majority`. A dash means
+/// no patience.
 fn put_conditions<S: Sink>(sink: &mut S, patience: Option<u32>, rule: Rule)
     ensures { Wrote (S.contents sink.old) (S.has_failed sink.old) (further (further_words Version.Second patience rule))
         (S.contents sink.new) (S.has_failed sink.new) }
@@ -52,8 +54,8 @@ fn put_conditions<S: Sink>(sink: &mut S, patience: Option<u32>, rule: Rule)
     put_rule(sink, rule);
 }
 
-/// Writes what a version adds to the second line after the numbers: the patience and the rule in the second version,
-/// nothing in the first.
+/// Writes the end of the second line of a chronicle: the patience and the rule in the second version, nothing in the
+/// first.
 pub fn put_further<S: Sink>(sink: &mut S, version: Version, patience: Option<u32>, rule: Rule)
     ensures { Wrote (S.contents sink.old) (S.has_failed sink.old) (further (further_words version patience rule))
         (S.contents sink.new) (S.has_failed sink.new) }

@@ -14,7 +14,7 @@ use board::Access;
 use outbox::Outbox;
 use round::{Letter, Round, Scenario};
 
-/// Writes the lines of an outbox's rows, ascending by rank.
+/// Writes a line for each label of the outbox, ascending by rank, with the orders sent to the label's receivers.
 fn put_rows<S: Sink>(sink: &mut S, outbox: &Outbox)
     ensures { Wrote (S.contents sink.old) (S.has_failed sink.old) (text (row_lines 0 outbox.now.rows))
         (S.contents sink.new) (S.has_failed sink.new) }
@@ -40,7 +40,8 @@ fn outbox_of(letter: &Letter) -> &Outbox
     &letter.outbox
 }
 
-/// Returns the number of steps that a traitor's program took for the letter, or `None` if its general is loyal.
+/// Returns how many steps a traitor's program took in the round of this letter, or `None` if the letter's general is
+/// loyal.
 pub(crate) fn steps_of(letter: &Letter) -> Option<u32>
     ensures { result ≡ steps_of letter.now }
 {
@@ -50,7 +51,7 @@ pub(crate) fn steps_of(letter: &Letter) -> Option<u32>
     }
 }
 
-/// Writes the lines of a letter: its first line and its rows.
+/// Writes the lines of a letter: the first names its general, and each further line has the orders sent for one label.
 fn put_letter<S: Sink>(sink: &mut S, letter: &Letter)
     ensures { Wrote (S.contents sink.old) (S.has_failed sink.old) (text (letter_lines letter.now)) (S.contents sink.new)
         (S.has_failed sink.new) }
@@ -59,7 +60,7 @@ fn put_letter<S: Sink>(sink: &mut S, letter: &Letter)
     put_rows(sink, outbox_of(letter));
 }
 
-/// Writes the lines of a round's letters, in their order.
+/// Writes the lines of these letters, in their order.
 fn put_letters<S: Sink>(sink: &mut S, letters: &[Letter])
     ensures { Wrote (S.contents sink.old) (S.has_failed sink.old) (text (flat_map letter_lines letters.now))
         (S.contents sink.new) (S.has_failed sink.new) }
@@ -69,7 +70,7 @@ fn put_letters<S: Sink>(sink: &mut S, letters: &[Letter])
     }
 }
 
-/// Writes the lines of a round: the round's own line, its accesses and its letters.
+/// Writes the lines of a round: its first line with its number, its accesses, and its letters.
 fn put_one<S: Sink>(sink: &mut S, round: u64, accesses: &[Access], letters: &[Letter])
     ensures { Wrote (S.contents sink.old) (S.has_failed sink.old) (text (one_round round accesses.now letters.now))
         (S.contents sink.new) (S.has_failed sink.new) }
@@ -79,7 +80,7 @@ fn put_one<S: Sink>(sink: &mut S, round: u64, accesses: &[Access], letters: &[Le
     put_letters(sink, letters);
 }
 
-/// Returns the letters of the round with this number, where the first round has the number 0.
+/// Returns the letters of round `number`, counted from 0.
 pub(crate) fn letters_of(rounds: &[Round], number: usize) -> &[Letter]
     requires { number < length rounds.now }
     ensures { result.now ≡ slice_index_or rounds.now number [] }
@@ -87,7 +88,7 @@ pub(crate) fn letters_of(rounds: &[Round], number: usize) -> &[Letter]
     rounds[number].letters()
 }
 
-/// Writes the lines of all rounds from the first on: each round's own line, its accesses and its letters.
+/// Writes the lines of all rounds. A round has its first line with its number, then its accesses, then its letters.
 pub fn put_rounds<S: Sink>(sink: &mut S, accesses: &[Access], rounds: &[Round])
     ensures { Wrote (S.contents sink.old) (S.has_failed sink.old) (text (round_lines 1 accesses.now rounds.now))
         (S.contents sink.new) (S.has_failed sink.new) }
@@ -102,14 +103,14 @@ pub fn put_rounds<S: Sink>(sink: &mut S, accesses: &[Access], rounds: &[Round])
     }
 }
 
-/// Returns the decision at this position of the list, or `None` if the list is shorter.
+/// Returns element `place` of the decisions, counted from 0, or `None` if there are fewer.
 fn decision_at(decisions: &[u32], place: usize) -> Option<u32>
     ensures { result ≡ slice_get decisions.now place }
 {
     decisions.get(place).copied()
 }
 
-/// Writes the line of a lieutenant's decision, or nothing if there is no decision.
+/// Writes the line of a lieutenant's decision. It writes nothing if `decision` is `None`.
 fn put_decided<S: Sink>(sink: &mut S, scenario: &Scenario, general: u8, decision: Option<u32>)
     requires { general < scenario.now.generals }
     ensures { Wrote (S.contents sink.old) (S.has_failed sink.old) (text (decided_lines scenario.now general decision))
@@ -123,7 +124,7 @@ fn put_decided<S: Sink>(sink: &mut S, scenario: &Scenario, general: u8, decision
     }
 }
 
-/// Writes the lines of the lieutenants' decisions, ascending by the lieutenants' numbers.
+/// Writes a line for each lieutenant's decision, ascending by lieutenant.
 pub fn put_decisions<S: Sink>(sink: &mut S, scenario: &Scenario, decisions: &[u32])
     ensures { Wrote (S.contents sink.old) (S.has_failed sink.old)
         (text (decision_lines scenario.now (lieutenants scenario.now.generals scenario.now.commander) decisions.now))

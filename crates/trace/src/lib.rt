@@ -1,4 +1,4 @@
-//! Reads and writes the texts of campaigns: reads schedules, and writes and audits chronicles.
+//! Reads schedules, and writes and audits the texts of chronicles.
 #![tactic(auto)]
 
 mod access_names;

@@ -1,4 +1,4 @@
-//! Collects lines in a buffer before they are written to a sink.
+//! Collects lines in a buffer, so that they are written to a sink together.
 ghost use Rattle.std.specs.Prelude.{◌≡◌, IsFalse, ◌+◌, ◌*◌, ◌≤◌, ◌++◌, ◌∷◌, ◌<◌, [], length, map, replicate, take, decimal};
 ghost use Rattle.trace.specs.Text.{further, place};
 ghost use Rattle.trace.specs.Lines.{repeated};
@@ -6,12 +6,12 @@ ghost use Rattle.trace.specs.Lines.{repeated};
 use itoa::write_digits;
 use std::marker::Model;
 
-/// A buffer of lines, which holds at most 1,024 bytes. The line of a label's row takes at most 158 of them: its rank
-/// and each of its at most 13 orders take at most 11.
+/// A buffer of at most 1,024 bytes for the lines of an outbox. The line for one label takes at most 158 bytes: its rank
+/// and each of its at most 13 orders take at most 11 bytes.
 #[derive(Drop)]
 pub struct LineBuffer {
     bytes: [u8; 1024],
-    /// The number of bytes that are used.
+    /// The number of bytes in use.
     count: usize,
 }
 
@@ -43,7 +43,7 @@ impl LineBuffer {
         self.count = 0;
     }
 
-    /// Appends the bytes of a piece.
+    /// Appends a piece of text, for which there must be room.
     pub fn add(&mut self, piece: &[u8])
         requires { length self.old + length piece.now ≤ 1024 }
         ensures { self.new ≡ self.old ++ piece.now }
@@ -51,7 +51,7 @@ impl LineBuffer {
         self.count = with_piece(&mut self.bytes, self.count, piece);
     }
 
-    /// Appends a space and a number in decimal.
+    /// Appends a space and a number in decimal. There must be room for 11 bytes.
     pub fn add_number(&mut self, number: u32)
         requires { length self.old + 11 ≤ 1024 }
         ensures added { self.new ≡ self.old ++ 32 ∷ decimal number }
@@ -61,7 +61,7 @@ impl LineBuffer {
     }
 
     /// Appends the orders that were sent to the receivers of a label, each after a space. A dash means that none was
-    /// sent.
+    /// sent to this receiver. There must be room for 11 bytes for each.
     pub fn add_orders(&mut self, orders: &[Option<u32>])
         requires { length self.old + 11 * length orders.now ≤ 1024 }
         ensures added { self.new ≡ self.old ++ further (map place orders.now) }
@@ -74,8 +74,8 @@ impl LineBuffer {
         self.count = count;
     }
 
-    /// Appends the order that was sent to each of `times` receivers alike, `times` times and each time after a space. A
-    /// dash means that none was sent.
+    /// Appends a space and the order, `times` times, for a label of which each receiver was sent the same. A dash means
+    /// that none was sent. There must be room for 11 bytes each time.
     pub fn add_alike(&mut self, order: Option<u32>, times: u32)
         requires { length self.old + 11 * times ≤ 1024 }
         ensures added { self.new ≡ self.old ++ further (map place (replicate times order)) }
@@ -84,14 +84,14 @@ impl LineBuffer {
         self.count = with_alike(&mut self.bytes, self.count, order, times);
     }
 
-    /// Returns whether the buffer may lack room for another row's line.
+    /// Returns whether fewer than 158 bytes are free. Otherwise there is room for another label's line.
     pub fn is_full(&self) -> bool
         ensures { IsFalse result → length self.now + 158 ≤ 1024 }
     {
         self.count > 1024 - 158
     }
 
-    /// Returns the bytes that the buffer holds.
+    /// Returns the bytes in the buffer.
     pub fn as_slice(&self) -> &[u8]
         ensures { result.now ≡ self.now }
     {
@@ -99,7 +99,7 @@ impl LineBuffer {
     }
 }
 
-/// Writes a piece after the first `count` bytes, and returns the new count.
+/// Writes a piece of text after the first `count` bytes, and returns the new number of bytes.
 fn with_piece(bytes: &mut [u8], count: usize, piece: &[u8]) -> usize
     requires { count + length piece.now ≤ length bytes.old }
     ensures count { result ≡ count + length piece.now }
@@ -110,7 +110,7 @@ fn with_piece(bytes: &mut [u8], count: usize, piece: &[u8]) -> usize
     end
 }
 
-/// Writes a space and a sign after the first `count` bytes, and returns the new count.
+/// Writes a space and the character `sign` after the first `count` bytes, and returns the new number of bytes.
 fn with_sign(bytes: &mut [u8], count: usize, sign: u8) -> usize
     requires { count + 2 ≤ length bytes.old }
     ensures count { result ≡ count + 2 }
@@ -121,7 +121,8 @@ fn with_sign(bytes: &mut [u8], count: usize, sign: u8) -> usize
     count + 2
 }
 
-/// Writes a space and a sign `times` times after the first `count` bytes, and returns the new count.
+/// Writes a space and the character `sign`, `times` times, after the first `count` bytes. Returns the new number of
+/// bytes.
 fn with_signs(bytes: &mut [u8], count: usize, sign: u8, times: u32) -> usize
     requires { count + 11 * times ≤ length bytes.old }
     ensures count { result ≤ count + 11 * times }
@@ -134,7 +135,7 @@ fn with_signs(bytes: &mut [u8], count: usize, sign: u8, times: u32) -> usize
     end
 }
 
-/// Writes a piece of at most 11 bytes `times` times after the first `count` bytes, and returns the new count.
+/// Writes a piece of at most 11 bytes, `times` times, after the first `count` bytes. Returns the new number of bytes.
 fn with_copies(bytes: &mut [u8], count: usize, piece: &[u8], times: u32) -> usize
     requires room { count + 11 * times ≤ length bytes.old }
     requires short { length piece.now ≤ 11 }
@@ -148,7 +149,8 @@ fn with_copies(bytes: &mut [u8], count: usize, piece: &[u8], times: u32) -> usiz
     end
 }
 
-/// Writes a space and a number `times` times after the first `count` bytes, and returns the new count.
+/// Writes a space and a number in decimal, `times` times, after the first `count` bytes. Returns the new number of
+/// bytes.
 fn with_digits(bytes: &mut [u8], count: usize, number: u32, times: u32) -> usize
     requires { count + 11 * times ≤ length bytes.old }
     ensures count { result ≤ count + 11 * times }
@@ -160,7 +162,7 @@ fn with_digits(bytes: &mut [u8], count: usize, number: u32, times: u32) -> usize
     with_copies(bytes, count, &digits[start - 1..], times)
 }
 
-/// Writes a digit after the first `count` bytes, and returns the new count.
+/// Writes a digit (0 to 9) after the first `count` bytes, and returns `count` + 1.
 fn with_digit(bytes: &mut [u8], count: usize, digit: u32) -> usize
     requires room { count < length bytes.old }
     requires digit { digit < 10 }
@@ -171,7 +173,7 @@ fn with_digit(bytes: &mut [u8], count: usize, digit: u32) -> usize
     count + 1
 }
 
-/// Writes a space and a number of one or two digits after the first `count` bytes, and returns the new count.
+/// Writes a space and a number (0 to 99) in decimal after the first `count` bytes. Returns the new number of bytes.
 fn with_two(bytes: &mut [u8], count: usize, number: u32) -> usize
     requires room { count + 3 ≤ length bytes.old }
     requires number { number < 100 }
@@ -186,7 +188,7 @@ fn with_two(bytes: &mut [u8], count: usize, number: u32) -> usize
     }
 }
 
-/// Writes a space and a number after the first `count` bytes, and returns the new count.
+/// Writes a space and a number in decimal after the first `count` bytes. Returns the new number of bytes.
 fn with_number(bytes: &mut [u8], count: usize, number: u32) -> usize
     requires { count + 11 ≤ length bytes.old }
     ensures count { result ≤ count + 11 }
@@ -202,7 +204,7 @@ fn with_number(bytes: &mut [u8], count: usize, number: u32) -> usize
     }
 }
 
-/// Writes a space and an order, or a dash for no order, after the first `count` bytes, and returns the new count.
+/// Writes a space and an order, or a dash for no order, after the first `count` bytes. Returns the new number of bytes.
 fn with_place(bytes: &mut [u8], count: usize, order: Option<u32>) -> usize
     requires { count + 11 ≤ length bytes.old }
     ensures count { result ≤ count + 11 }
@@ -214,8 +216,8 @@ fn with_place(bytes: &mut [u8], count: usize, order: Option<u32>) -> usize
     }
 }
 
-/// Writes a space and an order, or a dash for no order, `times` times after the first `count` bytes. Returns the new
-/// count.
+/// Writes a space and an order, or a dash for no order, `times` times, after the first `count` bytes. Returns the new
+/// number of bytes.
 fn with_alike(bytes: &mut [u8], count: usize, order: Option<u32>, times: u32) -> usize
     requires { count + 11 * times ≤ length bytes.old }
     ensures count { result ≤ count + 11 * times }

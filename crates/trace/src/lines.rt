@@ -13,7 +13,7 @@ use outbox::{Outbox, ReceiverOrders};
 use semantics::{Reply, Request};
 use world::Verdict;
 
-/// Writes the numbers, each after a space.
+/// Writes each number in decimal with a space before it.
 fn put_numbers<S: Sink>(sink: &mut S, numbers: &[u64])
     ensures { Wrote (S.contents sink.old) (S.has_failed sink.old) (further (map decimal numbers.now))
         (S.contents sink.new) (S.has_failed sink.new) }
@@ -23,7 +23,7 @@ fn put_numbers<S: Sink>(sink: &mut S, numbers: &[u64])
     }
 }
 
-/// Writes a word and numbers, each after a space.
+/// Writes a word and then numbers in decimal, each with a space before it.
 fn put_words<S: Sink>(sink: &mut S, word: &[u8], numbers: &[u64])
     ensures { Wrote (S.contents sink.old) (S.has_failed sink.old) (further (word.now ∷ map decimal numbers.now))
         (S.contents sink.new) (S.has_failed sink.new) }
@@ -33,7 +33,7 @@ fn put_words<S: Sink>(sink: &mut S, word: &[u8], numbers: &[u64])
     put_numbers(sink, numbers);
 }
 
-/// Writes a request: its word and its numbers, each after a space.
+/// Writes a request: its word and its numbers, each with a space before it.
 fn put_question<S: Sink>(sink: &mut S, request: &Request)
     ensures { Wrote (S.contents sink.old) (S.has_failed sink.old) (further (question request.now)) (S.contents sink.new)
         (S.has_failed sink.new) }
@@ -42,7 +42,7 @@ fn put_question<S: Sink>(sink: &mut S, request: &Request)
     put_words(sink, worded(request).word.as_bytes(), &numbers[..count]);
 }
 
-/// Writes the words of a reply, each after a space.
+/// Writes the words of the board's reply in decimal, each with a space before it.
 fn put_reply<S: Sink>(sink: &mut S, reply: &Reply)
     ensures { Wrote (S.contents sink.old) (S.has_failed sink.old) (further (map decimal (words_in reply.now)))
         (S.contents sink.new) (S.has_failed sink.new) }
@@ -53,7 +53,7 @@ fn put_reply<S: Sink>(sink: &mut S, reply: &Reply)
     }
 }
 
-/// Writes the line of an access: its general, the request and the reply.
+/// Writes the line of an access: its general, his request and the board's reply.
 pub fn put_access<S: Sink>(sink: &mut S, access: &Access)
     ensures { Wrote (S.contents sink.old) (S.has_failed sink.old) (text (access_line access.now ∷ []))
         (S.contents sink.new) (S.has_failed sink.new) }
@@ -76,7 +76,7 @@ fn put_access_in<S: Sink>(sink: &mut S, round: u64, access: &Access)
     }
 }
 
-/// Writes the lines of the accesses that were made in this round, in their order.
+/// Writes a line for each access that was made in this round, in order.
 pub fn put_accesses<S: Sink>(sink: &mut S, round: u64, accesses: &[Access])
     ensures { Wrote (S.contents sink.old) (S.has_failed sink.old)
         (text (map access_line (filter (λ a. a.round == round) accesses.now))) (S.contents sink.new)
@@ -87,7 +87,7 @@ pub fn put_accesses<S: Sink>(sink: &mut S, round: u64, accesses: &[Access])
     }
 }
 
-/// Writes the line that begins a round.
+/// Writes the line that begins a round, such as `round 1`.
 pub fn put_round<S: Sink>(sink: &mut S, round: u64)
     ensures { Wrote (S.contents sink.old) (S.has_failed sink.old) (text (round_line round ∷ [])) (S.contents sink.new)
         (S.has_failed sink.new) }
@@ -108,7 +108,7 @@ pub fn put_order<S: Sink>(sink: &mut S, order: Option<u32>)
 }
 
 /// Appends the orders that were sent to the receivers of the label of this rank, each after a space. A dash means that
-/// none was sent. There are at most 13 receivers and 11 bytes for each, so at most 143 bytes.
+/// none was sent. At most 143 bytes are appended: 11 for each of at most 13 receivers.
 fn add_orders(line: &mut LineBuffer, outbox: &Outbox, rank: u32)
     requires rank { rank < length outbox.now.rows }
     requires room { length line.old + 143 ≤ 1024 }
@@ -121,7 +121,8 @@ fn add_orders(line: &mut LineBuffer, outbox: &Outbox, rank: u32)
     }
 }
 
-/// Appends the line of a label's row: its rank, and the orders that were sent to its receivers.
+/// Appends the line for the label of this rank: its rank, and the orders that were sent to its receivers. A line is at
+/// most 158 bytes.
 fn add_row(lines: &mut LineBuffer, outbox: &Outbox, rank: u32)
     requires rank { rank < length outbox.now.rows }
     requires room { length lines.old + 158 ≤ 1024 }
@@ -133,7 +134,8 @@ fn add_row(lines: &mut LineBuffer, outbox: &Outbox, rank: u32)
     lines.add(b"\n");
 }
 
-/// Writes the buffered lines and empties the buffer, if it may lack room for another row's line.
+/// If fewer than 158 bytes of the buffer are free, which a line may need, writes the buffered lines and empties the
+/// buffer.
 fn put_full<S: Sink>(sink: &mut S, lines: &mut LineBuffer)
     ensures put { WroteBut (S.contents sink.old) (S.has_failed sink.old) lines.old (S.contents sink.new)
         (S.has_failed sink.new) lines.new }
@@ -145,8 +147,8 @@ fn put_full<S: Sink>(sink: &mut S, lines: &mut LineBuffer)
     }
 }
 
-/// Appends the line of a label's row to the buffered lines, and writes them if the buffer may lack room for another
-/// row. Lines that are not written yet stay in the buffer.
+/// Appends the line for the label of this rank to the buffer: its rank, and the orders that were sent to its receivers.
+/// If fewer than 158 bytes are then free, writes all buffered lines and empties the buffer.
 pub fn put_row<S: Sink>(sink: &mut S, lines: &mut LineBuffer, outbox: &Outbox, rank: u32)
     requires rank { rank < length outbox.now.rows }
     requires room { length lines.old + 158 ≤ 1024 }
@@ -159,8 +161,8 @@ pub fn put_row<S: Sink>(sink: &mut S, lines: &mut LineBuffer, outbox: &Outbox, r
     put_full(sink, lines);
 }
 
-/// Writes the first line of a letter. A traitor's letter has the number of steps that his program took, and a loyal
-/// general's has none.
+/// Writes the first line of a letter, such as `letter 2 steps 14` for a traitor, whose program took 14 steps, or
+/// `letter 1 loyal` for a loyal general. `steps` is `None` if he is loyal.
 pub fn put_author<S: Sink>(sink: &mut S, general: u32, steps: Option<u32>)
     ensures { Wrote (S.contents sink.old) (S.has_failed sink.old) (text (author_line general steps ∷ []))
         (S.contents sink.new) (S.has_failed sink.new) }
@@ -175,7 +177,7 @@ pub fn put_author<S: Sink>(sink: &mut S, general: u32, steps: Option<u32>)
     }
 }
 
-/// Writes the word that marks a traitor's decision, or nothing for a loyal lieutenant.
+/// Writes the word ` traitor` if the lieutenant is a traitor, and nothing otherwise.
 fn put_mark<S: Sink>(sink: &mut S, is_traitor: bool)
     ensures { Wrote (S.contents sink.old) (S.has_failed sink.old) (further (mark is_traitor)) (S.contents sink.new)
         (S.has_failed sink.new) }
@@ -185,7 +187,7 @@ fn put_mark<S: Sink>(sink: &mut S, is_traitor: bool)
     }
 }
 
-/// Writes the line of a lieutenant's decision.
+/// Writes the line of a lieutenant's decision, such as `decision 1 0` or `decision 2 traitor 1`.
 pub fn put_decision<S: Sink>(sink: &mut S, general: u32, is_traitor: bool, decision: u32)
     ensures { Wrote (S.contents sink.old) (S.has_failed sink.old)
         (text (decision_line general is_traitor decision ∷ [])) (S.contents sink.new) (S.has_failed sink.new) }
@@ -208,7 +210,7 @@ fn put_yes_no<S: Sink>(sink: &mut S, is_so: bool)
     }
 }
 
-/// Writes a space and `yes`, `no` or a dash.
+/// Writes a space, and `yes`, `no` or a dash for `None`.
 fn put_yes_no_none<S: Sink>(sink: &mut S, is_so: Option<bool>)
     ensures { Wrote (S.contents sink.old) (S.has_failed sink.old) (32 ∷ yes_no_none is_so) (S.contents sink.new)
         (S.has_failed sink.new) }
@@ -219,7 +221,7 @@ fn put_yes_no_none<S: Sink>(sink: &mut S, is_so: Option<bool>)
     }
 }
 
-/// Writes the line of the verdict.
+/// Writes the line of the verdict, such as `verdict alike yes obeyed - bound yes`.
 pub fn put_verdict<S: Sink>(sink: &mut S, verdict: Verdict)
     ensures { Wrote (S.contents sink.old) (S.has_failed sink.old) (text (verdict_line verdict ∷ []))
         (S.contents sink.new) (S.has_failed sink.new) }

@@ -17,7 +17,7 @@ fn feeds(text: &[u8]) -> usize
     count
 }
 
-/// Returns the number of the line, counted from 1, that contains a byte offset of the text.
+/// Returns the number of the line, counted from 1, that contains the byte at offset `place`.
 fn line_at(text: &[u8], place: usize) -> u64
     requires { place ≤ length text.now }
     ensures { result ≡ line_at text.now place }
@@ -25,7 +25,8 @@ fn line_at(text: &[u8], place: usize) -> u64
     feeds(&text[..place]) as u64 + 1
 }
 
-/// Returns the fault of a line that differs: `Scenario` in the first two lines, `Differs` after them.
+/// Returns the fault to report if this line, counted from 1, is not as expected: `Scenario` for lines 1 and 2,
+/// `Differs` for later lines.
 fn differing(line: u64) -> TraceFault
     ensures { result ≡ differing line }
 {
@@ -36,8 +37,8 @@ fn differing(line: u64) -> TraceFault
     }
 }
 
-/// Returns the error for a text that differs from the expected chronicle at the byte offset `place`. If a line has no
-/// valid shape, the first such line is reported instead of the difference.
+/// Returns why an audit rejects a text that differs from the expected chronicle at byte offset `place`. If some line is
+/// not a valid line of any chronicle, the first such line is reported instead of the difference.
 #[tactic(auto, unfolding(crate::specs::Audit::fault_at))]
 pub fn refusal(text: &[u8], place: usize) -> TraceError
     requires { place ≤ length text.now }

@@ -1,4 +1,4 @@
-//! Computes the text that a campaign should have in place of one that is not sound.
+//! Computes the sound text of a campaign from a text that is not sound.
 ghost use Rattle.std.specs.Prelude.{◌≡◌, IfOk, OnOk};
 ghost use Rattle.std.specs.Io.KnownBytes.{Appends};
 ghost use Rattle.trace.specs.Again.{text_again, told_again, signed_told_again};
@@ -15,7 +15,7 @@ use signed::SignedChronicle;
 use std::alloc::{AllocError, Global};
 use world::Chronicle;
 
-/// Returns the text of a chronicle in the given version, or in the version of its campaign if none is given.
+/// Returns the text of a chronicle in this version, or, if `version` is `None`, in the version that its campaign needs.
 ///
 /// # Errors
 ///
@@ -38,9 +38,9 @@ fn text_again(
     }
 }
 
-/// Replays the campaign with the accesses in the order in which the text lists them, and returns the text of that
-/// replay's chronicle. The version is the one that the text names, or the campaign's if the text names no version that
-/// the scenario's rule admits.
+/// Replays the campaign with the accesses in the order in which `text` lists them, and returns the text of that
+/// replay's chronicle. It is in the version that `text` names, or in the version that the campaign needs if `text`
+/// names none in which the campaign may be written.
 ///
 /// # Errors
 ///

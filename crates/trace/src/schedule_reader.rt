@@ -11,13 +11,13 @@ use world::{Repeat, Schedule, ScheduleLine};
 
 const STAR: Stop = Stop::Byte(b'*');
 
-/// The greatest length of a schedule, in bytes.
+/// The greatest length of a schedule's text: 1 MiB.
 pub const MOST_SCHEDULE_BYTES: usize = 1_048_576;
 
-/// The greatest number of lines of a schedule, which has a line for each round.
+/// The greatest number of lines in a schedule, which has one line for each round.
 const MOST_LINES: u64 = 5;
 
-/// Returns the number that a text spells in decimal, if it is from `least` to `most`.
+/// Returns the number that `part` spells in decimal, or `None` if it is not a number from `least` to `most`.
 #[tactic(auto, unfolding(crate::specs::Schedules::number_within))]
 pub(crate) fn number_within(least: u16, most: u16, part: &[u8]) -> Option<u16>
     ensures value { result ≡ number_within least most part.now }
@@ -31,7 +31,8 @@ pub(crate) fn number_within(least: u16, most: u16, part: &[u8]) -> Option<u16>
     }
 }
 
-/// Parses an entry of a schedule, `G` or `G*K`: general G (0 to 12), K times (1 to 4096) or once.
+/// Parses an entry of a schedule, `G` or `G*K`: general G (0 to 12), K times (1 to 4096) or once. Returns `None` if
+/// `part` is neither.
 #[tactic(auto, using(crate::proofs::EntryLemmas::entry_too_long))]
 fn entry(part: &[u8]) -> Option<Repeat>
     ensures { result ≡ entry_of (pieces star part.now) }
@@ -49,8 +50,8 @@ fn entry(part: &[u8]) -> Option<Repeat>
     Some(Repeat { general, times })
 }
 
-/// Parses the entries of a line, which a space separates. Returns `None` if a part of the line is not an entry. An
-/// empty line has no entries.
+/// Parses a line of a schedule, which is a list of entries `G` or `G*K` separated by single spaces. An empty line has
+/// no entries. Returns `None` if the line is not such a list.
 ///
 /// # Errors
 ///
@@ -74,12 +75,13 @@ fn entries(alloc: Global, line: &[u8]) -> Result<Option<ScheduleLine>, AllocErro
     Ok(Some(ScheduleLine { repeats }))
 }
 
-/// Reads a schedule from its text.
+/// Reads a schedule from its text, which has one line for each round. A line is a list of entries `G` or `G*K`,
+/// separated by spaces.
 ///
 /// # Errors
 ///
-/// `At` with `Line` and the first line that is not a list of entries, or that is the sixth line. A text of more than
-/// 1,048,576 bytes has this fault in line 1. `Memory` if an allocation fails.
+/// `At` with `Line` and the first line that is not a list of entries, or line 6 if there is one. `At` with `Line` and
+/// line 1 if the text has more than 1,048,576 bytes. `Memory` if an allocation fails.
 #[tactic(auto, unfolding(crate::specs::Schedules::schedule_told))]
 pub fn read_schedule(alloc: Global, text: &str) -> Result<Schedule, TraceError>
     ensures told { IfOk result (λ s. schedule_told text.now ≡ Ok s) }

@@ -1,5 +1,5 @@
-//! Checks the shapes of a chronicle's lines. A shape is the words of a line, where a capital letter matches any word of
-//! one kind.
+//! Checks the form of a chronicle's lines. A *shape* is a pattern for a line: capital letters match any word of some
+//! kind, such as `N` a number, and other words match themselves.
 ghost use Rattle.std.specs.Prelude.{◌≡◌, ◌&&◌, ◌==◌, Some, option_map, codes, length, map};
 ghost use Rattle.std.specs.List.{list_all, list_any};
 ghost use Rattle.text.specs.Stop.{dot, space, feed};
@@ -12,7 +12,7 @@ use board::{Wording, wordings};
 use combine::Rule;
 use text::{DOT, FEED, SPACE, decimal, piece};
 
-/// Returns whether a word is a number, or a dash for nothing.
+/// Returns whether a word is a number, or a dash, which means nothing was sent or given.
 fn is_place(word: &[u8]) -> bool
     ensures { result ≡ is_place word.now }
 {
@@ -26,7 +26,7 @@ fn is_yes_no(word: &[u8]) -> bool
     word == b"yes".as_slice() || word == b"no".as_slice()
 }
 
-/// Returns whether a word is one or more numbers joined by dots.
+/// Returns whether a word is one or more numbers joined by dots, such as `0.2.5`.
 fn are_joined(word: &[u8]) -> bool
     ensures { result ≡ are_joined word.now }
 {
@@ -41,16 +41,16 @@ fn are_joined(word: &[u8]) -> bool
     true
 }
 
-/// Returns whether a word is numbers joined by dots, or a dash for no receivers.
+/// Returns whether a word is a list of receivers: numbers joined by dots, such as `2.5`, or a dash for none.
 fn are_receivers(word: &[u8]) -> bool
     ensures { result ≡ are_receivers word.now }
 {
     word == b"-".as_slice() || are_joined(word)
 }
 
-/// Returns whether a word matches a word of a shape. `N` matches a number, and `P` a number or a dash. `A` matches
-/// `yes` or `no`, and `B` these or a dash. `S` matches numbers joined by dots, and `R` these or a dash. `C` matches the
-/// name of a rule. Any other word matches itself only.
+/// Returns whether `word` matches `kind`, a word of a shape. `N` matches a number, and `P` a number or a dash. `A`
+/// matches `yes` or `no`, and `B` also a dash. `S` matches numbers joined by dots, and `R` also a dash. `C` matches the
+/// name of a rule. Any other word matches only itself.
 #[tactic(auto, unfolding(crate::specs::Shapes::stands_for))]
 fn stands_for(kind: &[u8], word: &[u8]) -> bool
     ensures { result ≡ stands_for kind.now word.now }
@@ -74,8 +74,9 @@ fn stands_for(kind: &[u8], word: &[u8]) -> bool
     }
 }
 
-/// Returns what is left of a line after the words of a shape, or `None` if the line does not begin with them. The inner
-/// value is `None` if no word is left.
+/// Returns the words of `line` after the words that match `shape`, such as `1 -` for the shape `row N` and the line
+/// `row 3 1 -`. Returns `None` if the line does not begin with words that match, and `Some(None)` if no words follow
+/// them.
 #[tactic(auto, unfolding(crate::specs::Shapes::behind_shape))]
 fn behind<'a>(shape: &[u8], line: &'a [u8]) -> Option<Option<&'a [u8]>>
     ensures { option_map (left space) result ≡ behind_shape shape.now (pieces space line.now) }
@@ -94,7 +95,7 @@ fn behind<'a>(shape: &[u8], line: &'a [u8]) -> Option<Option<&'a [u8]>>
     Some(words)
 }
 
-/// Returns whether a line has the words of a shape and no others.
+/// Returns whether the words of `line` match the words of `shape`, one to one.
 #[tactic(auto, using(crate::proofs::ShapeLemmas::more_left), unfolding(crate::specs::Shapes::fits))]
 fn fits(shape: &[u8], line: &[u8]) -> bool
     ensures { result ≡ fits shape.now (pieces space line.now) }
@@ -105,7 +106,7 @@ fn fits(shape: &[u8], line: &[u8]) -> bool
     }
 }
 
-/// Returns whether a line is the one that names a version.
+/// Returns whether a line names a version, such as `chronicle 1`.
 #[tactic(auto, unfolding(crate::specs::Shapes::is_version))]
 fn is_version(line: &[u8]) -> bool
     ensures { result ≡ is_version (pieces space line.now) }
@@ -113,7 +114,7 @@ fn is_version(line: &[u8]) -> bool
     fits(b"chronicle 1", line) || fits(b"chronicle 2", line) || fits(b"chronicle 3", line)
 }
 
-/// Returns whether a line is the one that describes a campaign, in any version.
+/// Returns whether a line describes a campaign, in the form of any version. This is the second line of a chronicle.
 #[tactic(auto, unfolding(crate::specs::Shapes::is_campaign))]
 fn is_campaign(line: &[u8]) -> bool
     ensures { result ≡ is_campaign (pieces space line.now) }
@@ -129,7 +130,7 @@ fn is_campaign(line: &[u8]) -> bool
         )
 }
 
-/// Returns whether each of these words is a number or a dash.
+/// Returns whether each word of `words`, which are separated by spaces, is a number or a dash.
 fn are_places(words: &[u8]) -> bool
     ensures { result ≡ list_all is_place (pieces space words.now) }
 {
@@ -144,7 +145,8 @@ fn are_places(words: &[u8]) -> bool
     true
 }
 
-/// Returns whether a line is a label's row, which has a number or a dash for each receiver and at least one receiver.
+/// Returns whether a line has the orders sent for one label: `row N`, then a number or a dash for each of one or more
+/// receivers.
 #[tactic(auto, using(crate::proofs::ShapeLemmas::no_places, crate::proofs::ShapeLemmas::some_places))]
 fn is_row(line: &[u8]) -> bool
     ensures { result ≡ are_places (behind_shape (codes "row N") (pieces space line.now)) }
@@ -155,7 +157,8 @@ fn is_row(line: &[u8]) -> bool
     }
 }
 
-/// Returns whether a line begins a round, or is part of a letter: its first line, a signed chain or a label's row.
+/// Returns whether a line begins a round or belongs to a letter: its first line, a signed chain, or the orders sent for
+/// a label.
 #[tactic(auto, unfolding(crate::specs::Shapes::is_told))]
 fn is_told(line: &[u8]) -> bool
     ensures { result ≡ is_told (pieces space line.now) }
@@ -167,7 +170,7 @@ fn is_told(line: &[u8]) -> bool
         || is_row(line)
 }
 
-/// Returns whether exactly `count` words are left, and all of them are numbers.
+/// Returns whether `words` is exactly `count` numbers, separated by spaces.
 fn is_count(count: u128, words: Option<&[u8]>) -> bool
     ensures { result ≡ is_count (Some count) (left space words.entry) }
 {
@@ -184,7 +187,8 @@ fn is_count(count: u128, words: Option<&[u8]>) -> bool
     count == met
 }
 
-/// Returns whether the rest of a line is the number of copied words, an equals sign and that many numbers.
+/// Returns whether `words` is the end of an access that copies words from the board: their number, an equals sign and
+/// that many numbers, such as `2 = 7 0`.
 fn is_copied(words: Option<&[u8]>) -> bool
     ensures { result ≡ is_copied (Some (left space words.entry)) }
 {
@@ -204,8 +208,8 @@ fn is_copied(words: Option<&[u8]>) -> bool
     }
 }
 
-/// Returns whether a line has the words of a shape, and after them the number of copied words, an equals sign and that
-/// many numbers.
+/// Returns whether a line matches `shape` and then has the end of an access that copies words from the board, such as
+/// `2 = 7 0`.
 fn is_copy(shape: &[u8], line: &[u8]) -> bool
     ensures { result ≡ is_copied (behind_shape shape.now (pieces space line.now)) }
 {
@@ -215,7 +219,7 @@ fn is_copy(shape: &[u8], line: &[u8]) -> bool
     }
 }
 
-/// Returns whether a line is an access with a request of this wording.
+/// Returns whether a line records an access whose request is worded in this way.
 fn is_worded(wording: &Wording, line: &[u8]) -> bool
     ensures { result ≡ is_worded (row_of wording.now) (pieces space line.now) }
 {
@@ -227,7 +231,7 @@ fn is_worded(wording: &Wording, line: &[u8]) -> bool
     }
 }
 
-/// Returns whether a line is an access with a request of one of these wordings.
+/// Returns whether a line records an access whose request is worded in one of these ways.
 fn is_any(wordings: &[Wording], line: &[u8]) -> bool
     ensures { result ≡ list_any (λ r. is_worded r (pieces space line.now)) (map row_of wordings.now) }
 {
@@ -239,7 +243,7 @@ fn is_any(wordings: &[Wording], line: &[u8]) -> bool
     false
 }
 
-/// Returns whether a line is an access with any request that the board knows.
+/// Returns whether a line records an access with any of the board's requests.
 #[tactic(auto, unfolding(crate::specs::Shapes::is_access))]
 fn is_access(line: &[u8]) -> bool
     ensures { result ≡ is_access (pieces space line.now) }
@@ -247,7 +251,7 @@ fn is_access(line: &[u8]) -> bool
     is_any(wordings(), line)
 }
 
-/// Returns whether a line is a decision or the verdict.
+/// Returns whether a line is a lieutenant's decision or the campaign's verdict.
 #[tactic(auto, unfolding(crate::specs::Shapes::is_end))]
 fn is_end(line: &[u8]) -> bool
     ensures { result ≡ is_end (pieces space line.now) }
@@ -257,7 +261,7 @@ fn is_end(line: &[u8]) -> bool
         || fits(b"verdict alike A obeyed B bound A", line)
 }
 
-/// Returns whether a line has one of the shapes that a chronicle's lines have.
+/// Returns whether a line has the form of some line of a chronicle. Its place among the other lines is not checked.
 #[tactic(auto, unfolding(crate::specs::Shapes::is_shaped))]
 fn is_shaped(line: &[u8]) -> bool
     ensures { result ≡ is_shaped line.now }
@@ -265,8 +269,8 @@ fn is_shaped(line: &[u8]) -> bool
     is_version(line) || is_campaign(line) || is_told(line) || is_access(line) || is_end(line)
 }
 
-/// Returns the number of the first line, counted from 1, that has no valid shape or no LF after it. Returns `None` if
-/// there is no such line. In an empty text, the first line is such a line.
+/// Returns the number, counted from 1, of the first line that does not have the form of a chronicle's line or does not
+/// end with an LF. Returns `None` if there is no such line. For an empty text it returns 1.
 #[tactic(auto, using(crate::proofs::ShapeLemmas::shaped_line, crate::proofs::ShapeLemmas::unshaped_line))]
 pub fn unshaped(text: &[u8]) -> Option<u64>
     ensures { result ≡ unshaped_from 1 (pieces feed text.now) }

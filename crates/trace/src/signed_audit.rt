@@ -1,4 +1,5 @@
-//! Audits a signed chronicle's text: replays its accesses, and compares the text with the chronicle of that replay.
+//! Audits the text of a signed chronicle: replays its accesses, and compares the text with the chronicle of that
+//! replay.
 ghost use Rattle.std.specs.Prelude.{◌≡◌, ◌≢◌, IfOk, IfErr, IfSome, IfNone, false};
 ghost use Rattle.trace.specs.declared.fault.TraceError.TheVariants.{Memory};
 ghost use Rattle.trace.specs.Audit.{IsFirstDifference};
@@ -16,7 +17,7 @@ use std::alloc::{AllocError, Global};
 use text::{FEED, piece};
 use world::Verdict;
 
-/// Returns whether the first line of a text names version 3, that of signed campaigns.
+/// Returns whether the first line of a text is `chronicle 3`, the version of signed campaigns.
 #[tactic(auto, unfolding(crate::specs::SignedAudit::is_third_version))]
 fn is_third_version(text: &[u8]) -> bool
     ensures { result ≡ is_third_version text.now }
@@ -26,7 +27,7 @@ fn is_third_version(text: &[u8]) -> bool
 }
 
 /// Replays the signed campaign with the accesses in the order in which the text lists them, and returns the chronicle
-/// of that replay.
+/// of this replay.
 ///
 /// # Errors
 ///
@@ -38,14 +39,14 @@ pub(crate) fn signed_replayed(
 ) -> Result<SignedChronicle, AllocError>
     ensures { IfOk result (λ chronicle. chronicle ≡ signed_chronicle_told scenario.now text.now) }
 {
-    // One list is for the accesses before the first round line, and one for each of the campaign's rounds.
+    // `names` returns a list for the lines before the first round, and then a list for each of the campaign's rounds.
     let most = scenario.bound() as usize + 2;
     let lists = names(alloc, text, most)?;
     replay_signed(alloc, scenario.copy(alloc)?, &lists[1..])
 }
 
-/// Returns the byte offset at which a text first differs from a signed chronicle's text, or `None` if the two are the
-/// same.
+/// Returns the byte offset at which `text` first differs from the signed chronicle's text, or `None` if the two are
+/// equal.
 fn signed_difference(text: &[u8], chronicle: &SignedChronicle) -> Option<usize>
     ensures same { IfNone result (text.now ≡ signed_text chronicle.now) }
     ensures differs { IfSome result (IsFirstDifference text.now (signed_text chronicle.now)) }
@@ -57,15 +58,14 @@ fn signed_difference(text: &[u8], chronicle: &SignedChronicle) -> Option<usize>
 
 /// Audits the text of a signed campaign's chronicle, and returns the verdict of the campaign.
 ///
-/// The accesses are replayed in the order in which the text lists them, and the chronicle of that replay is compared
-/// with the text.
+/// It replays the accesses in the order in which the text lists them, and compares the text with the chronicle of this
+/// replay.
 ///
 /// # Errors
 ///
-/// `At` with `Line` and the first line that has no valid shape or no LF. If there is no such line, `At` with the first
-/// line that differs and `Scenario` (in the first two lines) or `Differs` (after them). If the first line names another
-/// version, it is the line that differs. `Memory` if an allocation fails, which cannot happen if the text names another
-/// version.
+/// `At` with `Line` and the first line that is not a valid line of a chronicle or has no LF. Otherwise `At` with the
+/// first line that differs and `Scenario` (lines 1 and 2) or `Differs` (later lines). If the first line is not
+/// `chronicle 3`, line 1 is the one that differs, and nothing is allocated. `Memory` if an allocation fails.
 pub fn check_signed(alloc: Global, scenario: &Scenario, text: &str) -> Result<Verdict, TraceError>
     ensures sound { IfOk result (λ v. IsSoundSignedText scenario.now text.now) }
     ensures verdict { IfOk result (λ v. v ≡ (signed_chronicle_told scenario.now text.now).verdict) }
@@ -81,7 +81,7 @@ pub fn check_signed(alloc: Global, scenario: &Scenario, text: &str) -> Result<Ve
 ///
 /// # Errors
 ///
-/// The errors are those of `check_signed`.
+/// `At` with the first faulty line and its fault, as in `check_signed`. `Memory` if an allocation fails.
 pub fn sound_signed_chronicle(
     alloc: Global,
     scenario: &Scenario,

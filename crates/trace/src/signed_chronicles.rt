@@ -1,4 +1,4 @@
-//! Writes whole chronicles of signed campaigns to a sink.
+//! Writes the chronicles of signed campaigns to a sink.
 ghost use Rattle.std.specs.Prelude.{◌≡◌, IfErr, OnOk, is_err};
 ghost use Rattle.std.specs.Io.KnownBytes.{Appends};
 ghost use Rattle.trace.specs.declared.fault.TraceError.TheVariants.{Write as unwritten};
@@ -16,7 +16,8 @@ use crate::writer::put_all;
 use round::Scenario;
 use signed::SignedChronicle;
 
-/// Writes the first two lines of a signed campaign's chronicle: the version and the campaign.
+/// Writes the first two lines of a signed campaign's chronicle. The first names version 3, and the second describes the
+/// campaign.
 fn put_signed_head<S: Sink>(sink: &mut S, scenario: &Scenario)
     ensures { Wrote (S.contents sink.old) (S.has_failed sink.old) (text (head_lines scenario.now)) (S.contents sink.new)
         (S.has_failed sink.new) }
@@ -28,7 +29,7 @@ fn put_signed_head<S: Sink>(sink: &mut S, scenario: &Scenario)
     put_all(sink, b"\n");
 }
 
-/// Writes the lines of a signed campaign's chronicle.
+/// Writes all lines of a signed campaign's chronicle.
 pub(crate) fn put_signed<S: Sink>(sink: &mut S, chronicle: &SignedChronicle)
     ensures { Wrote (S.contents sink.old) (S.has_failed sink.old) (signed_text chronicle.now) (S.contents sink.new)
         (S.has_failed sink.new) }
@@ -43,8 +44,8 @@ pub(crate) fn put_signed<S: Sink>(sink: &mut S, chronicle: &SignedChronicle)
 ///
 /// # Errors
 ///
-/// `Write` exactly if the sink has failed when the function returns. Then only a beginning of the text was written, and
-/// nothing if the sink had failed before.
+/// `Write` exactly if the sink has failed when the function returns. Then at most a beginning of the text was written.
+/// Nothing was written if the sink had failed before the call.
 pub fn write_signed<S: Sink>(chronicle: &SignedChronicle, sink: &mut S) -> Result<(), TraceError>
     ensures written { OnOk result (Appends (S.contents sink.old) (S.contents sink.new) (signed_text chronicle.now)) }
     ensures beginning { Wrote (S.contents sink.old) (S.has_failed sink.old) (signed_text chronicle.now)

@@ -23,7 +23,8 @@ fn number_of(letter: &Letter) -> u8
     letter.general as u8
 }
 
-/// Returns the chains that the general of a letter sent in this round, each with its receivers as bits.
+/// Returns the chains that the letter's general sent in this round, counted from 1. Bit g in the number with a chain
+/// means that general g received it.
 fn sent_by<'a>(chronicle: &'a SignedChronicle, round: usize, letter: &Letter) -> &'a [(Chain, u16)]
     ensures { map dispatch_of result.now
         ≡ sent_by (sent_in chronicle.now.scenario chronicle.now.letters) round letter.now.general }
@@ -31,7 +32,8 @@ fn sent_by<'a>(chronicle: &'a SignedChronicle, round: usize, letter: &Letter) ->
     chronicle.sent(number_of(letter), round)
 }
 
-/// Writes the lines of a letter of this round: its first line and the chains sent.
+/// Writes the lines of a letter of this round: the first names its general, and each further line has a chain that he
+/// sent.
 fn put_letter<S: Sink>(sink: &mut S, chronicle: &SignedChronicle, round: usize, letter: &Letter)
     ensures { Wrote (S.contents sink.old) (S.has_failed sink.old)
         (text (letter_lines (sent_in chronicle.now.scenario chronicle.now.letters) round letter.now))
@@ -41,7 +43,7 @@ fn put_letter<S: Sink>(sink: &mut S, chronicle: &SignedChronicle, round: usize, 
     put_chains(sink, sent_by(chronicle, round, letter));
 }
 
-/// Writes the lines of this round's letters, in their order.
+/// Writes the lines of `letters`, which are of this round, in their order.
 fn put_letters<S: Sink>(sink: &mut S, chronicle: &SignedChronicle, round: usize, letters: &[Letter])
     ensures { Wrote (S.contents sink.old) (S.has_failed sink.old)
         (text (flat_map (letter_lines (sent_in chronicle.now.scenario chronicle.now.letters) round) letters.now))
@@ -52,7 +54,7 @@ fn put_letters<S: Sink>(sink: &mut S, chronicle: &SignedChronicle, round: usize,
     }
 }
 
-/// Writes the lines of a round: the round's own line, its accesses and these letters.
+/// Writes the lines of a round: its first line with its number, its accesses, and `letters`.
 fn put_one<S: Sink>(sink: &mut S, chronicle: &SignedChronicle, round: usize, letters: &[Letter])
     ensures { Wrote (S.contents sink.old) (S.has_failed sink.old)
         (text (round_told (letter_lines
@@ -64,7 +66,8 @@ fn put_one<S: Sink>(sink: &mut S, chronicle: &SignedChronicle, round: usize, let
     put_letters(sink, chronicle, round, letters);
 }
 
-/// Writes the lines of all rounds from the first on: each round's own line, its accesses and its letters.
+/// Writes the lines of all rounds. A round has its first line with its number, then its accesses, then its letters with
+/// the chains sent.
 pub fn put_signed_rounds<S: Sink>(sink: &mut S, chronicle: &SignedChronicle)
     ensures { Wrote (S.contents sink.old) (S.has_failed sink.old)
         (text (rounds_told (letter_lines

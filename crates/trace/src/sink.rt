@@ -3,20 +3,20 @@ ghost use Rattle.std.specs.Prelude.{◌≡◌, false};
 
 use std::io::Write;
 
-/// A stream of bytes that remembers whether it has failed.
+/// A stream to which bytes are written, and which remembers whether a write has failed.
 pub trait Sink {
     ghost use Rattle.std.specs.Prelude.{◌≡◌, ◌<◌, ◌≤◌, ℕ, Bool, true, List, Option, Some, IfSome, IfNone, is_none, length, take};
     ghost use Rattle.std.specs.Io.KnownBytes.{Appends, Keeps};
 
-    // The bytes that the sink has accepted, if they are known.
+    // The bytes that the sink has accepted, or `None` if they are not known.
     ghost contents: { Self → Option (List ℕ) };
 
     // Whether the sink has failed.
     ghost has_failed: { Self → Bool };
 
-    /// Accepts a beginning of the piece, at least one byte, and returns the number of accepted bytes. Returns `None` if
-    /// it accepts none, and the sink has then failed. An empty piece changes nothing and returns `Some(0)`. A sink that
-    /// has failed stays failed.
+    /// Accepts at least one byte from the beginning of `piece`, and returns how many. Returns `None` if it accepts
+    /// none, and then the sink has failed. An empty piece changes nothing and returns `Some(0)`. A sink that has failed
+    /// stays failed.
     fn put(&mut self, piece: &[u8]) -> Option<usize>
         ensures taken { IfSome result (λ n. (n ≤ length piece.now)
             × Appends (contents self.old) (contents self.new) (take n piece.now)) }
@@ -31,8 +31,8 @@ pub trait Sink {
         ensures { result ≡ has_failed self.now };
 }
 
-/// A sink that passes its bytes to a writer. It fails if the writer returns an error, or accepts no byte of a piece
-/// that is not empty.
+/// A sink that passes its bytes to a writer. Once the writer has returned an error, or accepted no byte of a piece that
+/// is not empty, the sink has failed and accepts no more bytes.
 #[derive(Drop)]
 pub struct Latch<W> {
     writer: W,
@@ -40,7 +40,7 @@ pub struct Latch<W> {
 }
 
 impl<W: Write> Latch<W> {
-    /// Returns a sink over this writer that has not failed.
+    /// Returns a sink that writes to this writer and has not failed.
     pub fn new(writer: W) -> Latch<W>
         ensures { result ≡ record { writer = writer; failed = false } }
     {
@@ -50,7 +50,7 @@ impl<W: Write> Latch<W> {
         }
     }
 
-    /// Returns the writer.
+    /// Returns the writer to which the sink has passed its bytes.
     pub fn into_writer(self) -> W
         ensures { result ≡ self.writer }
     {

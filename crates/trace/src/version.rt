@@ -1,20 +1,20 @@
-//! Defines the versions of a chronicle's text, and chooses the one for a campaign.
+//! Defines the versions of a chronicle's text, and chooses the one that a campaign needs.
 ghost use Rattle.std.specs.Prelude.{◌≡◌};
 ghost use Rattle.trace.specs.Text.{version_by};
 
 use combine::Rule;
 
-/// A version of the chronicles of oral campaigns.
+/// A version of the text of an oral campaign's chronicle.
 #[derive(Clone, Copy, PartialEq, Eq)]
 pub enum Version {
-    /// The version that has neither the patience nor the rule.
+    /// `chronicle 1`: the text has neither the patience nor the rule.
     First,
-    /// The version that has the patience and the rule.
+    /// `chronicle 2`: the second line also has the patience and the rule.
     Second,
 }
 
-/// Returns the version in which a campaign is written: the first for the default rule without a patience, and otherwise
-/// the second.
+/// Returns the version that a campaign needs: the first if it has no patience and the default rule, otherwise the
+/// second.
 pub fn version_by(patience: Option<u32>, rule: Rule) -> Version
     ensures { result ≡ version_by patience rule }
 {

@@ -1,12 +1,11 @@
-//! Writes pieces and numbers to a sink. If the sink fails, only a beginning of the text is written, and later calls
-//! write nothing.
+//! Writes bytes and numbers to a sink. Once the sink has failed, further calls write nothing.
 ghost use Rattle.std.specs.Prelude.{◌≡◌, ◌++◌, ◌∷◌, [], decimal};
 ghost use Rattle.trace.specs.Sinks.{Wrote};
 
 use crate::sink::Sink;
 use itoa::write_digits;
 
-/// Writes all bytes of a piece.
+/// Writes all bytes of `piece`, or as many as the sink accepts before it fails.
 pub fn put_all<S: Sink>(sink: &mut S, piece: &[u8])
     ensures { Wrote (S.contents sink.old) (S.has_failed sink.old) piece.now (S.contents sink.new)
         (S.has_failed sink.new) }
@@ -23,7 +22,7 @@ pub fn put_all<S: Sink>(sink: &mut S, piece: &[u8])
     }
 }
 
-/// Writes a sign, which is one byte, and then a number in decimal.
+/// Writes the byte `sign` and then a number in decimal.
 pub fn put_behind<S: Sink>(sink: &mut S, sign: u8, number: u64)
     ensures { Wrote (S.contents sink.old) (S.has_failed sink.old) (sign ∷ decimal number) (S.contents sink.new)
         (S.has_failed sink.new) }
@@ -42,7 +41,7 @@ pub fn put_next<S: Sink>(sink: &mut S, number: u64)
     put_behind(sink, b' ', number);
 }
 
-/// Writes the beginning of a line, a space and a number in decimal.
+/// Writes `head`, a space and a number in decimal.
 pub fn put_headed<S: Sink>(sink: &mut S, head: &[u8], number: u64)
     ensures { Wrote (S.contents sink.old) (S.has_failed sink.old) (head.now ++ 32 ∷ decimal number)
         (S.contents sink.new) (S.has_failed sink.new) }

@@ -1,4 +1,4 @@
--- A round whose letters a piece of the ledger accounts for happens again, when its accesses are named.
+-- If a piece of the ledger accounts for a round's letters, the round happens again when its accesses are named.
 use Rattle.std.proofs.Common.{◌≡◌, ℕ, zero, suc, ◌<◌, ◌≤◌, List, [], ◌∷◌, ◌++◌, length, map, take, drop, Bool, true, false, cond, refl, sym, ap, subst, ◌∙◌, Option, Some, None, append_assoc, arith}
 use Rattle.std.specs.Prelude.{slice_get, ◌==◌, ◌&&◌, ◌||◌}
 use Rattle.std.specs.List.{list_all}
@@ -34,7 +34,7 @@ take-snoc [] n l e = cc
 take-snoc (x ∷ ls) zero l e = (let f : x ≡ l = cc in ap (λ y. y ∷ []) f)
 take-snoc (x ∷ ls) (suc n) l e = ap (λ ys. x ∷ ys) (take-snoc ls n l e)
 
--- an activation's end is the one that a general's letter tells of
+-- States that an activation has ended as its general's letter says.
 abbrev pub Tells : List Letter → ℕ → Activation → Type 0
 Tells letters g end = (l : Letter) → slice_get letters g ≡ Some l → (l.steps ≡ end.state.steps) × (l.outbox.rows ≡ end.state.outbox) × (l.exited ≡ end.over) × (l.outbox.entries ≡ end.state.entries)
 
@@ -43,7 +43,7 @@ letter_within [] g lt = absurd (omega arith)
 letter_within (l ∷ ls) zero lt = (l, refl)
 letter_within (l ∷ ls) (suc g) lt = letter_within ls g (omega arith)
 
--- pieces of one, in order
+-- Lists of single letters, joined in order.
 each_is : (letters : List Letter) (f : ℕ → List Letter) → ((g : ℕ) (l : Letter) → slice_get letters g ≡ Some l → f g ≡ l ∷ []) → (n : ℕ) → n ≤ length letters → each n f ≡ take n letters
 each_is letters f h zero le = refl
 each_is letters f h (suc n) le =
@@ -52,7 +52,7 @@ each_is letters f h (suc n) le =
 
 module _ (K : Kind) where
   module _ (s : Scenario) (closed : List (List Letter)) (piece : List Access) (letters : List Letter) (round : IsAccountedRound K s closed piece letters) where
-    -- his letter, where he is a general
+    -- Each general has a letter.
     his : (g : ℕ) → g < s.generals → (l : Letter) × (slice_get letters g ≡ Some l)
     his g lt = letter_within letters g (let c = round.count in omega arith)
 
@@ -96,7 +96,7 @@ module _ (K : Kind) where
         by true again h = cc
         by false again h = again h
 
-    -- a loyal general makes no access
+    -- A general who makes an access is a traitor, since a loyal general makes none.
     acts_one : (front rest : List Access) (x : Access) → piece ≡ front ++ x ∷ rest → x.general < s.generals → (o : Option (List Insn)) → program_of s x.general ≡ o →
         (a : Activation) × (begins K s closed x.general o ≡ Acting a)
     acts_one front rest x e lt None is =
@@ -121,7 +121,7 @@ module _ (K : Kind) where
     acts_begin true e = acts_from (each s.generals (λ g. begins K s closed g (program_of s g) ∷ [])) (λ g lt. each-get s.generals (λ g. begins K s closed g (program_of s g)) g lt) [] piece refl (entries_below s.generals (suc (length closed)) piece round.entries)
     acts_begin false e = absurd (let f : false ≡ true = e in cc)
 
-  -- the letter of an activation that has come to its end, and of a loyal general
+  -- The letter of an activation that has ended, and the letter of a loyal general.
   letter_acting : (s : Scenario) (closed : List (List Letter)) (piece ledger : List Access) (w : World) (g : ℕ) (l : Letter) (a : Activation) (o : Option (List Insn)) → program_of s g ≡ o → Fits o (Acting a)
       → w.scenario ≡ s → w.closed ≡ closed → drop w.opened w.ledger ≡ piece → IsLetterOf K s closed g o l → accesses_of g piece ≡ l.transcript → (l.steps ≡ a.state.steps) × (l.outbox.rows ≡ a.state.outbox) × (l.exited ≡ a.over) × (l.outbox.entries ≡ a.state.entries)
       → letters_at K w g (Some (Acting a)) ≡ l ∷ []
@@ -147,7 +147,7 @@ module _ (K : Kind) where
   letter_posted s closed w g l None fits sc cl letter = (λ i. loyal_letter K (sc i) (cl i) g ∷ []) ∙ ap (λ (m : Letter). m ∷ []) (sym letter)
   letter_posted s closed w g l (Some program) fits sc cl letter = absurd fits
 
-  -- a ripe world at the ends that the letters tell of has these letters
+  -- A world whose activations have ended as the letters say has these letters.
   pub letters_again : (s : Scenario) (closed : List (List Letter)) (piece : List Access) (letters : List Letter) → IsAccountedRound K s closed piece letters → (w : World) → w.scenario ≡ s → w.closed ≡ closed
       → drop w.opened w.ledger ≡ piece → length w.parts ≡ s.generals → IsKept K w → IsRipe w → AllParts (Ways K (Tells letters) []) w.parts → round_letters K w ≡ letters
   letters_again s closed piece letters round w sc cl op count k ripe ways =
@@ -167,7 +167,7 @@ module _ (K : Kind) where
       by g l at Silent is fits = absurd (let f : false ≡ true = ripe.posted_all g Silent is in cc)
       by g l at Posted is fits = letter_posted s closed w g l (program_of s g) fits sc cl (round.each g l at).0
 
-  -- so, when the accesses are named, the round's letters and its piece of the ledger come again
+  -- When the accesses are named, the round has the same letters and the same piece of the ledger again.
   pub round_again : (s : Scenario) → IsCampaign K s → (closed : List (List Letter)) (words : List ℕ) (ledger piece : List Access) (letters : List Letter)
       → IsOnTime K s (begun K s closed words ledger true) → length closed < suc s.bound → IsLegal words piece → IsAccountedRound K s closed piece letters
       → run K (begun K s closed words ledger true) (names_events K (begun K s closed words ledger true) (map (λ a. a.general) piece) ++ wound_up s)

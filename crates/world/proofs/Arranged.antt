@@ -1,4 +1,4 @@
--- Accounted rounds, one behind the other, are accounted letters.
+-- Accounted rounds, joined into one list, are accounted letters.
 use Rattle.std.proofs.Common.{◌≡◌, ◌≢◌, ℕ, zero, suc, ◌+◌, ◌*◌, ◌≤◌, List, [], ◌∷◌, ◌++◌, length, take, drop, true, false, refl, sym, ap, subst, ◌∙◌, ⊎_elim, Option, None, Some, arith, length-append}
 use Rattle.std.specs.Prelude.{◌==◌, ◌&&◌, Bool, slice_get, flat_map, sum_by, option_to_list}
 use Rattle.std.proofs.Math.Nat.{suc-mul}
@@ -26,7 +26,7 @@ by_false g round l not = ⊎_elim
     (λ (x : (l.general == g ≡ false) × (l.general ≢ g)). rw x.0 refl)
     (eqb_tells l.general g)
 
--- letters of one round, from a general on
+-- The letters of one round, from a general on.
 abbrev IsRowFrom : ℕ → ℕ → List Letter → Type 0
 IsRowFrom k t [] = Unit {0}
 IsRowFrom k t (l ∷ row) = ((l.general ≡ k) × (l.round ≡ t)) × IsRowFrom (suc k) t row
@@ -87,7 +87,7 @@ row_is n r rounds row h at =
     let one : A (suc r) = subst A (let e : 1 + r ≡ suc r = omega arith in e) (λ g l here. ap option_to_list (grid_get n 1 r g rounds row l h at here)) in
     each_front row (λ g. option_to_list (letter_by g (suc r) (all rounds))) one n (omega arith) ∙ take_all n row (omega arith)
 
--- from what accounts for them
+-- The letters of an accounted round are such letters.
 row_from : (t k : ℕ) (row : List Letter) → ((i : ℕ) (l : Letter) → slice_get row i ≡ Some l → (l.general ≡ k + i) × (l.round ≡ t)) → IsRowFrom k t row
 row_from t k [] h = tt
 row_from t k (x ∷ row) h = (

@@ -1,4 +1,4 @@
--- Parts that were not told anything yet, and are told it one by one.
+-- Generals' parts without contexts, into which the contexts are written one by one.
 use Rattle.std.proofs.Common.{◌≡◌, ◌≢◌, ℕ, zero, suc, ◌+◌, ◌<◌, ◌≤◌, List, [], ◌∷◌, length, cond, refl, sym, ap, subst, ◌∙◌, ⊎_elim, Option, Some, None, true, false, arith}
 use Rattle.std.specs.Prelude.{slice_get, slice_set, nat_lt, ◌==◌}
 use Rattle.std.proofs.lemmas.Bool.{lt-ltb, ltb-true, ltb-false, cases_Bool}
@@ -25,13 +25,13 @@ ext (x ∷ xs) (y ∷ ys) h =
     let same : x ≡ y = cc in
     (λ i. same i ∷ ext xs ys (λ j. h (suc j)) i)
 
--- behind the last round nobody has a part
+-- After the last round nobody has a part.
 pub none_left : (s : Scenario) (closed : List (List Letter)) (ps : List Progress) → s.bound < length closed → ps ≡ blanks s (length closed) → ps ≡ beginnings s closed
 none_left s closed ps past same =
     let shut : nat_lt (length closed) (suc s.bound) ≡ false = ⊎_elim (λ (h : nat_lt (length closed) (suc s.bound) ≡ true). absurd (let l = ltb-true (length closed) (suc s.bound) h in omega arith)) (λ (h : nat_lt (length closed) (suc s.bound) ≡ false). h) (cases_Bool (nat_lt (length closed) (suc s.bound))) in
     same ∙ (ap (λ b. cond b (each s.generals (λ g. blank s (length closed) g (program_of s g) ∷ [])) []) shut ∙ sym (ap (λ b. cond b (each s.generals (λ g. begins s closed g (program_of s g) ∷ [])) []) shut))
 
--- the first so many are told, the others not
+-- States that the first `n` parts have their contexts, and the others do not.
 pub record AreBriefed (s : Scenario) (closed : List (List Letter)) (n : ℕ) (ps : List Progress) : Type 0 where
   pub told : (j : ℕ) → j < n → slice_get ps j ≡ slice_get (beginnings s closed) j
   pub left : (j : ℕ) → n ≤ j → slice_get ps j ≡ slice_get (blanks s (length closed)) j
@@ -80,7 +80,7 @@ module _ (s : Scenario) (closed : List (List Letter)) (le : length closed ≤ s.
       h.left j past ∙ (ap (λ (l : List Progress). slice_get l j) blanks_are ∙ (none ∙ sym (ap (λ (l : List Progress). slice_get l j) begins_are ∙ none'))))
       (cases_Bool (nat_lt j n)))
 
--- a part that is told what its general is told begins the round
+-- A part with its general's context is the one with which the round begins.
 pub blank_started : (s : Scenario) (n g : ℕ) (o : Option (List Insn)) (a : Activation) → blank s n g o ≡ Acting a → a ≡ started a.patience a.program a.context a.relay
 blank_started s n g None a e = cc
 blank_started s n g (Some program) a e =

@@ -1,4 +1,4 @@
--- Oral campaigns have what a kind owes them.
+-- Oral campaigns have the properties that a kind of campaign must have.
 use Rattle.std.specs.Prelude.{suc, length}
 use Rattle.std.proofs.Common.{refl, sym}
 use Rattle.round.proofs.Contexts.{context_is, shape_is}

@@ -1,4 +1,4 @@
--- Listed and replayed lists of events are punctual and complete.
+-- The events of schedules and replays are punctual and complete.
 use Rattle.std.proofs.Common.{◌≡◌, ◌≢◌, ℕ, zero, suc, ◌<◌, ◌≤◌, List, [], ◌∷◌, ◌++◌, length, true, false, refl, sym, ap, subst, ◌∙◌, ⊎_elim, Option, Some, None, arith}
 use Rattle.std.specs.Prelude.{slice_get, slice_set, ◌==◌, replicate}
 use Rattle.std.proofs.lemmas.Option.{slice_get_within}
@@ -26,7 +26,7 @@ move_at Q w (Tick g) i = tt
 move_at Q w (Post g) i = tt
 move_at Q w Close i = absurd i
 
--- it is over after at most so many turns
+-- States that the activation ends after at most `k` turns.
 unfoldable pub Within : ℕ → Activation → Type 0
 Within k a = (n : ℕ) × (n ≤ k) × IsGoing n a
 
@@ -99,7 +99,7 @@ fits_lasts s = record { goes = λ g a b q e. fits_go' (program_of s g) a b q; as
     fits_post' None f = tt
     fits_post' (Some p) f = absurd f
 
--- all post, then all end
+-- All loyal generals post, and then all traitors run to their ends.
 unfoldable pub posts : Scenario → List Event
 posts s = each s.generals (λ g. post_of g (program_of s g))
 
@@ -129,7 +129,7 @@ module _ (K : Kind) where
   moves_throughout Q [] w i = tt
   moves_throughout Q (e ∷ es) w i = (move_at Q w e i.0, moves_throughout Q es (happen K w e) i.1)
 
-  -- ticks bring an activation to its end
+  -- States that `k` ticks bring an activation to its end.
   Arrives : ℕ → World → ℕ → Type 0
   Arrives k v g = (b : Activation) × (slice_get (run K v (replicate k (Tick g))).parts g ≡ Some (Acting b)) × (has_ended b ≡ true)
 
@@ -153,7 +153,7 @@ module _ (K : Kind) where
       let A : Option Progress → Type 0 = λ o. Arrives k (ticked w g o) g in
       subst A (sym at) (tick_end k w g a at board (λ v b. ticks_end k v g b) (turn a) refl (turn_left k a h))
 
-  -- a property that each general's own events bring about, and that lasts
+  -- A property holds for all parts if each general's own events bring it about, and it then lasts.
   brought : (Q : Progress → Type 0) (s : Scenario) (f : ℕ → List Event) → ((n : ℕ) → IsLasting (λ g part. g < n → Q part)) → ((g : ℕ) → AreMoves (f g))
       → ((g : ℕ) (w : World) (part : Progress) → IsBoard w.words → Due s g part → Fits (program_of s g) part → slice_get w.parts g ≡ Some part → (part' : Progress) → slice_get (run K w (f g)).parts g ≡ Some part' → Q part')
       → (n : ℕ) (w : World) → IsBoard w.words → AllParts (Due s) w.parts → AllParts (FitsIn s) w.parts
@@ -201,7 +201,7 @@ module _ (K : Kind) where
   tick_brings s g w Silent (Some p) is board due fits at part' e = absurd fits
   tick_brings s g w Posted (Some p) is board due fits at part' e = absurd fits
 
-  -- behind all posts and ticks the world is ripe
+  -- After all posts and ticks, every loyal general has posted and every activation has ended.
   pub ripens : (s : Scenario) (w : World) → w.scenario ≡ s → IsKept K w → AllParts (Due s) w.parts → IsRipe (run K (run K w (posts s)) (ends s))
   unfolding posts ends FitsIn
   ripens s w is k due =

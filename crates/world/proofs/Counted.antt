@@ -1,4 +1,4 @@
--- Traitors and loyal decisions, general by general.
+-- Traitors and loyal decisions are counted general by general.
 use Rattle.std.proofs.Common.{◌≡◌, ◌≢◌, ℕ, zero, suc, ◌+◌, ◌-◌, ◌<◌, ◌≤◌, List, [], ◌∷◌, ◌++◌, length, drop, Bool, true, false, not, cond, refl, sym, ap, subst, ◌∙◌, Option, Some, None, arith, append-nil, append_assoc, length-append}
 use Rattle.std.specs.Prelude.{◌==◌, count_by, filter, slice_get}
 use Rattle.std.specs.List.{range_with_len}
@@ -10,7 +10,7 @@ use Rattle.round.specs.Scenario.{Scenario, is_traitor}
 use Rattle.world.specs.Chronicle.{of_loyal}
 use Rattle.world.specs.Chronicle.{counted}
 
--- so many traitors stand before this general
+-- States that this many of the generals below `g` are traitors.
 pub record HasCounted (s : Scenario) (g traitors : ℕ) : Type 0 where
   pub few : traitors ≤ g
   pub same : traitors + count_by (is_traitor s) (range_with_len g (s.generals - g)) ≡ count_by (is_traitor s) (generals s.generals)
@@ -47,7 +47,7 @@ counted_all s g t h l =
     let e : count_by (is_traitor s) (range_with_len g (s.generals - g)) ≡ 0 = ap (count_by (is_traitor s)) (range_none s.generals g l) in
     let f = h.same in omega arith
 
--- the lieutenants from a general on
+-- Returns the lieutenants from general `g` on.
 abbrev pub from : ℕ → ℕ → ℕ → List ℕ
 from n c g = filter (λ j. not (on (c ∷ []) j)) (range_with_len g (n - g))
 
@@ -61,7 +61,8 @@ from_lieutenant n c g l ne =
     let h : (c == g) ≡ false = ne_eqb c g (λ e. ne (sym e)) in
     rw (range_cons n g l) (rw h refl)
 
--- these are the loyal decisions before this general, who decides at this place
+-- States that `loyal` are the loyal decisions of lieutenants below `g`, and that the next lieutenant's decision is at
+-- index `place`.
 pub record HasGathered (s : Scenario) (ds : List ℕ) (g place : ℕ) (loyal : List ℕ) : Type 0 where
   pub behind : place ≤ g
   pub few : length loyal ≤ g
@@ -81,7 +82,7 @@ of_loyal-nil : (s : Scenario) (gs : List ℕ) → of_loyal s gs [] ≡ []
 of_loyal-nil s [] = refl
 of_loyal-nil s (g ∷ gs) = refl
 
--- one lieutenant more
+-- One more lieutenant is considered.
 one_more : (s : Scenario) (g : ℕ) (gs ds : List ℕ) (place : ℕ) → of_loyal s (g ∷ gs) (drop place ds) ≡ counted s g (slice_get ds place) ++ of_loyal s gs (drop (suc place) ds)
 one_more s g gs [] zero = sym (of_loyal-nil s gs)
 one_more s g gs [] (suc place) = sym (of_loyal-nil s gs)

@@ -1,4 +1,4 @@
--- The lieutenants' decisions, one for each tree.
+-- The lieutenants' decisions are made from their trees, one by one.
 use Rattle.std.proofs.Common.{◌≡◌, ◌≢◌, ℕ, zero, suc, ◌<◌, ◌≤◌, ◌+◌, List, [], ◌∷◌, ◌++◌, length, map, get_or, Bool, false, refl, sym, ap, subst, ◌∙◌, inl, inr, Some, arith, length-append}
 use Rattle.std.specs.Prelude.{slice_get, ◌==◌}
 use Rattle.std.proofs.lemmas.Bool.{or_from, or_left, ne_eqb, eq-eqb, lt-ltb, le-ltb, cases_lt}
@@ -34,16 +34,16 @@ more_map : (f : ℕ → ℕ) (c j g : ℕ) (xs : List ℕ) → c ≢ j → g ≡
 more_map f c j g xs ne same is =
     (λ i. is i ++ f (same i) ∷ []) ∙ (sym (map-append f (others j (c ∷ [])) (j ∷ [])) ∙ ap (map f) (sym (others-more_yes (c ∷ []) j (off c j ne))))
 
--- the lieutenants below the commander
+-- The lieutenants with numbers below the commander's.
 below : (f : ℕ → ℕ) (c n : ℕ) → n ≤ c → each n (λ i. f (lieutenant_at c i) ∷ []) ≡ map f (others n (c ∷ []))
 below f c zero le = refl
 below f c (suc n) le = more_map f c n (lieutenant_at c n) (each n (λ i. f (lieutenant_at c i) ∷ [])) (λ e. let w = e in omega arith) (at_below c n (omega arith)) (below f c n (omega arith))
 
--- the commander himself is none
+-- The commander is not a lieutenant.
 past : (f : ℕ → ℕ) (c m : ℕ) → c ≡ m → each m (λ i. f (lieutenant_at c i) ∷ []) ≡ map f (others (suc m) (c ∷ []))
 past f c m same = below f c m (omega arith) ∙ ap (map f) (sym (others-more_no (c ∷ []) m (or_left (c == m) false (eq-eqb c m same))))
 
--- those above him stand a place lower
+-- The lieutenants above the commander have an index that is one less than their number.
 above : (f : ℕ → ℕ) (c m : ℕ) → c ≤ m → each m (λ i. f (lieutenant_at c i) ∷ []) ≡ map f (others (suc m) (c ∷ []))
 above f c zero le = past f c zero (omega arith)
 above f c (suc m) le =
@@ -52,7 +52,7 @@ above f c (suc m) le =
       | inr ge ↦ past f c (suc m) (omega arith)
     ]
 
--- all lieutenants
+-- All lieutenants.
 pub at_places : (f : ℕ → ℕ) (c m n : ℕ) → c < n → m + 1 ≡ n → each m (λ i. f (lieutenant_at c i) ∷ []) ≡ map f (lieutenants n c)
 at_places f c m n lt is =
     let j : suc m ≡ n = omega arith in
@@ -62,7 +62,7 @@ singles_long : (f : ℕ → ℕ) (n : ℕ) → length (each n (λ i. f i ∷ [])
 singles_long f zero = refl
 singles_long f (suc n) = (let e = singles_long f n in omega (arith, length-append (each n (λ i. f i ∷ [])) (f n ∷ [])))
 
--- there is room for one decision more
+-- There is room for one more decision.
 pub few_decided : (s : Scenario) (before : List (List Letter)) (told : ToldSeen) (trees : List LieutenantTree) (f : ℕ → ℕ) (i : ℕ) (xs : List ℕ) → IsScenario s → WasTold s before told → trees ≡ told.trees → i < length trees →
     xs ≡ each i (λ j. f j ∷ []) → length xs < 12
 few_decided s before told trees f i xs is was same lt long =
@@ -73,7 +73,7 @@ few_decided s before told trees f i xs is was same lt long =
     omega arith
 
 module _ (s : Scenario) (closed : List (List Letter)) (k : Board) (opened : ℕ) (ps : List Progress) (full : Bool) (w : World) (told : ToldSeen) (trees : List LieutenantTree) (is : world_of s closed k opened ps full ≡ w) (was : WasTold s closed told) (same : trees ≡ told.trees) where
-  -- what is resolved of a tree is its lieutenant's decision
+  -- A tree is resolved to its lieutenant's decision.
   pub tree_decides : (rule : Rule) (i order : ℕ) (t : LieutenantTree) → rule ≡ s.rule → i < length trees → t ≡ get_or trees i t → Decides (combined_by rule) t order →
       order ≡ decision w.scenario (messages w.closed) (lieutenant_at w.scenario.commander i)
   tree_decides rule i order t ruled lt here decides =
@@ -83,7 +83,7 @@ module _ (s : Scenario) (closed : List (List Letter)) (k : Board) (opened : ℕ)
       ∙ ((λ j. om (combined_by (ruled j)) (of.generals j) (messages closed) (of.bound j) (of.commander j ∷ []) (of.general j))
       ∙ ap (λ (v : World). decision v.scenario (messages v.closed) (lieutenant_at v.scenario.commander i)) is)
 
-  -- and those of all trees are all decisions
+  -- The decisions from all trees are all lieutenants' decisions.
   pub all_decided : (i : ℕ) (xs : List ℕ) → IsScenario s → length trees ≤ i → i ≤ length trees →
       xs ≡ each i (λ j. decision w.scenario (messages w.closed) (lieutenant_at w.scenario.commander j) ∷ []) → xs ≡ decisions w.scenario (messages w.closed)
   unfolding decisions

@@ -1,4 +1,4 @@
--- The drafts of a close, and what the parts leave, are the letters of the round.
+-- The letters made from the drafts and the parts are the letters of the round.
 use Rattle.std.proofs.Common.{◌≡◌, ℕ, zero, suc, ◌<◌, List, ◌++◌, length, refl, sym, ap, subst, ◌∙◌, Option, Some, None, get_or, arith}
 use Rattle.std.specs.Prelude.{slice_get}
 use Rattle.std.proofs.lemmas.Option.{slice_get_read}
@@ -44,7 +44,7 @@ module _ (s : Scenario) (closed : List (List Letter)) (accesses : List Access) (
       let is : t ≡ accesses_of g accesses = begun_by s closed accesses g (slice_get ps g) t a acting only.1 in
       subst (λ (n : ℕ). IsLetter (letter_left g n t a)) (sym counted) (subst (λ (l : List Access). IsLetter (letter_left g (suc (length closed)) l a)) (sym is) (runs g a acting))
 
--- what stands at a place that was read
+-- The element at an index that was read.
 pub read_at : {X : Type 0} (xs : List X) (i p : ℕ) (x y : X) → p ≡ i → i < length xs → x ≡ get_or xs p x → x ≡ y → slice_get xs i ≡ Some y
 read_at xs i p x y e lt g same = ap (slice_get xs) (sym e) ∙ (slice_get_read xs (length xs) p x refl (omega arith) g ∙ ap Some same)
 
@@ -55,7 +55,7 @@ left_row g h round ds ps d part row new e same there at = e ∙ (λ i. row ++ le
 pub drafts_same : (s : Scenario) (c c' : List (List Letter)) (a a' : List Access) (p p' : List Progress) (ds : List LetterDraft) → ds ≡ drafts_held s c' a' p' → c' ≡ c → a' ≡ a → p' ≡ p → ds ≡ drafts_held s c a p
 drafts_same s c c' a a' p p' ds h e f g = h ∙ (λ i. drafts_held s (e i) (f i) (g i))
 
--- the row that is written
+-- The letters that the code writes are those of the round.
 pub row_is : (s : Scenario) (closed : List (List Letter)) (accesses : List Access) (ps : List Progress) (ds : List LetterDraft) (n round : ℕ) (row : List Letter) → ds ≡ drafts_held s closed accesses ps → n ≡ s.generals → round ≡ suc (length closed) →
     row ≡ letters_from n round ds ps → row ≡ letters_held s closed accesses ps
 row_is s closed accesses ps ds n round row same all counted is = is ∙ (ap (λ (m : ℕ). letters_from m round ds ps) all ∙ drafted s closed accesses ps ds round same counted)

@@ -1,4 +1,4 @@
--- Activations of sound programs: they neither trap nor take more steps than the program has instructions.
+-- Activations of sound programs neither trap nor take more steps than the program has instructions.
 use Rattle.std.proofs.Common.{◌≡◌, ℕ, zero, suc, ◌+◌, ◌<◌, ◌≤◌, List, [], ◌∷◌, length, Bool, true, false, cond, refl, sym, ap, subst, ◌∙◌, Option, Some, None, arith}
 use Rattle.insn.specs.declared.insn.Insn.{Insn}
 use Rattle.semantics.specs.declared.request.Request.{Request}
@@ -14,14 +14,14 @@ use Rattle.world.proofs.Moves.{AllParts, IsLasting}
 use Rattle.round.proofs.Going.{IsGoing, IsAfter, TurnsTo, turn_safe, going_zero, over_ended}
 use Rattle.world.specs.Campaigns.{IsCampaign}
 
--- it runs its general's program, has some steps left at most, and is safe for these
+-- States that the activation runs its general's program, and that it is safe for its remaining steps.
 pub record IsDue (s : Scenario) (g : ℕ) (a : Activation) : Type 0 where
   pub program : program_of s g ≡ Some a.program
   pub left : ℕ
   pub within : left + a.state.steps ≤ length a.program
   pub going : IsGoing left a
 
--- so it has taken no more steps than its program has instructions
+-- Such an activation has taken at most as many steps as its program has instructions.
 pub due_few : (s : Scenario) (g : ℕ) (a : Activation) → IsDue s g a → a.state.steps ≤ length a.program
 due_few s g a d = (let l = d.within in omega arith)
 
@@ -30,7 +30,7 @@ Due s g (Acting a) = IsDue s g a
 Due s g Silent = Unit {0}
 Due s g Posted = Unit {0}
 
--- a turn leaves it due
+-- A turn keeps this property.
 pub due_after : (s : Scenario) (g n : ℕ) (a b : Activation) → program_of s g ≡ Some a.program → suc n + a.state.steps ≤ length a.program → IsAfter n a b → IsDue s g b
 due_after s g n a b is within after = record {
   program = is ∙ ap Some (sym after.program);
@@ -66,7 +66,7 @@ module _ (K : Kind) where
     going = λ on. safe_of_sound p (K.context s closed g) (K.relay s closed g) (is.scenario.sound g p e) (is.context closed g lt le) (is.relay closed g lt le);
   }
 
-  -- all activations of a round that begins are due
+  -- All activations have it when a round begins.
   pub due_parts : (s : Scenario) (closed : List (List Letter)) (b : Bool) → IsCampaign K s → (b ≡ true → length closed ≤ s.bound) → AllParts (Due s) (cond b (each s.generals (λ g. begins K s closed g (program_of s g) ∷ [])) [])
   due_parts s closed true is le g part e =
       let h = each-get_only s.generals (λ g. begins K s closed g (program_of s g)) g part e in

@@ -1,4 +1,4 @@
--- Behind the accesses of a piece of the ledger nobody makes one.
+-- After the accesses of a round's piece of the ledger nobody makes a further one.
 use Rattle.std.proofs.Common.{◌≡◌, ◌≢◌, ℕ, zero, suc, List, [], ◌∷◌, ◌++◌, length, map, true, false, refl, sym, ap, subst, ◌∙◌, ⊎_elim, Option, Some, None, append_assoc, append-nil}
 use Rattle.std.specs.Prelude.{slice_get, ◌==◌}
 use Rattle.std.proofs.lemmas.Bool.{eq-eqb, ne_eqb}
@@ -21,12 +21,12 @@ use Rattle.world.proofs.Complete.{due_within}
 use Rattle.world.proofs.Lasting.{named_moves}
 use Rattle.world.proofs.Replays.{Comes, reach}
 
--- each entry is of this round
+-- States that each entry is of this round.
 abbrev pub AreOf : ℕ → List Access → Type 0
 AreOf r [] = Unit {0}
 AreOf r (x ∷ piece) = (x.round ≡ r) × AreOf r piece
 
--- whoever is named acts
+-- States that each general named is a traitor with an activation.
 abbrev pub Act : List Progress → List Access → Type 0
 Act parts [] = Unit {0}
 Act parts (x ∷ piece) = ((a : Activation) × (slice_get parts x.general ≡ Some (Acting a))) × Act parts piece
@@ -48,7 +48,7 @@ of_next g x piece ne = rw (ne_eqb x.general g ne) refl
 
 module _ (K : Kind) where
   module _ (E : ℕ → Activation → Type 0) where
-    -- served by its part of the piece, an activation comes to an end that is E's
+    -- States that the activation, with its general's accesses in the piece, comes to an end with the property `E`.
     pub record Way (piece : List Access) (h : ℕ) (a : Activation) : Type 0 where
       pub k : ℕ
       pub end : Activation
@@ -71,7 +71,7 @@ module _ (K : Kind) where
       pub words : v.words ≡ words_after w.words piece
       pub ways : AllParts (Ways []) v.parts
 
-    -- the named generals make the accesses of the piece
+    -- The named generals make the accesses of the piece.
     pub follow : (s : Scenario) (piece : List Access) (w : World) → IsBoard w.words → AllParts (Due s) w.parts → IsLegal w.words piece → AreOf (suc (length w.closed)) piece → Act w.parts piece
         → AllParts (Ways piece) w.parts → Followed w piece (run K w (names_events K w (map (λ a. a.general) piece)))
     follow s [] w board due legal in_round acts ways = record { ledger = sym (append-nil w.ledger); words = refl; ways = ways }
@@ -110,7 +110,7 @@ module _ (K : Kind) where
         } in
         (let A : World → Type 0 = λ u. Followed w (x ∷ piece) u in subst A (sym there) here)
 
-    -- who has no access left makes none
+    -- An activation that ends without a further access goes on without one.
     no_goes : (k : ℕ) (a b end : Activation) → has_ended end ≡ true → turn a ≡ Goes b → Runs k a [] end → (j : ℕ) × Runs j b [] end
     no_goes zero a b end over e h = absurd (let f : Goes b ≡ Ended = sym e ∙ (ap turn h.1 ∙ over_ended end over) in cc)
     no_goes (suc k) a b end over e h = (k, (let A : Turn → Type 0 = λ o. Onward (Runs k) o [] end in subst A e h))
@@ -129,7 +129,7 @@ module _ (K : Kind) where
       posts = λ g h. tt;
     }
 
-    -- so ticks and posts leave the ledger and the words
+    -- So ticks and posts leave the ledger and the board's words unchanged.
     abbrev Still : World → World → Type 0
     Still w v = (v.ledger ≡ w.ledger) × (v.words ≡ w.words)
 
@@ -162,7 +162,7 @@ module _ (K : Kind) where
         let more = moves_still es (happen K w e) i.1 (move_board K w e i.0 board) (move_keeps K (Ways []) ways_last w e i.0 board ways) in
         (more.0 ∙ one.0, more.1 ∙ one.1)
 
-    -- and an activation that is over is at that end
+    -- An activation that has ended is at that end.
     pub way_ended : (g : ℕ) (a : Activation) → has_ended a ≡ true → Way [] g a → E g a
     way_ended g a over w = by w.k w.runs
       where

@@ -1,4 +1,4 @@
--- What a close tells the lieutenants, and what a loyal general's letter is made from.
+-- What a close delivers to the lieutenants, and from what a loyal general's letter is made.
 use Rattle.std.proofs.Common.{◌≡◌, ℕ, zero, suc, ◌<◌, ◌≤◌, List, [], ◌∷◌, ◌++◌, length, drop, refl, sym, ap, subst, ◌∙◌, All, Bool, get_or, Option, Some, None, Result, Ok, Err, arith}
 use Rattle.std.specs.Prelude.{slice_get, IfOk}
 use Rattle.std.proofs.lemmas.Option.{slice_get_within, slice_get-get_or}
@@ -31,7 +31,7 @@ each_all : {A : Type 0} (P : A → Type 0) (n : ℕ) (f : ℕ → List A) → ((
 each_all P zero f h = All-nil P
 each_all P (suc n) f h = All-append P (each n f) (f n) (each_all P n f h) (h n)
 
--- the letter is of this round of the campaign
+-- States that the letter is of this round of the campaign.
 abbrev IsOfRound : Scenario → ℕ → Letter → Type 0
 IsOfRound s round l = (l.round ≡ round) × (l.outbox.relay.shape ≡ shape_of s l.general round)
 
@@ -42,7 +42,7 @@ written_round s closed accesses g (Some (Acting a)) h = all_one (IsOfRound s (su
 written_round s closed accesses g (Some Silent) h = All-nil (IsOfRound s (suc (length closed)))
 written_round s closed accesses g (Some Posted) h = all_one (IsOfRound s (suc (length closed))) (faithful_letter s closed g) (refl, refl)
 
--- the letters of a held world's round are of that round
+-- The letters of the open round are letters of that round.
 pub row_told : (s : Scenario) (closed : List (List Letter)) (k : RecordedBoard) (opened : ℕ) (ps : List Progress) (full : Bool) (told : ToldSeen) (row : List Letter) → IsScenario s → IsHeld s closed k opened ps full → WasTold s closed told →
     row ≡ letters_held s closed (drop opened k.ledger) ps → AreLettersOf s (suc told.rounds) row
 row_told s closed k opened ps full told row is h was same i l at =
@@ -55,24 +55,24 @@ row_told s closed k opened ps full told row is h was same i l at =
     let one : IsOfRound s (suc (length closed)) l = subst (IsOfRound s (suc (length closed))) it (all i l within) in
     subst (λ (n : ℕ). IsOfRound s (suc n) l) (sym was.rounds) one
 
--- what was told with a row more
+-- What is received after one more round.
 pub told_on : (s : Scenario) (closed closed' : List (List Letter)) (row row' : List Letter) (told : ToldSeen) → row ≡ row' → closed' ≡ closed ++ row' ∷ [] → WasTold s (closed ++ row ∷ []) told → WasTold s closed' told
 told_on s closed closed' row row' told same pushed was = subst (λ (l : List (List Letter)). WasTold s l told) (ap (λ (r : List Letter). closed ++ r ∷ []) same ∙ sym pushed) was
 
--- the shape that a context tells
+-- The context describes the relay.
 pub told_shape : (s : Scenario) (before : List (List Letter)) (g h r : ℕ) (bytes : List ℕ) → IsScenario s → g < s.generals → length before ≤ s.bound → bytes ≡ context_of s before g → h ≡ g → r ≡ suc (length before) → IsShape (shape_told h r bytes)
 told_shape s before g h r bytes is lt le same who when =
     let e : shape_told h r bytes ≡ shape_of s g (suc (length before)) = (λ i. shape_told (who i) (when i) (same i)) ∙ shape_is_told s before g (suc (length before)) is in
     subst IsShape (sym e) (shape_is s g (length before) is lt le)
 
--- and whose it is, in which round
+-- The context names its general and the round.
 pub told_own : (s : Scenario) (before : List (List Letter)) (g h r : ℕ) (bytes : List ℕ) → IsScenario s → g < s.generals → length before ≤ s.bound → bytes ≡ context_of s before g → h ≡ g → r ≡ suc (length before) → IsToldTo h r bytes
 told_own s before g h r bytes is lt le same who when =
     let own : IsToldTo g (suc (length before)) (context_of s before g) = own_is_told s before g is lt le in
     subst (λ (b : List ℕ). IsToldTo h r b) (sym same)
     (subst (λ (n : ℕ). IsToldTo h n (context_of s before g)) (sym when) (subst (λ (n : ℕ). IsToldTo n (suc (length before)) (context_of s before g)) (sym who) own))
 
--- the letter that follows from it
+-- A loyal general's letter follows from his context.
 pub told_letter : (s : Scenario) (before : List (List Letter)) (g h r : ℕ) (bytes : List ℕ) (l : Letter) → IsScenario s → g < s.generals → length before ≤ s.bound → AreWords s before g → bytes ≡ context_of s before g → h ≡ g →
     r ≡ suc (length before) → l ≡ letter_told h r bytes → l ≡ faithful_letter s before g
 told_letter s before g h r bytes l is lt le small same who when is_told =

@@ -1,4 +1,4 @@
--- What an event leaves of a world as it is held.
+-- What an event does to a world as the code holds it.
 use Rattle.std.proofs.Common.{◌≡◌, ℕ, zero, suc, ◌≤◌, ◌+◌, ◌-◌, List, [], ◌∷◌, ◌++◌, length, drop, Bool, true, false, cond, refl, sym, ap, subst, ◌∙◌, ◌⊎◌, inl, inr, ⊎_elim, Option, Some, None, Result, Ok, Err, arith, append-nil}
 use Rattle.std.specs.Prelude.{slice_get, slice_set, replicate, OnOk, OnErr, nat_lt, ◌&&◌}
 use Rattle.std.specs.List.{list_all}
@@ -39,7 +39,7 @@ set-twice (z ∷ xs) (suc i) x y = ap (λ l. z ∷ l) (set-twice xs i x y)
 either_le : (m n : ℕ) → (m ≤ n) ⊎ (n ≤ m)
 either_le m n = ⊎_elim (λ (h : nat_lt m n ≡ true). inl (let l = ltb-true m n h in omega arith)) (λ (h : nat_lt m n ≡ false). inr (ltb-false m n h)) (cases_Bool (nat_lt m n))
 
--- who does not act stays
+-- A tick of a general without an activation changes nothing.
 pub idle_turn : (ps : List Progress) (b : RecordedBoard) (g r place : ℕ) (x : Progress) → place ≡ g → slice_get ps place ≡ Some x → x ≡ Silent ⊎ x ≡ Posted → (slice_set ps place x, b) ≡ ticked_of g r ps b (slice_get ps g)
 idle_turn ps b g r place x same at kind =
     let same_list : slice_set ps place x ≡ ps = set-same ps place x at in
@@ -67,14 +67,14 @@ acting_ahead limit taken ps g place x a b same at kind way pause within is =
     let A : Option Progress → Type 0 = λ o. AheadTo limit taken ps g o (slice_set ps place (Acting b)) in
     subst A (sym there) (b, subst (λ (n : ℕ). Runs n a [] b) k way.1, most, pause, ap (λ (n : ℕ). slice_set ps n (Acting b)) same)
 
--- one general more
+-- One more general is considered.
 pub more_each : {A : Type 0} (n : ℕ) (f : ℕ → List A) (xs x ys : List A) → ys ≡ xs ++ x → xs ≡ each n f → x ≡ f n → ys ≡ each (n + 1) f
 more_each n f xs x ys e h is = e ∙ ((λ i. h i ++ is i) ∙ (let m : suc n ≡ n + 1 = omega arith in ap (λ (k : ℕ). each k f) m))
 
 pub none_written : {A : Type 0} (xs ys : List A) → ys ≡ [] → xs ≡ xs ++ ys
 none_written {A = A} xs ys e = sym (append-nil xs) ∙ ap (λ (l : List A). xs ++ l) (sym e)
 
--- an acting general's letter
+-- The letter of a general with an activation.
 pub letter_at : (n g h r : ℕ) (accesses : List Access) (ps : List Progress) (a : Activation) → AreLetters (suc n) accesses ps → slice_get ps g ≡ Some (Acting a) → h ≡ g → r ≡ suc n → IsLetter (letter_left h r (accesses_of h accesses) a)
 letter_at n g h r accesses ps a runs at same counted =
     subst (λ (m : ℕ). IsLetter (letter_left h m (accesses_of h accesses) a)) (sym counted)
@@ -102,7 +102,7 @@ module _ (K : Kind) where
     ticked_is g (Some Silent) e = refl
     ticked_is g (Some Posted) e = refl
 
-    -- a tick that is done is the event
+    -- A tick of the code is the tick of the definition.
     pub tick_is : (g r : ℕ) (ps' : List Progress) (k' : RecordedBoard) → r ≡ suc (length closed) → (ps', k') ≡ ticked_of g r ps k (slice_get ps g) →
         world_of s closed k' opened ps' full ≡ happen K (world_of s closed k opened ps full) (Tick g)
     tick_is g r ps' k' counted done =
@@ -118,7 +118,7 @@ module _ (K : Kind) where
     pub post_is : (g : ℕ) (ps' : List Progress) → ps' ≡ posted_of g ps (slice_get ps g) → world_of s closed k opened ps' full ≡ happen K (world_of s closed k opened ps full) (Post g)
     post_is g ps' done = ap (λ (p : List Progress). world_of s closed k opened p full) done ∙ posted_is g (slice_get ps g)
 
-    -- after any events from a held world the world is held
+    -- After further events, what the code guarantees about a world still holds.
     pub held_on : (closed' : List (List Letter)) (k' : RecordedBoard) (opened' : ℕ) (ps' : List Progress) (full' : Bool) (events : List Event) → IsHeld K s closed k opened ps full →
         world_of s closed' k' opened' ps' full' ≡ run K (world_of s closed k opened ps full) events → k'.opening ≡ k.opening → IsHeld K s closed' k' opened' ps' full'
     held_on closed' k' opened' ps' full' events h is same = record {
@@ -155,7 +155,7 @@ module _ (K : Kind) where
     pub is_open : length closed ≤ s.bound → round_open s closed ≡ true
     is_open le = lt-ltb (length closed) (suc s.bound) (omega arith)
 
-  -- some turns without an access are as many ticks
+  -- Turns without an access are as many ticks.
   module _ (s : Scenario) (closed : List (List Letter)) (k : RecordedBoard) (opened : ℕ) (full : Bool) where
     step_by : (n g : ℕ) (ps : List Progress) (a b : Activation) (t : Turn) → turn a ≡ t → slice_get ps g ≡ Some (Acting a) →
         ((c : Activation) → Runs n c [] b → run K (world_of s closed k opened (slice_set ps g (Acting c)) full) (replicate n (Tick g)) ≡ world_of s closed k opened (slice_set (slice_set ps g (Acting c)) g (Acting b)) full) →
@@ -179,7 +179,7 @@ module _ (K : Kind) where
     ahead_is limit taken g ps ps' (Some Silent) e h = ap (λ (n : ℕ). run K (world_of s closed k opened ps full) (replicate n (Tick g))) h.0 ∙ ap (λ (l : List Progress). world_of s closed k opened l full) (sym h.1)
     ahead_is limit taken g ps ps' (Some Posted) e h = ap (λ (n : ℕ). run K (world_of s closed k opened ps full) (replicate n (Tick g))) h.0 ∙ ap (λ (l : List Progress). world_of s closed k opened l full) (sym h.1)
 
-  -- nobody there, or one who keeps silent
+  -- A general who has not posted, or does not exist, has no letter.
   pub silent_row : (s : Scenario) (c : List (List Letter)) (a : List Access) (ps : List Progress) (g : ℕ) (o : Option Progress) (xs : List Letter) → slice_get ps g ≡ o → letter_held K s c a g o ≡ [] →
       xs ≡ xs ++ letter_held K s c a g (slice_get ps g)
   silent_row s c a ps g o xs is none = none_written xs (letter_held K s c a g (slice_get ps g)) (ap (λ (p : Option Progress). letter_held K s c a g p) is ∙ none)
@@ -188,7 +188,7 @@ module _ (K : Kind) where
       ys ≡ xs ++ letter_held K s c accesses g (slice_get ps g)
   row_with s c accesses ps g o xs ys l at pushed is = pushed ∙ (ap (λ (row : List Letter). xs ++ row) is ∙ ap (λ (p : Option Progress). xs ++ letter_held K s c accesses g p) (sym at))
 
-  -- so the row is that of the world
+  -- The letters that the code makes are those of the world.
   same_letter : (w : World) (g : ℕ) (o : Option Progress) → ((a : Activation) → o ≡ Some (Acting a) → IsPlaced K w.scenario w.closed g a) → letter_held K w.scenario w.closed (drop w.opened w.ledger) g o ≡ letters_at K w g o
   same_letter w g None h = refl
   same_letter w g (Some (Acting a)) h =
@@ -209,14 +209,14 @@ module _ (K : Kind) where
   pub same_rows : (s : Scenario) (c c' : List (List Letter)) (a a' : List Access) (p p' : List Progress) → c' ≡ c → a' ≡ a → p' ≡ p → letters_held K s c' a' p' ≡ letters_held K s c a p
   same_rows s c c' a a' p p' e f h = (λ i. letters_held K s (e i) (f i) (h i))
 
-  -- a world has as many rounds at most
+  -- A world has at most as many closed rounds as the campaign has rounds.
   pub held_few : (s : Scenario) (closed : List (List Letter)) (k : RecordedBoard) (opened : ℕ) (ps : List Progress) (full : Bool) → IsScenario s → IsHeld K s closed k opened ps full → length closed ≤ suc s.bound
   held_few s closed k opened ps full is h =
       let Q : World → Type 0 = λ v. length v.closed ≤ suc v.scenario.bound in
       subst Q h.reached.1 (run_kept K h.reached.0 (opening K s) (opening_kept K s is.board)).closed
 
 module _ (K : Kind) (good : AreCampaigns K) (tell : TellRelays K) where
-  -- what the acting generals of a held world have done
+  -- The activations of a world are runs of the letters made from them.
   pub held_letters : (s : Scenario) (closed : List (List Letter)) (k : RecordedBoard) (opened : ℕ) (ps : List Progress) (full : Bool) (accesses : List Access) → IsScenario s → IsHeld K s closed k opened ps full → accesses ≡ drop opened k.ledger →
       AreLetters (suc (length closed)) accesses ps
   held_letters s closed k opened ps full accesses is h same g a at =
@@ -240,7 +240,7 @@ module _ (K : Kind) (good : AreCampaigns K) (tell : TellRelays K) where
         each-same s.generals (λ g. letter_held K s closed (drop opened k.ledger) g (slice_get ps g)) (λ g. letters_at K w g (slice_get ps g))
         (λ g. same_letter K w g (slice_get ps g) (λ a e. placed g a e))
 
-    -- what is made for a close is the event
+    -- A close of the code is the close of the definition.
     pub close_is : (row : List Letter) (closed' : List (List Letter)) (opened' : ℕ) (ps' : List Progress) (full' : Bool) → IsScenario s → IsHeld K s closed k opened ps full → length closed ≤ s.bound →
         row ≡ letters_held K s closed (drop opened k.ledger) ps → closed' ≡ closed ++ row ∷ [] → ps' ≡ beginnings K s closed' → opened' ≡ length k.ledger → full' ≡ (full && list_all owes_no_letter ps) →
         world_of s closed' k opened' ps' full' ≡ happen K (world_of s closed k opened ps full) Close

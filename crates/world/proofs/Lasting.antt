@@ -1,4 +1,4 @@
--- Listed and replayed lists, round by round.
+-- The events of schedules and replays, round by round.
 use Rattle.std.proofs.Common.{◌≡◌, ℕ, zero, suc, ◌+◌, ◌<◌, ◌≤◌, List, [], ◌∷◌, ◌++◌, length, map, true, refl, sym, ap, subst, ◌∙◌, Option, Some, None, arith, length-append, append_assoc}
 use Rattle.std.specs.Prelude.{slice_get, nat_lt, filter}
 use Rattle.std.proofs.lemmas.Bool.{lt-ltb, ltb-true}
@@ -38,7 +38,7 @@ named_moves g (Some Silent) = tt
 named_moves g (Some Posted) = tt
 
 module _ (K : Kind) where
-  -- a world of the scenario whose activations end in time
+  -- A world of the scenario whose activations end in time.
   pub record IsOnTime (s : Scenario) (w : World) : Type 0 where
     pub scenario : w.scenario ≡ s
     pub kept : IsKept K w
@@ -53,7 +53,7 @@ module _ (K : Kind) where
   pub close_open : (w : World) → round_open w.scenario w.closed ≡ true → happen K w Close ≡ closing K w
   close_open w h = rw h refl
 
-  -- a round of moves, all posts, all ends and the close
+  -- The events of one round: moves, all posts, all ends and the close.
   pub record RoundDone (s : Scenario) (w : World) (es : List Event) : Type 0 where
     pub punctual : Throughout K (AtClose (OwesNoLetter)) w es
     pub ended : Throughout K (AtClose (HasEnded)) w es
@@ -93,7 +93,7 @@ module _ (K : Kind) where
         one_more = ap (λ v. length v.closed) end ∙ (let l = length-append w3.closed (round_letters K w3 ∷ []) in let c = ap length closed_is in omega arith);
       }
 
-  -- what is to come from here ends with all rounds closed
+  -- States that with these further events all rounds are closed in the end.
   pub record Ends (s : Scenario) (w : World) (es : List Event) : Type 0 where
     pub punctual : Throughout K (AtClose (OwesNoLetter)) w es
     pub ended : Throughout K (AtClose (HasEnded)) w es

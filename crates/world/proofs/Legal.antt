@@ -1,4 +1,4 @@
--- In every run the ledger is legal, and has accesses of traitors alone.
+-- In every run the ledger is legal, and only traitors have made accesses.
 use Rattle.std.proofs.Common.{◌≡◌, ℕ, zero, suc, ◌<◌, List, [], ◌∷◌, length, Bool, true, false, cond, refl, sym, ap, subst, ◌∙◌, Option, Some, None, arith, All}
 use Rattle.std.specs.Prelude.{slice_get, is_some}
 use Rattle.std.proofs.lemmas.List.Elements.{All-append}

@@ -1,4 +1,4 @@
--- Lists of events, entry by entry, name by name and round by round.
+-- Lists of events: entry by entry, name by name and round by round.
 use Rattle.std.proofs.Common.{◌≡◌, ℕ, zero, suc, ◌+◌, ◌-◌, ◌<◌, ◌≤◌, List, [], ◌∷◌, ◌++◌, map, drop, Bool, refl, sym, ap, ◌∙◌, Option, Some, None, arith}
 use Rattle.std.specs.Prelude.{slice_get, slice_index_or, replicate, nat_lt, filter, OnOk}
 use Rattle.std.proofs.Common.{Result, Ok, Err, subst}
@@ -23,7 +23,7 @@ use Rattle.world.proofs.Moves.{run-append}
 use Rattle.world.proofs.Punctual.{run_scenario}
 use Rattle.world.specs.Campaigns.{AreCampaigns}
 
--- entries of a general are his events, and of a number that is none nothing
+-- A general's entries are his events. An entry that names no general is no event.
 pub line_of : (s : Scenario) (g n : ℕ) → g < s.generals → line_events s (replicate n g) ≡ replicate n (event_of g (program_of s g))
 line_of s g zero lt = refl
 line_of s g (suc n) lt = rw (lt-ltb g s.generals lt) (ap (λ l. event_of g (program_of s g) ∷ l) (line_of s g n lt))
@@ -32,7 +32,7 @@ pub line_none : (s : Scenario) (g n : ℕ) → s.generals ≤ g → line_events 
 line_none s g zero le = refl
 line_none s g (suc n) le = rw (le-ltb g s.generals le) (line_none s g n le)
 
--- the line of a round
+-- The line of a round.
 pub line_first : (schedule : List (List Repeat)) (i : ℕ) → first_line (lines_by (drop i schedule)) ≡ entries_of (slice_index_or schedule i [])
 line_first [] zero = refl
 line_first [] (suc i) = refl
@@ -45,7 +45,7 @@ line_later [] (suc i) = refl
 line_later (line ∷ lines) zero = refl
 line_later (line ∷ lines) (suc i) = line_later lines i
 
--- the lines from one on
+-- The lines from a round on.
 pub names_first : (names : List (List ℕ)) (i : ℕ) → first_line (drop i names) ≡ slice_index_or names i []
 names_first [] zero = refl
 names_first [] (suc i) = refl
@@ -64,7 +64,7 @@ drop_at (y ∷ ys) zero x e = (let f : y ≡ x = cc in ap (λ z. z ∷ ys) f)
 drop_at (y ∷ ys) (suc i) x e = drop_at ys i x e
 
 module _ (K : Kind) where
-  -- a second post changes nothing
+  -- A second post changes nothing.
   post_again : (w : World) (g : ℕ) (o : Option Progress) → slice_get w.parts g ≡ o → happen K (posting w g o) (Post g) ≡ posting w g o
   post_again w g None e = ap (λ (p : Option Progress). posting w g p) e
   post_again w g (Some (Acting a)) e = ap (λ (p : Option Progress). posting w g p) e
@@ -75,7 +75,7 @@ module _ (K : Kind) where
   posts_once zero w g = refl
   posts_once (suc n) w g = (let again : happen K (happen K w (Post g)) (Post g) ≡ happen K w (Post g) = post_again w g (slice_get w.parts g) refl in posts_once n (happen K w (Post g)) g ∙ again)
 
-  -- the entries of one general, and those behind them
+  -- The entries of one general come first, and then the other entries.
   pub line_step : (s : Scenario) (w v : World) (r : Repeat) (rest : List Repeat) → v ≡ run K w (line_events s (replicate r.times r.general)) →
       run K w (line_events s (entries_of (r ∷ rest))) ≡ run K v (line_events s (entries_of rest))
   line_step s w v r rest is =
@@ -85,7 +85,7 @@ module _ (K : Kind) where
       ap (run K w) (ap (map f) (filter-append p one (entries_of rest)) ∙ map-append f (filter p one) (filter p (entries_of rest)))
       ∙ (run-append K (line_events s one) (line_events s (entries_of rest)) w ∙ ap (λ (x : World). run K x (line_events s (entries_of rest))) (sym is))
 
-  -- one listed round
+  -- One round of a schedule.
   pub listed_step : (s : Scenario) (k i : ℕ) (schedule : List (List Repeat)) (w v u : World) → v ≡ run K w (line_events s (entries_of (slice_index_or schedule i []))) → u ≡ run K v (wound_up s) →
       run K w (listed_rounds s (suc k) (lines_by (drop i schedule))) ≡ run K u (listed_rounds s k (lines_by (drop (suc i) schedule)))
   listed_step s k i schedule w v u line wound =
@@ -98,13 +98,13 @@ module _ (K : Kind) where
       ∙ (ap (λ (x : World). run K x rest) (sym wound)
       ∙ ap (λ (l : List (List ℕ)). run K u (listed_rounds s k l)) (line_later schedule i)))))
 
-  -- one name
+  -- One name.
   pub names_step : (w v : World) (g : ℕ) (names : List ℕ) → v ≡ run K w (ticks_named g (slice_get w.parts g)) → run K w (names_events K w (g ∷ names)) ≡ run K v (names_events K v names)
   names_step w v g names is =
       let ticks = ticks_named g (slice_get w.parts g) in
       run-append K ticks (names_events K (run K w ticks) names) w ∙ ap (λ (x : World). run K x (names_events K x names)) (sym is)
 
-  -- one replayed round
+  -- One round of a replay.
   pub replayed_step : (k i : ℕ) (names : List (List ℕ)) (w v u : World) → v ≡ run K w (names_events K w (slice_index_or names i [])) → u ≡ run K v (wound_up w.scenario) →
       run K w (replayed_rounds K w (suc k) (drop i names)) ≡ run K u (replayed_rounds K u k (drop (suc i) names))
   replayed_step k i names w v u named wound =
@@ -118,13 +118,13 @@ module _ (K : Kind) where
       ∙ (ap (λ (x : World). run K x (replayed_rounds K x k (later_lines (drop i names)))) there
       ∙ ap (λ (l : List (List ℕ)). run K u (replayed_rounds K u k l)) (names_later names i))
 
-  -- one general more, of those that post or are ticked
+  -- One more general posts or is ticked.
   pub each_step : (n : ℕ) (f : ℕ → List Event) (w v u : World) → v ≡ run K w (each n f) → u ≡ run K v (f n) → u ≡ run K w (each (n + 1) f)
   each_step n f w v u is more =
       let m : suc n ≡ n + 1 = omega arith in
       more ∙ (ap (λ (x : World). run K x (f n)) is ∙ (sym (run-append K (each n f) (f n) w) ∙ ap (λ (k : ℕ). run K w (each k f)) m))
 
-  -- posts, ticks and the close
+  -- Posts, ticks and the close finish a round.
   pub wound_is : (s : Scenario) (w v u t : World) → v ≡ run K w (each s.generals (λ g. post_of g (program_of s g))) → u ≡ run K v (each s.generals (λ g. ticks_of g (program_of s g))) → t ≡ happen K u Close →
       t ≡ run K w (wound_up s)
   wound_is s w v u t posts ticks close =
@@ -134,7 +134,7 @@ module _ (K : Kind) where
       ∙ (ap (λ (x : World). happen K (run K x ts) Close) posts
       ∙ (sym (run-append K ts (Close ∷ []) (run K w ps)) ∙ sym (run-append K ps (ts ++ Close ∷ []) w))))
 
-  -- one entry more of a line
+  -- One more entry of a line.
   pub line_more : (s : Scenario) (w v u : World) (rs : List Repeat) (i : ℕ) (r : Repeat) → slice_get rs i ≡ Some r → v ≡ run K w (line_events w.scenario (replicate r.times r.general)) → w.scenario ≡ s →
       run K w (line_events s (entries_of (drop i rs))) ≡ u → (v.scenario ≡ s) × (run K v (line_events s (entries_of (drop (i + 1) rs))) ≡ u)
   line_more s w v u rs i r at is same left =
@@ -146,7 +146,7 @@ module _ (K : Kind) where
             ∙ (ap (λ (l : List Repeat). run K w (line_events s (entries_of l))) (sym (drop_at rs i r at)) ∙ left)),
       )
 
-  -- one name more of a round
+  -- One more name of a round.
   pub names_more : (w v u : World) (names : List ℕ) (i g h : ℕ) → slice_get names i ≡ Some g → h ≡ g → v ≡ run K w (ticks_named h (slice_get w.parts h)) → run K w (names_events K w (drop i names)) ≡ u → run K v (names_events K v (drop (i + 1) names)) ≡ u
   names_more w v u names i g h at same is left =
       let is' : v ≡ run K w (ticks_named g (slice_get w.parts g)) = is ∙ ap (λ (n : ℕ). run K w (ticks_named n (slice_get w.parts n))) same in
@@ -154,7 +154,7 @@ module _ (K : Kind) where
       ap (λ (k : ℕ). run K v (names_events K v (drop k names))) (sym m)
       ∙ (sym (names_step w v g (drop (suc i) names) is') ∙ (ap (λ (l : List ℕ). run K w (names_events K w l)) (sym (drop_at names i g at)) ∙ left))
 
-  -- one general more
+  -- One more general.
   pub each_more : (f : Scenario → ℕ → List Event) (n : ℕ) (w v u : World) → v ≡ run K w (each n (f w.scenario)) → u ≡ run K v (f v.scenario n) → u ≡ run K w (each (n + 1) (f w.scenario))
   each_more f n w v u is more =
       let same : v.scenario ≡ w.scenario = ap (λ (x : World). x.scenario) is ∙ run_scenario K (each n (f w.scenario)) w in
@@ -165,7 +165,7 @@ module _ (K : Kind) where
       let t : v.scenario.generals ≡ w.scenario.generals = ap (λ (x : World). x.scenario.generals) is ∙ ap (λ (x : Scenario). x.generals) (run_scenario K es w) in
       omega arith
 
-  -- posts, ends and the close, one behind the other
+  -- Posts, ends and the close, one after another.
   pub wound_by : (w v u t : World) → v ≡ run K w (each w.scenario.generals (λ g. post_of g (program_of w.scenario g))) → u ≡ run K v (each v.scenario.generals (λ g. ticks_of g (program_of v.scenario g))) → t ≡ happen K u Close →
       t ≡ run K w (wound_up w.scenario)
   wound_by w v u t posts ticks close =
@@ -177,7 +177,7 @@ module _ (K : Kind) where
       let same : v.scenario ≡ w.scenario = ap (λ (x : World). x.scenario) is ∙ run_scenario K es w in
       wound ∙ ((λ i. run K v (wound_up (same i))) ∙ ap (λ (x : World). run K x (wound_up w.scenario)) is)
 
-  -- round by round
+  -- Rounds are played one after another.
   pub play_first : (s : Scenario) (schedule : List (List Repeat)) (w : World) (n : ℕ) → n ≡ s.bound + 1 →
       run K w (listed_rounds s (n - 0) (lines_by (drop 0 schedule))) ≡ run K w (listed_rounds s (suc s.bound) (lines_by schedule))
   play_first s schedule w n counted = (let m : n - 0 ≡ suc s.bound = omega arith in ap (λ (k : ℕ). run K w (listed_rounds s k (lines_by schedule))) m)
@@ -216,13 +216,13 @@ module _ (K : Kind) where
   pub replay_last : (n i : ℕ) (names : List (List ℕ)) (w target : World) → n ≤ i → run K w (replayed_rounds K w (n - i) names) ≡ target → w ≡ target
   replay_last n i names w target le left = (let z : 0 ≡ n - i = omega arith in ap (λ (k : ℕ). run K w (replayed_rounds K w k names)) z ∙ left)
 
-  -- so many entries of one general
+  -- Repeated entries of one general.
   pub entries_ok : {A E : Type 0} (result : Result A E) (w v : World) (g n m : ℕ) → g < w.scenario.generals → m ≡ n → OnOk result (v ≡ run K w (replicate m (event_of g (program_of w.scenario g)))) →
       OnOk result (v ≡ run K w (line_events w.scenario (replicate n g)))
   entries_ok (Ok x) w v g n m lt same h = h ∙ (ap (λ (k : ℕ). run K w (replicate k (event_of g (program_of w.scenario g)))) same ∙ ap (λ (l : List Event). run K w l) (sym (line_of w.scenario g n lt)))
   entries_ok (Err x) w v g n m lt same h = tt
 
-  -- from the opening on
+  -- The events from the opening on are the whole campaign.
   pub played_is : (s : Scenario) (lines : List (List ℕ)) (w v : World) → w ≡ opening K s → v ≡ run K w (listed_rounds w.scenario (suc w.scenario.bound) lines) → v ≡ run K (opening K s) (listed s lines)
   played_is s lines w v opened is = is ∙ ap (λ (x : World). run K x (listed_rounds x.scenario (suc x.scenario.bound) lines)) opened
 
@@ -249,7 +249,7 @@ module _ (K : Kind) where
   replay_next n i names line w u target lt at is left = replay_more n i names w u target lt (is ∙ ap (λ (l : List ℕ). run K (run K w (names_events K w l)) (wound_up w.scenario)) at) left
 
 module _ (K : Kind) (good : AreCampaigns K) where
-  -- what is listed comes to its end
+  -- A schedule's events lead to a finished world.
   pub listed_finished : (s : Scenario) (lines : List (List ℕ)) → IsScenario s → IsFinished (run K (opening K s) (listed s lines))
   listed_finished s lines is =
       let complete = listed_complete K s (good s is) lines in
@@ -262,7 +262,7 @@ module _ (K : Kind) (good : AreCampaigns K) where
   pub played_finished : (s : Scenario) (lines : List (List ℕ)) (w : World) → IsScenario s → w ≡ run K (opening K s) (listed s lines) → IsFinished w
   played_finished s lines w is same = subst (λ (v : World). IsFinished v) (sym same) (listed_finished s lines is)
 
-  -- so does what is replayed
+  -- A replay's events lead to a finished world.
   pub replayed_finished : (s : Scenario) (names : List (List ℕ)) (w : World) → IsScenario s → w ≡ run K (opening K s) (replayed K s names) → IsFinished w
   replayed_finished s names w is same =
       let complete = replayed_complete K s (good s is) names in

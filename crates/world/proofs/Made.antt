@@ -1,4 +1,4 @@
--- The accesses of a round are those of its traitors, and a ripe round's letters account for them.
+-- Only traitors make the accesses of a round, and the round's letters account for them.
 use Rattle.std.proofs.Common.{◌≡◌, ◌≢◌, ℕ, zero, suc, ◌+◌, ◌<◌, ◌≤◌, List, [], ◌∷◌, ◌++◌, length, drop, Bool, true, false, cond, refl, sym, ap, subst, ◌∙◌, ⊎_elim, Option, Some, None, append_assoc, append-nil, arith, length-append, All}
 use Rattle.std.specs.Prelude.{slice_get, ◌==◌, sum_by, is_some, ◌||◌}
 use Rattle.std.proofs.lemmas.Bool.{ne_eqb, true≢false}
@@ -28,7 +28,7 @@ use Rattle.round.proofs.Patience.{under, runs_under, Kept, runs_kept, within_non
 use Rattle.world.proofs.Ways.{access, Came}
 use Rattle.world.proofs.Cutting.{AreBelow}
 
--- each entry is a traitor's, of this round
+-- States that each entry is a traitor's and of this round.
 abbrev pub AreMade : Scenario → ℕ → List Access → Type 0
 AreMade s r [] = Unit {0}
 AreMade s r (x ∷ piece) = ((x.general < s.generals) × (x.round ≡ r) × (is_traitor s x.general ≡ true)) × AreMade s r piece
@@ -46,13 +46,13 @@ made_below : (s : Scenario) (r : ℕ) (piece : List Access) → AreMade s r piec
 made_below s r [] h = tt
 made_below s r (x ∷ piece) h = (h.0.0, made_below s r piece h.1)
 
--- a loyal general has none
+-- A loyal general has no entry.
 made_none : (s : Scenario) (r g : ℕ) (piece : List Access) → AreMade s r piece → is_traitor s g ≡ false → accesses_of g piece ≡ []
 made_none s r g [] h loyal = refl
 made_none s r g (x ∷ piece) h loyal =
     rw (ne_eqb x.general g (λ e. true≢false (sym h.0.2 ∙ (ap (is_traitor s) e ∙ loyal)))) (made_none s r g piece h.1 loyal)
 
--- single letters, in order
+-- States that each general has exactly one letter.
 abbrev Singles : ℕ → (ℕ → List Letter) → Type 0
 Singles n f = (g : ℕ) → g < n → (l : Letter) × (f g ≡ l ∷ [])
 
@@ -83,7 +83,7 @@ singles_get (suc n) f h g l e =
     (omega arith, r.1))
     (eqb_tells g n)
 
--- how many accesses the first generals have together
+-- Returns how many of the accesses the first generals have made together.
 abbrev total : ℕ → List Access → ℕ
 total zero piece = 0
 total (suc n) piece = total n piece + length (accesses_of n piece)
@@ -109,7 +109,7 @@ total_one (suc n) x piece =
           let e = before.1 (omega arith) in omega arith),
     )
 
--- all generals have all
+-- All generals together have made all accesses.
 total_all : (n : ℕ) (piece : List Access) → AreBelow n piece → total n piece ≡ length piece
 total_all n [] h = total_none n
 total_all n (x ∷ piece) h = (let e = total_all n piece h.1 in let f = (total_one n x piece).0 h.0 in omega arith)
@@ -123,7 +123,7 @@ singles_sum piece (suc n) f h =
     omega (arith, sum_by-append (λ l. length l.transcript) (each n f) (f n))
 
 module _ (K : Kind) where
-  -- what the open round has added to the ledger
+  -- What the open round has added to the ledger.
   pub record Added (s : Scenario) (first w : World) : Type 0 where
     pub piece : List Access
     pub ledger : w.ledger ≡ first.ledger ++ piece
@@ -166,7 +166,7 @@ module _ (K : Kind) where
     abbrev first : World
     first = begun K s closed words ledger true
 
-    -- the activation with which a traitor's part began
+    -- The activation with which a traitor began the round.
     starts : (b : Bool) (g : ℕ) (a : Activation) (program : List Insn) → program_of s g ≡ Some program → slice_get (cond b (each s.generals (λ h. begins K s closed h (program_of s h) ∷ [])) []) g ≡ Some (Acting a)
         → started s.patience program (K.context s closed g) (K.relay s closed g) ≡ a
     starts true g a program is e =
@@ -174,7 +174,7 @@ module _ (K : Kind) where
         let f : Acting a ≡ begins K s closed g (Some program) = h.1 ∙ ap (begins K s closed g) is in cc
     starts false g a program is e = cc
 
-    -- a general's letter, in a ripe world
+    -- A general's letter at the end of a round.
     letter_made : (w : World) (piece : List Access) → w.scenario ≡ s → w.closed ≡ closed → drop w.opened w.ledger ≡ piece → AreMade s (suc (length closed)) piece → IsRipe w
         → ((g : ℕ) (a : Activation) → slice_get w.parts g ≡ Some (Acting a) → Came K (begun K s closed words ledger true) piece g a)
         → (g : ℕ) (part : Progress) → slice_get w.parts g ≡ Some part → (o : Option (List Insn)) → program_of s g ≡ o → Fits o part
@@ -206,7 +206,7 @@ module _ (K : Kind) where
         (loyal_letter K s closed g, (λ i. loyal_letter K (sc i) (cl i) g ∷ []), refl, made_none s (suc (length closed)) g piece made (ap is_some is))
     letter_made w piece sc cl op made ripe came g Posted at (Some program) is fits = absurd fits
 
-    -- the letters of a ripe round account for what it added, and have as many accesses
+    -- The letters at the end of a round account for what it added to the ledger, and have as many accesses.
     pub record Accounts (w : World) (piece : List Access) : Type 0 where
       pub round : IsAccountedRound K s closed piece (round_letters K w)
       pub count : sum_by (λ l. length l.transcript) (round_letters K w) ≡ length piece

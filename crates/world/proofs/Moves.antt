@@ -1,4 +1,4 @@
--- What ticks and posts keep.
+-- What ticks and posts do not change.
 use Rattle.std.proofs.Common.{◌≡◌, ◌≢◌, ℕ, zero, suc, List, [], ◌∷◌, ◌++◌, length, true, refl, sym, ap, subst, ◌∙◌, ◌⊎◌, inl, inr, ⊎_elim, Option, Some, None, arith}
 use Rattle.std.specs.Prelude.{slice_get, slice_set}
 use Rattle.world.specs.KindLists.{IsMove, AreMoves}
@@ -25,7 +25,7 @@ pub moves-append : (es fs : List Event) → AreMoves es → AreMoves fs → AreM
 moves-append [] fs a b = b
 moves-append (e ∷ es) fs a b = (a.0, moves-append es fs a.1 b)
 
--- what a round keeps as it is
+-- States what stays the same during a round.
 pub record SameRound (w v : World) : Type 0 where
   pub scenario : v.scenario ≡ w.scenario
   pub closed : v.closed ≡ w.closed
@@ -73,11 +73,11 @@ posting_board w g (Some (Acting a)) board = board
 posting_board w g (Some Silent) board = board
 posting_board w g (Some Posted) board = board
 
--- each general's part has the property
+-- States that each general's part has the property.
 abbrev pub AllParts : (ℕ → Progress → Type 0) → List Progress → Type 0
 AllParts Q parts = (g : ℕ) (part : Progress) → slice_get parts g ≡ Some part → Q g part
 
--- a property that steps and posts keep
+-- A property that steps and posts keep.
 pub record IsLasting (Q : ℕ → Progress → Type 0) : Type 0 where
   pub goes : (g : ℕ) (a b : Activation) → Q g (Acting a) → turn a ≡ Goes b → Q g (Acting b)
   pub asks : (g : ℕ) (a : Activation) (q : Request) (f : List ℕ → Activation) (r : List ℕ) → Q g (Acting a) → turn a ≡ Asks q f → fits q r ≡ true → Q g (Acting (f r))
@@ -97,7 +97,7 @@ module _ (K : Kind) where
   run-append [] fs w = refl
   run-append (e ∷ es) fs w = run-append es fs (happen K w e)
 
-  -- a board stays a board
+  -- The board still has 64 words.
   pub move_board : (w : World) (e : Event) → IsMove e → IsBoard w.words → IsBoard (happen K w e).words
   move_board w (Tick g) i board = ticked_board w g (slice_get w.parts g) board
   move_board w (Post g) i board = posting_board w g (slice_get w.parts g) board

@@ -1,4 +1,4 @@
--- What decisions and verdicts of finished campaigns are.
+-- Decisions and verdicts of finished campaigns.
 use Rattle.std.proofs.Common.{◌≡◌, ℕ, ◌<◌, List, Bool, true, length, arith, sym, ap, subst, ◌∙◌}
 use Rattle.std.proofs.lemmas.List.{length-map}
 use Rattle.label.specs.Oral.{Messages}
@@ -18,7 +18,7 @@ use Rattle.world.proofs.Punctual.{run_scenario}
 use Rattle.world.proofs.Holding.{held_few}
 use Rattle.world.proofs.Verdicts.{proved_decisions_agree, proved_verdicts_mean}
 
--- in a held world that is finished they agree
+-- In a finished world the loyal lieutenants agree under the bound.
 pub held_agree : (s : Scenario) (closed : List (List Letter)) (k : RecordedBoard) (opened : ℕ) (ps : List Progress) (full : Bool) → IsScenario s → IsHeld s closed k opened ps full → IsFinished (world_of s closed k opened ps full) →
     AgreeUnderBound s (decisions s (messages closed))
 held_agree s closed k opened ps full is h done bound =
@@ -31,7 +31,7 @@ decided_agree s closed k opened ps full w xs is h same decided done =
     let A : World → Type 0 = λ v. IsFinished v → AgreeUnderBound v.scenario (decisions v.scenario (messages v.closed)) in
     subst (λ (ds : List ℕ). AgreeUnderBound w.scenario ds) (sym decided) (subst A same (held_agree s closed k opened ps full is h) done)
 
--- where no round is open and it is full
+-- A world is finished if no round is open and every loyal general had posted in each.
 pub is_done : (s : Scenario) (closed : List (List Letter)) (k : RecordedBoard) (opened : ℕ) (ps : List Progress) (full : Bool) (w : World) (len from : ℕ) → IsScenario s → IsHeld s closed k opened ps full → world_of s closed k opened ps full ≡ w →
     len ≡ length closed → from ≡ s.bound → from < len → full ≡ true → IsFinished w
 is_done s closed k opened ps full w len from is h same counted bound past filled =

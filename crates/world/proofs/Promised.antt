@@ -1,4 +1,4 @@
--- What holds of the activations, accesses and letters of a complete list of events.
+-- What holds for the activations, accesses and letters of a complete list of events.
 use Rattle.std.proofs.Common.{◌≡◌, List, sym, subst}
 use Rattle.round.specs.Scenario.{Scenario, IsScenario}
 use Rattle.world.specs.declared.event.Event.{Event}
@@ -22,7 +22,7 @@ module _ (K : Kind) (good : AreCampaigns K) (s : Scenario) (events : List Event)
   whole_letters complete =
       let both = (runs_are_accounted K good).rounds s events is complete in record { legal = both.0; accounted = both.1 }
 
--- the letters of an oral chronicle
+-- The letters of an oral chronicle are complete.
 pub whole_told : (s : Scenario) (events : List Event) (c : Chronicle) → IsScenario s → IsComplete oral_kind s events → c ≡ chronicle_of (run oral_kind (opening oral_kind s) events) →
     AreWhole oral_kind s c.accesses c.letters
 whole_told s events c is complete same =

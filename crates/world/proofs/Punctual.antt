@@ -1,4 +1,4 @@
--- Punctual lists leave a full world, and no event changes the scenario.
+-- After punctual events every loyal general has posted in each closed round. No event changes the scenario.
 use Rattle.std.proofs.Common.{◌≡◌, ℕ, suc, List, [], ◌∷◌, Bool, true, false, cond, refl, ap, ◌∙◌, Some}
 use Rattle.std.specs.Prelude.{slice_get, ◌&&◌}
 use Rattle.std.specs.List.{list_all}

@@ -1,4 +1,4 @@
--- A refused event leaves the world as it was.
+-- A rejected event leaves the world unchanged.
 use Rattle.std.proofs.Common.{◌≡◌, ℕ, List, [], ◌∷◌, length, Bool, true, false, cond, refl, sym, ap, ◌∙◌, Option, Some, None}
 use Rattle.std.specs.Prelude.{slice_get}
 use Rattle.world.specs.declared.event.Event.{Event}
@@ -15,7 +15,7 @@ use Rattle.world.specs.KindLists.{IsMove}
 use Rattle.world.proofs.Moves.{move_same}
 use Rattle.std.proofs.lemmas.List.{nil_from_length}
 
--- behind the last round nobody has a part
+-- States that after the last round nobody has a part.
 abbrev IsClear : World → Type 0
 IsClear w = round_open w.scenario w.closed ≡ false → w.parts ≡ []
 
@@ -31,7 +31,7 @@ post_still w g r (Some (Acting a)) e = refl
 post_still w g r (Some Silent) e = absurd (let f : None ≡ Some r = e in cc)
 post_still w g r (Some Posted) e = refl
 
--- behind the last round nobody acts or has posted
+-- If somebody has a part, a round is open.
 part_open : (w : World) → IsClear w → (g : ℕ) (part : Progress) → slice_get w.parts g ≡ Some part → round_open w.scenario w.closed ≡ true
 part_open w clear g part at = by (round_open w.scenario w.closed) refl
   where

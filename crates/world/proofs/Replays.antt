@@ -14,7 +14,7 @@ use Rattle.round.proofs.Going.{IsGoing, going_zero, over_ended}
 use Rattle.world.proofs.Complete.{Within, WithinAfter, turn_left}
 use Rattle.world.proofs.Ways.{access}
 
--- the named general's ticks come to his next access, and the others stay where they are
+-- States that the named general's ticks lead to his next access, and that the others' parts stay the same.
 pub record Comes (w v : World) (g : ℕ) (x : Access) (t : List Access) (end : Activation) : Type 0 where
   pub ledger : v.ledger ≡ w.ledger ++ x ∷ []
   pub words : v.words ≡ next w.words x.request

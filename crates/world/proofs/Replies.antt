@@ -1,4 +1,4 @@
--- What a move enters has a reply that fits.
+-- The reply of each access that a move makes fits its request.
 use Rattle.std.proofs.Common.{◌≡◌, ℕ, suc, length, refl, Option, Some, None}
 use Rattle.std.specs.Prelude.{slice_get}
 use Rattle.board.specs.Board.{IsBoard, reply}

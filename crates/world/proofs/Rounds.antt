@@ -59,7 +59,7 @@ module _ (K : Kind) where
             subst (λ (s : Scenario). A s v.closed) (sym same.scenario) (subst (λ (ls : List (List Letter)). A w.scenario ls) (sym same.closed) (λ f. k.told (sym same.full ∙ f))));
       }
 
-  -- letters of others are not g's
+  -- Letters of other generals are not the letter of general `g`.
   not_his : (w : World) (g j : ℕ) (o : Option Progress) → j ≢ g → find (λ l. l.general == g) (letters_at K w j o) ≡ None
   not_his w g j None ne = refl
   not_his w g j (Some (Acting a)) ne = rw (ne_eqb j g ne) refl

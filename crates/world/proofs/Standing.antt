@@ -1,4 +1,4 @@
--- In every run each open activation and each closed letter is a run of its transcript.
+-- In every run each open activation and each letter of a closed round is a run with the accesses of its transcript.
 use Rattle.std.proofs.Common.{◌≡◌, ℕ, zero, suc, ◌<◌, List, [], ◌∷◌, ◌++◌, length, take, drop, Bool, true, false, cond, refl, sym, ap, subst, ◌∙◌, inl, inr, Option, Some, None, arith, All, length-append, ◌≤◌}
 use Rattle.std.specs.Prelude.{slice_get, ◌==◌}
 use Rattle.std.proofs.Math.Seq.{drop-append_seam}
@@ -42,7 +42,7 @@ each_all : (P : Letter → Type 0) (n : ℕ) (f : ℕ → List Letter) → ((g :
 each_all P zero f h = All-nil P
 each_all P (suc n) f h = All-append P (each n f) (f n) (each_all P n f (λ g lt. h g (omega arith))) (h n (omega arith))
 
--- what stands in the list of closed rounds, and the row behind it
+-- A round is among the earlier closed ones, or it is the one that was closed last.
 row_cases : (closed : List (List Letter)) (new row : List Letter) (k : ℕ) → slice_get (closed ++ new ∷ []) k ≡ Some row
     → (P : List (List Letter) → List Letter → Type 0) → (slice_get closed k ≡ Some row → P (take k closed) row) → P closed new → P (take k (closed ++ new ∷ [])) row
 row_cases closed new row k at P old now =
@@ -60,7 +60,7 @@ row_cases closed new row k at P old now =
     ]
 
 module _ (K : Kind) where
-  -- the world has come from the beginning of its open round
+  -- States that the world is reached from the beginning of its open round.
   pub record Midway (s : Scenario) (w : World) : Type 0 where
     pub closed : List (List Letter)
     pub words : List ℕ
@@ -70,7 +70,7 @@ module _ (K : Kind) where
     pub midst : Midst K (begun K s closed words ledger full) w
     pub fitting : AreFitting w.ledger
 
-  -- and each closed round has the letters of its generals
+  -- States also that each closed round has its generals' letters.
   pub record Standing (s : Scenario) (w : World) : Type 0 where
     pub midway : Midway s w
     pub rows : (k : ℕ) (row : List Letter) → slice_get w.closed k ≡ Some row → All (λ l. IsLetterIn K s (take k w.closed) l) row
@@ -86,7 +86,7 @@ module _ (K : Kind) where
     fitting = fit;
   }
 
-  -- how an acting general began
+  -- How a traitor's activation begins.
   begins_acting : (s : Scenario) (closed : List (List Letter)) (g : ℕ) (o : Option (List Insn)) (b : Activation) → begins K s closed g o ≡ Acting b
       → (program : List Insn) × (o ≡ Some program) × (started s.patience program (K.context s closed g) (K.relay s closed g) ≡ b)
   begins_acting s closed g None b e = absurd (let f : Silent ≡ Acting b = e in cc)
@@ -107,7 +107,7 @@ module _ (K : Kind) where
       record { general = h.0; rounds = (let l = less in omega arith); program = r.0; is = r.1; start = r.2 }
   began_by s closed false more g b e = absurd (let f : None ≡ Some (Acting b) = e in cc)
 
-  -- the run of an acting general, from the beginning of the round
+  -- The run of a traitor's activation from the beginning of the round.
   pub record Ran (s : Scenario) (w : World) (g : ℕ) (a : Activation) : Type 0 where
     pub general : g < s.generals
     pub rounds : length w.closed ≤ s.bound
@@ -237,7 +237,7 @@ module _ (K : Kind) where
   parts_are_placed good s events g a is at =
       placed_at s (run K (opening K s) events) g a (ran s (run K (opening K s) events) g a (standing s events (good s is)).midway at)
 
-  -- a traitor's letter keeps what every letter keeps
+  -- A traitor's letter satisfies what every letter does.
   letter_kept : (s : Scenario) (before : List (List Letter)) (l : Letter) (program : List Insn) → IsCampaign K s → TellsRelays K s → IsLetterIn K s before l → l.program ≡ Some program → IsLetter l
   letter_kept s before l program is tells h traitor =
       let made : IsRunOf l (Some program) = (let A : Option (List Insn) → Type 0 = λ o. IsMade K s before l o in subst A traitor h.made) in

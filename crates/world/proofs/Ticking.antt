@@ -1,4 +1,4 @@
--- Many ticks of one general, and those that replay a name.
+-- Many ticks of one general, and the ticks up to an access that is named.
 use Rattle.std.proofs.Common.{◌≡◌, ℕ, zero, suc, ◌+◌, ◌-◌, ◌≤◌, List, [], length, refl, sym, ap, subst, ◌∙◌, Option, Some, None, arith, zero-add}
 use Rattle.std.specs.Prelude.{slice_get, replicate}
 use Rattle.board.specs.Board.{IsBoard, reply}
@@ -25,7 +25,7 @@ use Rattle.round.proofs.Stepping.{runs_steps, turn_counts, CountsTurn}
 use Rattle.world.proofs.Due.{IsDue, due_few, due_lasts}
 use Rattle.world.specs.Campaigns.{AreCampaigns}
 
--- turns without an access leave it due
+-- Turns without an access keep an activation safe.
 due_by : (s : Scenario) (g n : ℕ) (a b : Activation) → IsDue s g a → (o : Turn) → turn a ≡ o → ((c : Activation) → IsDue s g c → Runs n c [] b → IsDue s g b) → Onward (Runs n) o [] b → IsDue s g b
 due_by s g n a b d (Goes c) e again way = again c ((due_lasts s).goes g a c d e) way
 due_by s g n a b d (Asks q f) e again way = absurd way
@@ -35,7 +35,7 @@ pub runs_due : (s : Scenario) (g n : ℕ) (a b : Activation) → IsDue s g a →
 runs_due s g zero a b d way = (let A : Activation → Type 0 = λ c. IsDue s g c in subst A way.1 d)
 runs_due s g (suc n) a b d way = due_by s g n a b d (turn a) refl (λ c dc w. runs_due s g n c b dc w) way
 
--- turns without an access come first
+-- Turns without an access come before the access.
 until_by : (n : ℕ) (a b : Activation) (o : Turn) (fuel : ℕ) → ((c : Activation) → Runs n c [] b → until_access (n + fuel) c ≡ n + until_access fuel b) → Onward (Runs n) o [] b →
     further_turns (until_access (n + fuel)) o ≡ suc (n + until_access fuel b)
 until_by n a b (Goes c) fuel again way = ap suc (again c way)
@@ -50,13 +50,13 @@ runs_until (suc n) a b fuel way =
     let z : suc (n + until_access fuel b) ≡ suc n + until_access fuel b = omega arith in
     ap (λ (k : ℕ). until_access k a) y ∙ (until_by n a b (turn a) fuel (λ c w. runs_until n c b fuel w) way ∙ z)
 
--- of one program, as due
+-- Two activations of one program have the same limit of steps.
 few_in : (s : Scenario) (g : ℕ) (a c : Activation) → IsDue s g a → IsDue s g c → c.state.steps ≤ length a.program
 few_in s g a c d e =
     let same : c.program ≡ a.program = (let f : Some c.program ≡ Some a.program = sym e.program ∙ d.program in cc) in
     (let l = due_few s g c e in let m = ap length same in omega arith)
 
--- where it goes on or asks, a step is left
+-- If an activation goes on or makes a request, it has a step left.
 pub one_left : (s : Scenario) (g n : ℕ) (a b : Activation) (words : List ℕ) → IsBoard words → IsDue s g a → Runs n a [] b → (o : Turn) → turn b ≡ o → (o ≡ Ended → ⊥) → suc n ≤ length a.program
 one_left s g n a b words board d way (Goes c) e on =
     let due = (due_lasts s).goes g b c (runs_due s g n a b d way) e in
@@ -71,7 +71,7 @@ one_left s g n a b words board d way (Asks q f) e on =
     let few = few_in s g a (f r) d due in omega arith
 one_left s g n a b words board d way Ended e on = absurd (on refl)
 
--- so it does not go on past its program
+-- So an activation takes no more steps than its program has instructions.
 pub over_past : (s : Scenario) (g n : ℕ) (a b c : Activation) → {words : List ℕ} → IsBoard words → IsDue s g a → Runs n a [] b → turn b ≡ Goes c → length a.program ≤ b.state.steps → ⊥
 over_past s g n a b c board d way e p =
     let due = (due_lasts s).goes g b c (runs_due s g n a b d way) e in
@@ -79,12 +79,12 @@ over_past s g n a b c board d way e p =
     let few = few_in s g a c d due in omega arith
 
 module _ (K : Kind) where
-  -- so many events of one kind, and so many more
+  -- Repeated events can be split into two parts.
   pub events_add : (m n : ℕ) (w : World) (e : Event) → run K w (replicate (m + n) e) ≡ run K (run K w (replicate m e)) (replicate n e)
   events_add zero n w e = ap (λ (k : ℕ). run K w (replicate k e)) (zero-add n)
   events_add (suc m) n w e = (let c : suc m + n ≡ suc (m + n) = omega arith in ap (λ (k : ℕ). run K w (replicate k e)) c ∙ events_add m n (happen K w e) e)
 
-  -- the ticks of who has ended, or does not act, change nothing
+  -- Ticks of an activation that has ended, or of a general without one, change nothing.
   pub still_tick : (w : World) (g : ℕ) (o : Option Progress) → slice_get w.parts g ≡ o → IsStill o → happen K w (Tick g) ≡ w
   still_tick w g None e h = ap (λ (p : Option Progress). ticked w g p) e
   still_tick w g (Some (Acting a)) e h = ap (λ (p : Option Progress). ticked w g p) e ∙ ap (λ (t : Turn). served w g t) (over_ended a h)
@@ -97,7 +97,7 @@ module _ (K : Kind) where
       let one : happen K w (Tick g) ≡ w = still_tick w g (slice_get w.parts g) refl h in
       ap (λ (v : World). run K v (replicate n (Tick g))) one ∙ still_ticks n w g h
 
-  -- some ticks ahead, of what is left
+  -- Some of the remaining ticks are taken.
   pub some_ahead : (left taken rest : ℕ) (w v u : World) (e : Event) → taken + rest ≡ left → v ≡ run K w (replicate taken e) → run K w (replicate left e) ≡ run K u [] → run K v (replicate rest e) ≡ u
   some_ahead left taken rest w v u e is ahead all =
       ap (λ (x : World). run K x (replicate rest e)) ahead ∙ (sym (events_add taken rest w e) ∙ (ap (λ (k : ℕ). run K w (replicate k e)) is ∙ all))
@@ -105,7 +105,7 @@ module _ (K : Kind) where
   pub one_less : (left rest : ℕ) (w v u : World) (e : Event) → suc rest ≡ left → v ≡ happen K w e → run K w (replicate left e) ≡ u → run K v (replicate rest e) ≡ u
   one_less left rest w v u e is tick all = ap (λ (x : World). run K x (replicate rest e)) tick ∙ (ap (λ (k : ℕ). run K w (replicate k e)) is ∙ all)
 
-  -- a last tick serves the request, or changes nothing
+  -- A last tick makes the request, or changes nothing.
   last_by : (s : Scenario) (w : World) (g n fuel : ℕ) (a b : Activation) → IsBoard w.words → IsDue s g a → Runs n a [] b → n + fuel ≡ length a.program →
       (v : World) → slice_get v.parts g ≡ Some (Acting b) → (o : Turn) → turn b ≡ o → Pauses (length a.program) b o → run K v (replicate (until_access fuel b) (Tick g)) ≡ happen K v (Tick g)
   last_by s w g n zero a b board d way is v at (Goes c) e p = absurd (over_past s g n a b c board d way e p)
@@ -117,7 +117,7 @@ module _ (K : Kind) where
   last_by s w g n (suc fuel) a b board d way is v at Ended e p =
       ap (λ (t : Turn). run K v (replicate (further_turns (until_access fuel) t) (Tick g))) e ∙ sym (still_tick v g (Some (Acting b)) at (ended_over b e))
 
-  -- the ticks of a name
+  -- The ticks up to a named access.
   pub named_is : (s : Scenario) (w v : World) (g n : ℕ) (a b : Activation) → IsBoard w.words → IsDue s g a → slice_get w.parts g ≡ Some (Acting a) → slice_get v.parts g ≡ Some (Acting b) →
       v ≡ run K w (replicate n (Tick g)) → Runs n a [] b → n ≤ length a.program → Pauses (length a.program) b (turn b) → happen K v (Tick g) ≡ run K w (ticks_named g (slice_get w.parts g))
   named_is s w v g n a b board d at here is way le pause =
@@ -129,7 +129,7 @@ module _ (K : Kind) where
       ∙ (ap (λ (k : ℕ). run K w (replicate k (Tick g))) (sym all)
       ∙ ap (λ (o : Option Progress). run K w (ticks_named g o)) (sym at))))
 
-  -- a name's ticks: ahead to the next request or the end, and one more
+  -- They are the turns up to the next request or the end, and one more.
   named_by : (s : Scenario) (w v : World) (g most taken : ℕ) → IsOnTime K s w → (o : Option Progress) → slice_get w.parts g ≡ o → program_length o ≡ Some most → AheadTo most taken w.parts g o v.parts → v ≡ run K w (replicate taken (Tick g)) →
       happen K v (Tick g) ≡ run K w (ticks_named g (slice_get w.parts g))
   named_by s w v g most taken t None at is far ahead = absurd (let f : None ≡ Some most = is in cc)

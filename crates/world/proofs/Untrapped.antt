@@ -50,7 +50,7 @@ module _ (K : Kind) where
   round_short : (w : World) (s : Scenario) → IsOnTime K s w → All IsShort (round_letters K w)
   round_short w s t = each_all IsShort w.scenario.generals (λ g. letters_at K w g (slice_get w.parts g)) (λ g. letter_short w s t g (slice_get w.parts g) refl)
 
-  -- the world is on time and its letters are short
+  -- States that the activations end in time and the letters have few steps.
   pub record IsHeld (s : Scenario) (w : World) : Type 0 where
     pub timely : IsOnTime K s w
     pub short : All (λ letters. All IsShort letters) w.closed
@@ -87,7 +87,7 @@ module _ (K : Kind) where
   run_held s [] w is h = h
   run_held s (e ∷ es) w is h = run_held s es (happen K w e) is (event_held s w e is h)
 
-  -- every world of a run is held
+  -- Every world of a run has this property.
   pub held : (s : Scenario) (es : List Event) → IsCampaign K s → IsHeld s (run K (opening K s) es)
   held s es is = run_held s es (opening K s) is (record { timely = opening_due K s is; short = λ k d lt. absurd (omega arith) })
 

@@ -27,7 +27,7 @@ proved_decisions_agree s events is done bound =
     listed (combined_by s.rule) (chosen_is_rule s.rule) holds s.generals s.commander s.bound M is.commander s.order (is_traitor s) bound (proved_worlds_agree.faithful s events is done)
 
 module _ (s : Scenario) where
-  -- where a test holds of all decisions of the loyal, it holds of each
+  -- A test that holds for all decisions of loyal generals holds for each of them.
   loyal_one : (t : ℕ → Bool) (gs ds : List ℕ) → length ds ≡ length gs → list_all t (of_loyal s gs ds) ≡ true → (i : ℕ) → i < length gs → is_traitor s (slice_index gs i) ≡ false → t (slice_index ds i) ≡ true
   loyal_one t [] ds e h i lt loyal = absurd (omega arith)
   loyal_one t (g ∷ gs) [] e h i lt loyal = absurd (omega arith)
@@ -38,7 +38,7 @@ module _ (s : Scenario) where
       (λ (x : is_traitor s g ≡ false). loyal_one t gs ds (omega arith) (and_parts (t d) (list_all t (of_loyal s gs ds)) (rw x at h)).1 i (omega arith) loyal)
       (cases_Bool (is_traitor s g))
 
-  -- and the other way
+  -- The converse also holds.
   loyal_all : (t : ℕ → Bool) (gs ds : List ℕ) → length ds ≡ length gs → ((i : ℕ) → i < length gs → is_traitor s (slice_index gs i) ≡ false → t (slice_index ds i) ≡ true) → list_all t (of_loyal s gs ds) ≡ true
   loyal_all t [] ds e h = refl
   loyal_all t (g ∷ gs) [] e h = refl

@@ -1,4 +1,4 @@
--- What a round's moves keep, and that the ledger determines the world where a round is ripe.
+-- What the moves of a round do not change, and that the ledger determines the world at the end of a round.
 use Rattle.std.proofs.Common.{◌≡◌, ◌≢◌, ℕ, suc, List, [], ◌∷◌, ◌++◌, length, refl, sym, ap, subst, ◌∙◌, ⊎_elim, Option, Some, None, append_assoc, append-nil, arith}
 use Rattle.std.specs.Prelude.{slice_get}
 use Rattle.insn.specs.declared.insn.Insn.{Insn}
@@ -19,13 +19,13 @@ use Rattle.round.proofs.Going.{over_ended}
 use Rattle.round.proofs.Runnings.{StopsAt, Runs-snoc, Runs-same}
 use Rattle.world.proofs.Accesses.{of_mine, of_other}
 
--- one access
+-- Returns the access with this general, round, request and reply.
 abbrev pub access : ℕ → ℕ → Request → List ℕ → Access
 access g r q answer = record { general = g; round = r; request = q; reply = answer }
 
 module _ (K : Kind) where
   module _ (first : World) where
-    -- g's activation has come from where it began, served by its part of the piece
+    -- States that the activation of general `g` is reached from its beginning with his accesses in the piece.
     abbrev pub Came : List Access → ℕ → Activation → Type 0
     Came piece g a = (k : ℕ) × (b : Activation) × (slice_get first.parts g ≡ Some (Acting b)) × Runs k b (accesses_of g piece) a
 
@@ -116,7 +116,7 @@ module _ (K : Kind) where
     same_front [] ys zs e = e
     same_front (x ∷ xs) ys zs e = same_front xs ys zs (let f : x ∷ (xs ++ ys) ≡ x ∷ (xs ++ zs) = e in cc)
 
-    -- lists of one length with the same elements
+    -- Lists of the same length with the same elements are the same.
     same_list : {A : Type 0} (xs ys : List A) → length xs ≡ length ys → ((i : ℕ) (x y : A) → slice_get xs i ≡ Some x → slice_get ys i ≡ Some y → x ≡ y) → xs ≡ ys
     same_list [] [] e h = refl
     same_list [] (y ∷ ys) e h = absurd (omega arith)
@@ -146,7 +146,7 @@ module _ (K : Kind) where
       pub posted_all : (g : ℕ) (part : Progress) → slice_get w.parts g ≡ Some part → OwesNoLetter part
       pub ended_all : (g : ℕ) (part : Progress) → slice_get w.parts g ≡ Some part → HasEnded part
 
-    -- from one beginning and with one ledger, two ripe worlds are one
+    -- Two ends of a round with the same beginning and the same ledger are the same world.
     pub same_end : (v w : World) → SameRound first v → SameRound first w → Midst v → Midst w → IsReady v → IsReady w → v.ledger ≡ w.ledger → v ≡ w
     same_end v w sv sw dv dw rv rw' e =
         let piece : dv.piece ≡ dw.piece = same_front first.ledger dv.piece dw.piece (sym dv.ledger ∙ e ∙ dw.ledger) in

@@ -1,4 +1,4 @@
--- Letters that a ledger accounts for in an oral campaign (own). Each definition is the one of KindAccounted.antt for
+-- Letters for which a ledger accounts in an oral campaign (own). Each definition is the one of KindAccounted.antt for
 -- oral campaigns.
 use Rattle.std.specs.Prelude.{ℕ, List, Option}
 use Rattle.insn.specs.declared.insn.Insn.{Insn}

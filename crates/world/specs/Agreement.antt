@@ -1,5 +1,5 @@
--- Agreement in worlds, for the list of decisions and for the verdict (TOPLAS 1982, Theorem 1, IC1 and IC2). Each law is
--- the contract of a function of this crate.
+-- Agreement of the loyal lieutenants, for the list of decisions and for the verdict (TOPLAS 1982, Theorem 1, IC1 and
+-- IC2). Each law is the contract of a function of this crate.
 use Rattle.std.specs.Prelude.{ℕ, suc, ◌≡◌, ◌≢◌, ◌<◌, ◌↔◌, true, false, List, length, slice_index, None, Some}
 use Rattle.label.specs.Oral.{IsFaithful, IsBound, Agree}
 use Rattle.label.specs.Lieutenants.{lieutenants, IsLoyalAt, AgreeInList}
@@ -15,8 +15,8 @@ pub record IsFinished (w : World) : Type 0 where
   pub closed : length w.closed ≡ suc w.scenario.bound
   pub full : w.full ≡ true
 
--- States the agreement theorem for worlds. A punctual list of events leaves a world in which every loyal general posted
--- in each round. In a finished world the loyal generals are faithful, and the decisions agree if the bound holds.
+-- States the agreement theorem for worlds. If events are punctual, every loyal general posts in each round. In a
+-- finished world the loyal generals are faithful, and the loyal lieutenants' decisions agree if the bound holds.
 pub record WorldsAgree : Type 0 where
   pub full : (s : Scenario) (events : List Event) → IsPunctual s events → (run (opening s) events).full ≡ true
   pub faithful : (s : Scenario) (events : List Event) → IsScenario s → IsFinished (run (opening s) events) → (g : ℕ) →
@@ -26,14 +26,14 @@ pub record WorldsAgree : Type 0 where
       IsBound s.generals s.bound (is_traitor s) →
       Agree s.generals s.commander s.order (is_traitor s) (decision s (messages (run (opening s) events).closed))
 
--- States that, in a finished world whose bound holds, the list of decisions agrees. The list is in the order of the
--- lieutenants.
+-- States that the loyal lieutenants' decisions agree in a finished world whose bound holds. The decisions are a list,
+-- ascending by lieutenant.
 abbrev pub DecisionsAgree : Type 0
 DecisionsAgree = (s : Scenario) (events : List Event) → IsScenario s → IsFinished (run (opening s) events) →
     IsBound s.generals s.bound (is_traitor s) →
     AgreeInList s.generals s.commander s.order (is_traitor s) (decisions s (messages (run (opening s) events).closed))
 
--- States that the loyal lieutenants decide alike (IC1).
+-- States that all loyal lieutenants decide on the same order (IC1).
 abbrev pub AreAlike : Scenario → List ℕ → Type 0
 AreAlike s ds = (i j : ℕ) → IsLoyalAt s.generals s.commander (is_traitor s) i →
     IsLoyalAt s.generals s.commander (is_traitor s) j → slice_index ds i ≡ slice_index ds j
@@ -42,8 +42,9 @@ AreAlike s ds = (i j : ℕ) → IsLoyalAt s.generals s.commander (is_traitor s) 
 abbrev pub AreObedient : Scenario → List ℕ → Type 0
 AreObedient s ds = (i : ℕ) → IsLoyalAt s.generals s.commander (is_traitor s) i → slice_index ds i ≡ s.order
 
--- States what the fields of a verdict mean. The verdict says nothing about obedience exactly if the commander is a
--- traitor. In a finished world whose bound holds, it says that the lieutenants decide alike, and not that they disobey.
+-- States what the fields of a verdict mean. `obeyed` is `None` exactly if the commander is a traitor. If a finished
+-- world's verdict says that the bound holds, it also says that the lieutenants decide alike, and does not say that they
+-- disobey.
 pub record VerdictsMean : Type 0 where
   pub bound : (s : Scenario) (ds : List ℕ) →
       ((verdict_of s ds).bound ≡ true) ↔ IsBound s.generals s.bound (is_traitor s)

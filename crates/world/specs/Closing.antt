@@ -1,5 +1,5 @@
--- How the code closes a round: the memory that it allocates before anything changes, the drafts of the letters, and the
--- parts of the next round (own). No claim rests on this file. World.antt says what a close does.
+-- How the code closes a round: it makes drafts of the letters and the parts of the next round, which need memory,
+-- before anything changes (own). No claim rests on this file. World.antt says what a close does.
 use Rattle.std.specs.Prelude.{ℕ, suc, ◌≡◌, nat_lt, cond, List, [], ◌∷◌, replicate, slice_get, Option, None, Some}
 use Rattle.semantics.specs.Limits.{context_size}
 use Rattle.insn.specs.declared.insn.Insn.{Insn}
@@ -27,13 +27,13 @@ draft_of s closed accesses g None = Missing
 abbrev pub drafts_held : Scenario → List (List Letter) → List Access → List Progress → List LetterDraft
 drafts_held s closed accesses parts = each s.generals (λ g. draft_of s closed accesses g (slice_get parts g) ∷ [])
 
--- Returns the letter that is made from a general's draft and part, if there is one.
+-- Returns a general's letter, made from its draft and his part in the round, or the empty list if he has none.
 abbrev pub letter_from : ℕ → ℕ → Option LetterDraft → Option Progress → List Letter
 letter_from g round (Some (Begun transcript)) (Some (Acting a)) = letter_left g round transcript a ∷ []
 letter_from g round (Some (Whole letter)) part = letter ∷ []
 letter_from g round _ _ = []
 
--- Returns the letters that are made from the drafts and the parts of `n` generals.
+-- Returns the letters of the first `n` generals, made from their drafts and their parts in the round.
 abbrev pub letters_from : ℕ → ℕ → List LetterDraft → List Progress → List Letter
 letters_from n round drafts parts = each n (λ g. letter_from g round (slice_get drafts g) (slice_get parts g))
 
@@ -47,12 +47,12 @@ AreDraftsOf round drafts parts = (g : ℕ) (transcript : List Access) (a : Activ
 unfoldable pub zeros : List ℕ
 zeros = replicate context_size 0
 
--- Returns the part of a general at the start of the round after `before` rounds, before he receives his context.
+-- Returns a general's part at the start of the round after `before` rounds. A traitor's context is still all zeros.
 abbrev pub blank : Scenario → ℕ → ℕ → Option (List Insn) → Progress
 blank s before g None = Silent
 blank s before g (Some program) = Acting (started s.patience program zeros (oral (shape_of s g (suc before))))
 
--- Returns the parts of all generals at the start of the round after `before` rounds, before they receive their
--- contexts. If no round is left, there are none.
+-- Returns the parts of all generals at the start of the round after `before` rounds, with contexts of zeros. If there
+-- is no further round, returns the empty list.
 abbrev pub blanks : Scenario → ℕ → List Progress
 blanks s before = cond (nat_lt before (suc s.bound)) (each s.generals (λ g. blank s before g (program_of s g) ∷ [])) []

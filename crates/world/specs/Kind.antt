@@ -1,4 +1,5 @@
--- The world of a campaign of some kind, as a fold of events (own). The kind says whether orders are oral or signed.
+-- Defines the world of a campaign and what events do to it, for oral and for signed campaigns (own). The kind says
+-- which of the two a campaign is.
 use Rattle.std.specs.Prelude.{ℕ, zero, suc, nat_lt, ◌==◌, ◌&&◌, cond, Bool, true, List, [], ◌∷◌, ◌++◌, length, drop, filter, slice_get, slice_set, Option, None, Some}
 use Rattle.std.specs.List.{list_all}
 use Rattle.insn.specs.declared.insn.Insn.{Insn}
@@ -15,17 +16,17 @@ use Rattle.world.specs.declared.event.EventError.{EventError}
 use Rattle.world.specs.declared.event.EventError.TheVariants.{NotOpen, NoGeneral}
 use Rattle.world.specs.Part.{Progress, Acting, Silent, Posted, owes_no_letter}
 
--- A kind of campaign. For a general in the round after these closed rounds it says which context he receives, which
--- labels he relays to whom, and, if he is loyal, what his outbox contains.
+-- What distinguishes oral from signed campaigns. For a general in the round after given closed rounds, it says which
+-- context he receives, which labels he relays to whom, and what his outbox contains if he is loyal.
 pub record Kind : Type 0 where
   pub context : Scenario → List (List Letter) → ℕ → List ℕ
   pub relay : Scenario → List (List Letter) → ℕ → Relay
   pub rows : Scenario → List (List Letter) → ℕ → List (List (Option ℕ))
   pub entries : Scenario → List (List Letter) → ℕ → List Entry
 
--- A world: the letters of the closed rounds, the board's words and its ledger, and the index at which the open round
--- begins in the ledger. It also has each general's part in the open round, and whether all loyal generals had posted in
--- each closed round.
+-- The state of a campaign: the letters of the closed rounds, the board's words and its ledger, and the index in the
+-- ledger of the open round's first access. It also has each general's part (what he does in the open round), and
+-- whether all loyal generals had posted in each closed round.
 pub record World : Type 0 where
   pub scenario : Scenario
   pub closed : List (List Letter)
@@ -35,21 +36,23 @@ pub record World : Type 0 where
   pub parts : List Progress
   pub full : Bool
 
--- Returns the concatenation of the lists `f 0` to `f (n - 1)`.
+-- Returns the lists `f 0` to `f (n - 1)`, joined into one.
 abbrev pub each : {A : Type 0} → ℕ → (ℕ → List A) → List A
 each zero f = []
 each (suc n) f = each n f ++ f n
 
--- Checks whether a round is left after these closed rounds.
+-- Returns whether there is a further round after these closed rounds.
 abbrev pub round_open : Scenario → List (List Letter) → Bool
 round_open s closed = nat_lt (length closed) (suc s.bound)
 
--- Returns the part of a general at the start of the round after these closed rounds.
+-- Returns what a general does at the start of the round after these closed rounds: an activation if he is a traitor,
+-- `Silent` if he is loyal and so has not posted.
 abbrev pub begins : Kind → Scenario → List (List Letter) → ℕ → Option (List Insn) → Progress
 begins K s closed g None = Silent
 begins K s closed g (Some program) = Acting (started s.patience program (K.context s closed g) (K.relay s closed g))
 
--- Returns the world at the start of the round after these closed rounds. After the last round no general has a part.
+-- Returns the world at the start of the round after these closed rounds. After the last round the generals do nothing,
+-- so `parts` is empty.
 abbrev pub begun : Kind → Scenario → List (List Letter) → List ℕ → List Access → Bool → World
 begun K s closed words ledger full = record {
   scenario = s;
@@ -65,12 +68,12 @@ begun K s closed words ledger full = record {
 abbrev pub opening : Kind → Scenario → World
 opening K s = begun K s [] s.board [] true
 
--- Returns the accesses of one general.
+-- Returns those accesses that were made by general `g`, in their order.
 abbrev pub accesses_of : ℕ → List Access → List Access
 accesses_of g accesses = filter (λ a. a.general == g) accesses
 
--- Returns a traitor's letter of the round after these closed rounds, from what his program has done: its accesses, its
--- steps, and its current state, whose outbox counts as it is.
+-- Returns a traitor's letter of the round after these closed rounds. It contains the accesses and steps of his program,
+-- and the outbox that the program has filled so far.
 abbrev pub traitor_letter_with : Kind → Scenario → List (List Letter) → ℕ → Option (List Insn) → List Access → ℕ →
     Activation → Letter
 traitor_letter_with K s before g program transcript steps a = record {
@@ -84,20 +87,21 @@ traitor_letter_with K s before g program transcript steps a = record {
   exited = a.over;
 }
 
--- Returns a loyal general's letter of the round after these closed rounds. He runs no program.
+-- Returns a loyal general's letter of the round after these closed rounds.
 abbrev pub loyal_letter : Kind → Scenario → List (List Letter) → ℕ → Letter
 loyal_letter K s before g =
     faithful_letter_with g (suc (length before)) (K.context s before g)
     (record { relay = K.relay s before g; rows = K.rows s before g; entries = K.entries s before g })
 
--- Returns the letter of a part: that of an activation, that of a loyal general who has posted, or none.
+-- Returns the letter of a general from his part in the round: a traitor has the letter of his activation, and a loyal
+-- general has one if he has posted.
 abbrev pub letter_of_part : (Activation → Letter) → Letter → Option Progress → List Letter
 letter_of_part acted loyal (Some (Acting a)) = acted a ∷ []
 letter_of_part acted loyal (Some Silent) = []
 letter_of_part acted loyal (Some Posted) = loyal ∷ []
 letter_of_part acted loyal None = []
 
--- Returns a general's letter in his current part, if he has one.
+-- Returns a general's letter of the open round as it is now, or the empty list if he is loyal and has not posted.
 abbrev pub letters_at : Kind → World → ℕ → Option Progress → List Letter
 letters_at K w g part =
     letter_of_part
@@ -105,11 +109,11 @@ letters_at K w g part =
     (accesses_of g (drop w.opened w.ledger)) a.state.steps a)
     (loyal_letter K w.scenario w.closed g) part
 
--- Returns the letters of the open round by general, as closing it would make them from the generals' current parts.
+-- Returns the letters of the open round by general. They are what closing the round now would deliver.
 abbrev pub round_letters : Kind → World → List Letter
 round_letters K w = each w.scenario.generals (λ g. letters_at K w g (slice_get w.parts g))
 
--- Returns the world after a turn of general `g`. A request is served within the same event.
+-- Returns the world after one turn of general `g`. If the turn is a request, the board answers it in the same event.
 abbrev pub served : World → ℕ → Turn → World
 served w g (Goes a) = record w { parts = slice_set w.parts g (Acting a) }
 served w g (Asks request answered) =
@@ -122,24 +126,23 @@ served w g (Asks request answered) =
     }
 served w g Ended = w
 
--- Returns the world after one step of a traitor's activation. For a loyal general nothing changes.
+-- Returns the world after one tick of a traitor's activation. For a loyal general nothing changes.
 abbrev pub ticked : World → ℕ → Option Progress → World
 ticked w g (Some (Acting a)) = served w g (turn a)
 ticked w g _ = w
 
--- Returns the world after a loyal general's letter of the open round is marked as posted.
+-- Returns the world after a loyal general posts his letter of the open round.
 abbrev pub posting : World → ℕ → Option Progress → World
 posting w g (Some Silent) = record w { parts = slice_set w.parts g Posted }
 posting w g _ = w
 
--- Returns the world after its open round is closed: the letters of the round are made and kept, and the next round
--- begins.
+-- Returns the world after its open round is closed: its letters are kept, and the next round begins.
 abbrev pub closing : Kind → World → World
 closing K w =
     begun K w.scenario (w.closed ++ round_letters K w ∷ []) w.words w.ledger (w.full && list_all owes_no_letter w.parts)
 
--- Returns the world after an event. An event that is rejected, a tick of an ended activation and a second post change
--- nothing.
+-- Returns the world after an event. Rejected events, ticks of an activation that has ended, and second posts of a
+-- general change nothing.
 abbrev pub happen : Kind → World → Event → World
 happen K w (Tick g) = ticked w g (slice_get w.parts g)
 happen K w (Post g) = posting w g (slice_get w.parts g)
@@ -150,8 +153,8 @@ abbrev pub run : Kind → World → List Event → World
 run K w [] = w
 run K w (e ∷ events) = run K (happen K w e) events
 
--- Returns `NoGeneral` if the event's general does not exist or is not of the event's kind: a traitor for a tick, a
--- loyal general for a post.
+-- Returns `NoGeneral` if the event's general does not exist or is of the wrong kind: a tick needs a traitor, and a post
+-- needs a loyal general. Otherwise returns `None`.
 abbrev pub unfit : Event → Option Progress → Option EventError
 unfit (Tick g) (Some (Acting a)) = None
 unfit (Post g) (Some Silent) = None
@@ -159,13 +162,13 @@ unfit (Post g) (Some Posted) = None
 unfit Close part = None
 unfit _ _ = Some NoGeneral
 
--- Returns the general of an event, or 0 for a close, which has none.
+-- Returns the general that an event names, or 0 for a close, which names none.
 abbrev pub named_by : Event → ℕ
 named_by (Tick g) = g
 named_by (Post g) = g
 named_by Close = 0
 
--- Returns why an event is rejected, if it is: all rounds are closed, or the general does not exist or is not of the
--- event's kind.
+-- Returns why an event is rejected: all rounds are closed, the general does not exist, or he is of the wrong kind.
+-- Returns `None` if the event is accepted.
 abbrev pub refusal : World → Event → Option EventError
 refusal w e = cond (round_open w.scenario w.closed) (unfit e (slice_get w.parts (named_by e))) (Some NotOpen)

@@ -1,4 +1,4 @@
--- Letters that a ledger accounts for, in campaigns of some kind (own).
+-- Letters for which a ledger accounts, in oral or signed campaigns (own).
 use Rattle.std.specs.Prelude.{ℕ, suc, ◌≡◌, ◌<◌, ◌*◌, ◌==◌, ◌&&◌, ◌||◌, true, List, [], ◌∷◌, ◌++◌, All, length, take, drop, find, sum_by, slice_get, Option, None, Some, option_to_list}
 use Rattle.insn.specs.declared.insn.Insn.{Insn}
 use Rattle.board.specs.Board.{Access}
@@ -8,9 +8,8 @@ use Rattle.round.specs.Activation.{Activation, started, is_reached}
 use Rattle.round.specs.Runs.{Runs, IsWithin}
 use Rattle.world.specs.Kind.{Kind, accesses_of, each, traitor_letter_with, loyal_letter}
 
--- States that the letter is the one that the general's program, or the loyal general, makes in the round after these
--- closed rounds. The program has run within the patience as the letter says, and has ended by itself or because the
--- patience was used up.
+-- States that this is the letter of a general in the round after these closed rounds. A traitor's program has run to
+-- its end with the accesses of the transcript: it has exited or used up the patience.
 abbrev pub IsLetterOf : Kind → Scenario → List (List Letter) → ℕ → Option (List Insn) → Letter → Type 0
 IsLetterOf K s before g None l = l ≡ loyal_letter K s before g
 IsLetterOf K s before g (Some program) l =
@@ -19,7 +18,8 @@ IsLetterOf K s before g (Some program) l =
     × (l ≡ traitor_letter_with K s before g (Some program) l.transcript l.steps end) × IsWithin s.patience l.steps
     × ((l.exited || is_reached s.patience l.steps) ≡ true)
 
--- States that these are the letters of a round, by general, and that `piece` has exactly their accesses.
+-- States that these are all letters of the round after `before`, ascending by general, and that `piece` has exactly the
+-- accesses in them.
 pub record IsAccountedRound (K : Kind) (s : Scenario) (before : List (List Letter)) (piece : List Access)
     (letters : List Letter) : Type 0 where
   pub count : length letters ≡ s.generals
@@ -27,8 +27,8 @@ pub record IsAccountedRound (K : Kind) (s : Scenario) (before : List (List Lette
       IsLetterOf K s before g (program_of s g) l × (accesses_of g piece ≡ l.transcript)
   pub entries : All (λ a. (a.general < s.generals) × (a.round ≡ suc (length before))) piece
 
--- States that the ledger accounts for these rounds, which come after the rounds `before`. Each round takes as many
--- entries from the ledger as its transcripts have in total.
+-- States that the ledger accounts for these rounds, which come after the rounds `before`. Each round accounts for as
+-- many entries of the ledger as its transcripts have together, the first round for the first entries.
 abbrev pub AreAccounted : Kind → Scenario → List (List Letter) → List Access → List (List Letter) → Type 0
 AreAccounted K s before ledger [] = (length before ≡ suc s.bound) × (ledger ≡ [])
 AreAccounted K s before ledger (letters ∷ rounds) =
@@ -40,16 +40,16 @@ AreAccounted K s before ledger (letters ∷ rounds) =
 abbrev pub letter_by : ℕ → ℕ → List Letter → Option Letter
 letter_by g round letters = find (λ l. (l.general == g) && (l.round == round)) letters
 
--- Returns the letters of a round, by general.
+-- Returns the letters of a round, the first of each general, ascending by general.
 abbrev pub letters_by : ℕ → ℕ → List Letter → List Letter
 letters_by n round letters = each n (λ g. option_to_list (letter_by g round letters))
 
--- Returns the letters by round and general.
+-- Returns the letters by round, and within a round by general.
 abbrev pub rounds_of : Scenario → List Letter → List (List Letter)
 rounds_of s letters = each (suc s.bound) (λ r. letters_by s.generals (suc r) letters ∷ [])
 
--- States that the letters, in any order, are one for each general and round, and that the ledger has exactly their
--- accesses.
+-- States that there is one letter for each general and round, in any order, and that the ledger has exactly the
+-- accesses in them.
 abbrev pub IsAccounted : Kind → Scenario → List Access → List Letter → Type 0
 IsAccounted K s ledger letters =
     (length letters ≡ suc s.bound * s.generals) × AreAccounted K s [] ledger (rounds_of s letters)

@@ -1,4 +1,4 @@
--- Kinds of lists of events of oral campaigns (own). Each definition is the one of KindLists.antt for oral campaigns.
+-- Lists of events in oral campaigns (own). Each definition is the one of KindLists.antt for oral campaigns.
 use Rattle.std.specs.Prelude.{ℕ, List}
 use Rattle.world.specs.declared.event.Event.{Event}
 use Rattle.round.specs.Scenario.{Scenario}

@@ -8,11 +8,11 @@ use Rattle.world.specs.World.{World, oral_kind}
 use Rattle.world.specs.KindHeld as held
 pub use Rattle.world.specs.KindHeld.{world_of}
 
--- States that some list of events leads from the opening of the world's scenario to the world.
+-- States that some list of events leads to this world from the first world of its scenario.
 abbrev pub IsReached : World → Type 0
 IsReached w = held.IsReached oral_kind w
 
--- States what the code guarantees about a world: some list of events leads to it, and its board opened with the
--- scenario's words.
+-- States what the code guarantees about a world: some list of events leads to it, and its board had the scenario's
+-- words at first.
 abbrev pub IsHeld : Scenario → List (List Letter) → RecordedBoard → ℕ → List Progress → Bool → Type 0
 IsHeld s closed board opened parts full = held.IsHeld oral_kind s closed board opened parts full

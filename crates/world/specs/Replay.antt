@@ -1,5 +1,5 @@
--- What lists of events and ledgers determine, in campaigns of some kind. Each law is the contract of a function, here
--- for oral ones.
+-- What lists of events and ledgers determine, in oral or signed campaigns. Each law is the contract of a function, in
+-- this crate for oral ones.
 use Rattle.std.specs.Prelude.{ℕ, ◌≡◌, ◌<◌, true, All, List, [], map, flat_map}
 use Rattle.semantics.specs.declared.request.Request.{Request}
 use Rattle.board.specs.Board.{Access, words_after, IsLegal}
@@ -16,13 +16,14 @@ use Rattle.world.specs.KindAccounted.{AreAccounted, rounds_of, IsAccounted}
 use Rattle.world.specs.Chronicle.{chronicle_of}
 use Rattle.world.specs.Lists as plays
 
--- States that the events of a schedule and the events of a replay are complete.
+-- States that the events of every schedule and of every replay are complete.
 pub record ListsAreComplete (K : Kind) : Type 0 where
   pub listed : (s : Scenario) (lines : List (List ℕ)) → IsScenario s → IsComplete K s (listed s lines)
   pub replayed : (s : Scenario) (names : List (List ℕ)) → IsScenario s → IsComplete K s (replayed K s names)
 
--- States that the ledger determines a ripe world: two ripe worlds that moves reach from the same world are the same if
--- their ledgers are. A general's next request is determined by the replies to his earlier ones.
+-- States that the ledger determines the world at the end of a round. Suppose moves lead from one world to two others in
+-- which all loyal generals have posted and all activations have ended. If these have the same ledger, they are the
+-- same. The reason is that a program's next request depends only on the replies to its earlier ones.
 pub record LedgersDecide (K : Kind) : Type 0 where
   pub worlds : (s : Scenario) (before events others : List Event) → IsScenario s → AreMoves events → AreMoves others →
       IsRipe (run K (run K (opening K s) before) events) → IsRipe (run K (run K (opening K s) before) others) →
@@ -34,24 +35,26 @@ pub record LedgersDecide (K : Kind) : Type 0 where
       Runs k start transcript one → Runs j start served two → turn one ≡ Asks request answered →
       turn two ≡ Asks other resumed → request ≡ other
 
--- States that a complete run is the replay of its own accesses, which are those of generals of the campaign.
+-- States that a complete run ends in the same world as the replay of its own accesses, and that all of these were made
+-- by generals of the campaign.
 pub record RunsAreReplays (K : Kind) : Type 0 where
   pub worlds : (s : Scenario) (events : List Event) → IsScenario s → IsComplete K s events →
       replay_world K s (run K (opening K s) events).ledger ≡ run K (opening K s) events
   pub generals : (s : Scenario) (events : List Event) → IsScenario s → IsComplete K s events →
       All (λ a. a.general < s.generals) (run K (opening K s) events).ledger
 
--- Returns the world of the replay of a ledger in an oral campaign.
+-- Returns the world at the end of a ledger's replay in an oral campaign.
 abbrev pub replay_of : Scenario → List Access → World
 replay_of s ledger = replay_world oral_kind s ledger
 
--- States that the chronicle of a complete run is that of the replay of its accesses.
+-- States that a complete run has the same chronicle as the replay of its accesses.
 abbrev pub ChroniclesAreReplays : Type 0
 ChroniclesAreReplays = (s : Scenario) (events : List Event) → IsScenario s → plays.IsComplete s events →
     chronicle_of (oral.run (oral.opening s) events)
     ≡ chronicle_of (replay_of s (oral.run (oral.opening s) events).ledger)
 
--- States that letters that a legal ledger accounts for are, by round and general, those of the replay of the ledger.
+-- States that, if a legal ledger accounts for letters, these are the letters of the ledger's replay, by round and
+-- general.
 pub record AccountsAreRuns (K : Kind) : Type 0 where
   pub rounds : (s : Scenario) (ledger : List Access) (rounds : List (List Letter)) → IsScenario s →
       IsLegal s.board ledger → AreAccounted K s [] ledger rounds →
@@ -72,13 +75,14 @@ pub record RunsAreAccounted (K : Kind) : Type 0 where
       IsAccounted K s (run K (opening K s) events).ledger
       (flat_map (λ (round : List Letter). round) (run K (opening K s) events).closed)
 
--- States that the world's ledger is legal from the board's opening words on, that it results in the board's words, and
--- that it has accesses only of traitors of the campaign.
+-- States that the world's ledger is legal, that its accesses have changed the scenario's words into the board's current
+-- words, and that only traitors of the campaign have made accesses.
 pub record IsLedgerOf (s : Scenario) (w : World) : Type 0 where
   pub legal : IsLegal s.board w.ledger
   pub words : w.words ≡ words_after s.board w.ledger
   pub traitors : All (λ a. (a.general < s.generals) × (is_traitor s a.general ≡ true)) w.ledger
 
--- States that the ledger of every world is legal, results in the board's words, and has accesses only of traitors.
+-- States that in every world the ledger is legal, its accesses have changed the scenario's words into the board's
+-- current words, and only traitors have made accesses.
 abbrev pub LedgersAreLegal : Kind → Type 0
 LedgersAreLegal K = (s : Scenario) (events : List Event) → IsScenario s → IsLedgerOf s (run K (opening K s) events)

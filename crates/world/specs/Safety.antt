@@ -1,5 +1,5 @@
--- What holds for the activations and letters of every world, in campaigns of some kind. Each law is the contract of a
--- function, here for oral ones.
+-- What holds for the activations and letters of every world, in oral or signed campaigns. Each law is the contract of a
+-- function, in this crate for oral ones.
 use Rattle.std.specs.Prelude.{ℕ, suc, ◌≡◌, ◌≢◌, ◌<◌, ◌≤◌, false, All, List, length, take, drop, slice_get, Option, None, Some}
 use Rattle.insn.specs.declared.insn.Insn.{Insn}
 use Rattle.semantics.specs.State.{Cause, Trap}
@@ -26,8 +26,8 @@ pub record ActivationsAreSafe (K : Kind) : Type 0 where
   pub letters : (s : Scenario) (events : List Event) → IsScenario s →
       All (λ letters. All IsShort letters) (run K (opening K s) events).closed
 
--- States that the activation is that of general `g` in the round after these closed rounds, which is a round of the
--- campaign. It has his program, his context, his relay and the scenario's patience.
+-- States that this is an activation of general `g` in the round after these closed rounds. It has his program, the
+-- context and the labels to relay of that round, and the scenario's patience.
 pub record IsPlaced (K : Kind) (s : Scenario) (closed : List (List Letter)) (g : ℕ) (a : Activation) : Type 0 where
   pub general : g < s.generals
   pub rounds : length closed ≤ s.bound
@@ -36,26 +36,27 @@ pub record IsPlaced (K : Kind) (s : Scenario) (closed : List (List Letter)) (g :
   pub relay : a.relay ≡ K.relay s closed g
   pub patience : a.patience ≡ s.patience
 
--- States that each acting general has his program, the context and the relay of the open round, and the patience.
+-- States that every activation in the open round has its general's program, the context and the labels to relay of that
+-- round, and the scenario's patience.
 abbrev pub PartsArePlaced : Kind → Type 0
 PartsArePlaced K = (s : Scenario) (events : List Event) (g : ℕ) (a : Activation) → IsScenario s →
     slice_get (run K (opening K s) events).parts g ≡ Some (Acting a) →
     IsPlaced K s (run K (opening K s) events).closed g a
 
--- States that the activation has come from its start in the steps that it counts, by the general's accesses in the open
--- round, whose replies fit.
+-- States that the activation is a run from its start with as many steps as it counts, in which exactly the general's
+-- accesses in the open round were made, with fitting replies.
 abbrev pub HasRun : World → ℕ → Activation → Type 0
 HasRun w g a =
     let transcript = accesses_of g (drop w.opened w.ledger) in
     AreFitting transcript × Runs a.state.steps (started a.patience a.program a.context a.relay) transcript a
 
--- States that a loyal general's letter contains what he took, and that a traitor's letter is the run of its transcript.
+-- States how a letter was made: a loyal general's letter contains the orders that he took, and a traitor's letter is a
+-- run of his program with the accesses of its transcript.
 abbrev pub IsMade : Kind → Scenario → List (List Letter) → Letter → Option (List Insn) → Type 0
 IsMade K s before l None = l ≡ loyal_letter K s before l.general
 IsMade K s before l (Some program) = IsRunOf l (Some program)
 
--- States that the letter belongs to the round after these closed rounds, which is a round of the campaign, and that its
--- steps are within the patience.
+-- States that the letter belongs to the round after these closed rounds, and that its steps are within the patience.
 pub record IsLetterIn (K : Kind) (s : Scenario) (before : List (List Letter)) (l : Letter) : Type 0 where
   pub general : l.general < s.generals
   pub rounds : length before ≤ s.bound
@@ -66,7 +67,8 @@ pub record IsLetterIn (K : Kind) (s : Scenario) (before : List (List Letter)) (l
   pub made : IsMade K s before l l.program
   pub within : IsWithin s.patience l.steps
 
--- States that every open activation and every closed letter is a run of its transcript. The run may be unfinished.
+-- States that every open activation, and the activation in every letter of a closed round, is a run of its program with
+-- the accesses of its transcript. The run may be unfinished.
 pub record ActivationsAreRuns (K : Kind) : Type 0 where
   pub parts : (s : Scenario) (events : List Event) (g : ℕ) (a : Activation) → IsScenario s →
       slice_get (run K (opening K s) events).parts g ≡ Some (Acting a) → HasRun (run K (opening K s) events) g a

@@ -1,5 +1,4 @@
--- The world of an oral campaign: a world of that kind (own). Each definition is the one of Kind.antt for oral
--- campaigns.
+-- The world of an oral campaign (own). Each definition is the one of Kind.antt for oral campaigns.
 use Rattle.std.specs.Prelude.{ℕ, suc, Bool, List, [], length, Option}
 use Rattle.insn.specs.declared.insn.Insn.{Insn}
 use Rattle.board.specs.Board.{Access}
@@ -14,8 +13,8 @@ use Rattle.world.specs.Kind as kind
 use Rattle.world.specs.Kind.{Kind}
 pub use Rattle.world.specs.Kind.{World, each, round_open, accesses_of, served, ticked, posting, unfit, named_by, refusal}
 
--- The kind of campaigns with oral orders. A general receives the orders that he took for the labels that he relays, and
--- a loyal general sends them to each receiver.
+-- The kind of campaigns with oral orders. A general's context has the orders that he took for the labels that he
+-- relays, and a loyal general sends these to each receiver.
 abbrev pub oral_kind : Kind
 oral_kind = record {
   context = context_of;

@@ -1,5 +1,5 @@
-//! Plays campaigns from a scenario to their chronicle, by a schedule or as a replay. The functions that take a world
-//! work for every kind of campaign.
+//! Plays campaigns from a scenario to their chronicle, by a schedule or as a replay. The functions that are generic
+//! over the world work for oral and signed campaigns.
 ghost use Rattle.std.specs.Prelude.{◌≡◌, IfOk, ◌<◌, [], suc, OnOk, replicate, slice_get, slice_index_or};
 ghost use Rattle.round.specs.Letters.{messages};
 ghost use Rattle.world.specs.Agreement.{IsFinished};
@@ -22,9 +22,9 @@ use crate::world::World;
 use round::Scenario;
 use std::alloc::{AllocError, Global};
 
-/// Returns the chronicle of the scenario's campaign, played by a schedule. In each round the entries of its line are
-/// played one by one. Then all loyal generals post their letters, and the traitors run to their ends, each in ascending
-/// order.
+/// Returns the chronicle of the scenario's campaign, played by a schedule. In each round the entries of the schedule's
+/// line for this round are played one by one. Then all loyal generals post their letters, ascending, and all traitors
+/// run to their ends, ascending.
 ///
 /// # Errors
 ///
@@ -49,8 +49,9 @@ pub fn play(alloc: Global, scenario: Scenario, schedule: &Schedule) -> Result<Ch
     }
 }
 
-/// Returns the chronicle of the scenario's campaign in which these generals, by round, make their accesses in this
-/// order. Accesses that are not named follow as each round is finished, and names after the last round are ignored.
+/// Returns the chronicle of the scenario's campaign, replayed. `names` lists for each round the generals who make
+/// accesses, in the order of these accesses. Traitors make their further accesses at the end of the round, ascending.
+/// Lists for rounds after the last are ignored.
 ///
 /// # Errors
 ///
@@ -75,7 +76,8 @@ pub fn replay(alloc: Global, scenario: Scenario, names: &[Vec<u8>]) -> Result<Ch
     }
 }
 
-/// Returns the world of the scenario's campaign, played by a schedule to its end.
+/// Returns the finished world of the scenario's campaign, played by a schedule. Fails with `AllocError` if it runs out
+/// of memory.
 fn played(alloc: Global, scenario: Scenario, schedule: &Schedule) -> Result<World, AllocError>
     ensures listed { IfOk result (λ world. world ≡ run (opening scenario) (listed scenario (lines_by schedule.now))) }
     ensures finished { IfOk result IsFinished }
@@ -86,8 +88,8 @@ fn played(alloc: Global, scenario: Scenario, schedule: &Schedule) -> Result<Worl
     Ok(world)
 }
 
-/// Returns the world of the scenario's campaign, played to its end, in which these generals, by round, make their
-/// accesses in this order.
+/// Returns the finished world of the scenario's campaign, replayed. `names` lists for each round the generals who make
+/// accesses, in the order of these accesses. Fails with `AllocError` if it runs out of memory.
 fn replayed(alloc: Global, scenario: Scenario, names: &[Vec<u8>]) -> Result<World, AllocError>
     ensures replayed { IfOk result (λ world. world ≡ run (opening scenario) (replayed scenario (lists_in names.now))) }
     ensures finished { IfOk result IsFinished }
@@ -98,8 +100,8 @@ fn replayed(alloc: Global, scenario: Scenario, names: &[Vec<u8>]) -> Result<Worl
     Ok(world)
 }
 
-/// Ticks a general `times` times. The ticks are not taken one by one: the activation runs on from one access to the
-/// next.
+/// Takes `times` ticks of a general's activation, or fewer if it ends. The ticks between two accesses are taken
+/// together. For a general who is not a traitor it does nothing. Fails with `AllocError` if it runs out of memory.
 fn tick_often<W: PlayableWorld>(world: &mut W, general: u32, times: u32) -> Result<(), AllocError>
     ensures { OnOk result (W.seen world.new ≡ run_of W.kind (W.seen world.old) (replicate times (Tick general))) }
 {
@@ -119,8 +121,8 @@ fn tick_often<W: PlayableWorld>(world: &mut W, general: u32, times: u32) -> Resu
     Ok(())
 }
 
-/// Plays a repeated entry of a schedule's line: a traitor's ticks or a loyal general's posts. If there is no such
-/// general, it does nothing.
+/// Plays an entry of a schedule's line, which names a general and a number of times: a traitor's ticks or a loyal
+/// general's posts. It does nothing if there is no such general. Fails with `AllocError` if it runs out of memory.
 fn play_entry<W: PlayableWorld>(world: &mut W, repeat: Repeat) -> Result<(), AllocError>
     ensures { OnOk result (W.seen world.new
         ≡ run_of W.kind (W.seen world.old)
@@ -135,7 +137,8 @@ fn play_entry<W: PlayableWorld>(world: &mut W, repeat: Repeat) -> Result<(), All
     repeated(world, repeat.general, u32::from(repeat.times))
 }
 
-/// Plays `times` entries of one general.
+/// Plays `times` ticks of this general if he is a traitor, or `times` posts of his letter if he is loyal. Fails with
+/// `AllocError` if it runs out of memory.
 fn repeated<W: PlayableWorld>(world: &mut W, general: u8, times: u32) -> Result<(), AllocError>
     requires inside { general < (W.seen world.old).scenario.generals }
     requires some { 0 < times }
@@ -150,7 +153,7 @@ fn repeated<W: PlayableWorld>(world: &mut W, general: u8, times: u32) -> Result<
     Ok(())
 }
 
-/// Posts a loyal general's letter `times` times, which has the effect of posting it once.
+/// Posts a loyal general's letter `times` times. That has the effect of one post.
 fn post_often<W: PlayableWorld>(world: &mut W, general: u32, times: u32)
     requires { 0 < times }
     ensures { W.seen world.new ≡ run_of W.kind (W.seen world.old) (replicate times (Post general)) }
@@ -159,7 +162,7 @@ fn post_often<W: PlayableWorld>(world: &mut W, general: u32, times: u32)
     world.give_post(general);
 }
 
-/// Plays the entries of a schedule's line.
+/// Plays the entries of a schedule's line in their order. Fails with `AllocError` if it runs out of memory.
 fn play_line<W: PlayableWorld>(world: &mut W, repeats: &[Repeat]) -> Result<(), AllocError>
     ensures { OnOk result (W.seen world.new
         ≡ run_of W.kind (W.seen world.old) (line_events (W.seen world.old).scenario (entries_of repeats.now))) }
@@ -170,7 +173,8 @@ fn play_line<W: PlayableWorld>(world: &mut W, repeats: &[Repeat]) -> Result<(), 
     Ok(())
 }
 
-/// Ticks a traitor until he has made one more access or has ended. For any other general it does nothing.
+/// Takes ticks of a traitor's activation until it has made one more access or has ended. For any other general it does
+/// nothing. Fails with `AllocError` if it runs out of memory.
 fn tick_to_access<W: PlayableWorld>(world: &mut W, general: u32) -> Result<(), AllocError>
     ensures { OnOk result (W.seen world.new
         ≡ run_of W.kind (W.seen world.old) (ticks_named general (slice_get (W.seen world.old).parts general))) }
@@ -185,7 +189,8 @@ fn tick_to_access<W: PlayableWorld>(world: &mut W, general: u32) -> Result<(), A
     }
 }
 
-/// Lets the generals that are named for a round make their accesses in this order.
+/// Lets each general in `names` make his next access, in this order. A traitor's program runs until then. If his
+/// activation ends before that, he makes none. Names of loyal generals have no effect.
 ///
 /// # Errors
 ///
@@ -201,7 +206,7 @@ pub fn play_names<W: PlayableWorld>(world: &mut W, names: &[u8]) -> Result<(), A
     Ok(())
 }
 
-/// Marks the general as having posted if he is loyal.
+/// Marks the general as having posted his letter if he is loyal. For a traitor it does nothing.
 fn post_if_loyal<W: PlayableWorld>(world: &mut W, general: u8)
     requires { general < (W.seen world.old).scenario.generals }
     ensures { W.seen world.new
@@ -212,7 +217,8 @@ fn post_if_loyal<W: PlayableWorld>(world: &mut W, general: u8)
     }
 }
 
-/// Ticks a traitor to his end. For a loyal general it does nothing.
+/// Takes ticks of a traitor's activation until it has ended. For a loyal general it does nothing. Fails with
+/// `AllocError` if it runs out of memory.
 fn tick_to_end<W: PlayableWorld>(world: &mut W, general: u8) -> Result<(), AllocError>
     requires { general < (W.seen world.old).scenario.generals }
     ensures { OnOk result (W.seen world.new
@@ -227,7 +233,7 @@ fn tick_to_end<W: PlayableWorld>(world: &mut W, general: u8) -> Result<(), Alloc
     }
 }
 
-/// Marks all loyal generals as having posted, in ascending order.
+/// Marks all loyal generals as having posted their letters.
 fn all_post<W: PlayableWorld>(world: &mut W)
     ensures { W.seen world.new
         ≡ run_of W.kind (W.seen world.old)
@@ -238,7 +244,8 @@ fn all_post<W: PlayableWorld>(world: &mut W)
     }
 }
 
-/// Ticks all traitors to their ends, in ascending order.
+/// Takes ticks of all traitors' activations until they have ended, one traitor after the other, ascending. Fails with
+/// `AllocError` if it runs out of memory.
 fn all_end<W: PlayableWorld>(world: &mut W) -> Result<(), AllocError>
     ensures { OnOk result (W.seen world.new
         ≡ run_of W.kind (W.seen world.old)
@@ -250,7 +257,7 @@ fn all_end<W: PlayableWorld>(world: &mut W) -> Result<(), AllocError>
     Ok(())
 }
 
-/// Closes the round if one is open.
+/// Closes the open round. If all rounds are closed, it does nothing. Fails with `AllocError` if it runs out of memory.
 fn end_round<W: PlayableWorld>(world: &mut W) -> Result<(), AllocError>
     ensures { OnOk result (W.seen world.new ≡ happen W.kind (W.seen world.old) Close) }
 {
@@ -260,7 +267,8 @@ fn end_round<W: PlayableWorld>(world: &mut W) -> Result<(), AllocError>
     world.close_round()
 }
 
-/// Finishes the round: all loyal generals post, all traitors run to their ends, and the round is closed.
+/// Finishes the round: all loyal generals post their letters, all traitors' activations run to their ends, and the
+/// round is closed.
 ///
 /// # Errors
 ///
@@ -274,7 +282,8 @@ pub fn wind_up<W: PlayableWorld>(world: &mut W) -> Result<(), AllocError>
     end_round(world)
 }
 
-/// Plays a round by a line of a schedule, and finishes it.
+/// Plays a round by this line of a schedule, and finishes it: loyal generals post, traitors run to their ends, and the
+/// round is closed. Fails with `AllocError` if it runs out of memory.
 fn listed_round<W: PlayableWorld>(world: &mut W, line: &[Repeat]) -> Result<(), AllocError>
     ensures { OnOk result (W.seen world.new
         ≡ run_of W.kind
@@ -285,7 +294,8 @@ fn listed_round<W: PlayableWorld>(world: &mut W, line: &[Repeat]) -> Result<(), 
     wind_up(world)
 }
 
-/// Plays a round in which these generals make their accesses in this order, and finishes it.
+/// Plays a round in which the generals in `names` make their accesses in this order, and finishes it: loyal generals
+/// post, traitors run to their ends, and the round is closed.
 ///
 /// # Errors
 ///
@@ -300,7 +310,7 @@ pub fn named_round<W: PlayableWorld>(world: &mut W, names: &[u8]) -> Result<(), 
     wind_up(world)
 }
 
-/// Plays `bound + 1` rounds by a schedule. From the opening of a world on, this is the whole campaign.
+/// Plays `bound + 1` rounds by a schedule. If the world has just been opened, this is the whole campaign.
 ///
 /// # Errors
 ///
@@ -318,8 +328,9 @@ pub fn play_listed<W: PlayableWorld>(world: &mut W, schedule: &Schedule) -> Resu
     Ok(())
 }
 
-/// Plays `bound + 1` rounds in which these generals, by round, make their accesses in this order. Accesses that are not
-/// named follow as each round is finished. From the opening of a world on, this is the whole campaign.
+/// Plays `bound + 1` rounds. `names` lists for each round the generals who make accesses, in the order of these
+/// accesses. Traitors make their further accesses at the end of the round. If the world has just been opened, this is
+/// the whole campaign.
 ///
 /// # Errors
 ///
@@ -337,7 +348,8 @@ pub fn play_named<W: PlayableWorld>(world: &mut W, names: &[Vec<u8>]) -> Result<
     Ok(())
 }
 
-/// Returns the entries of a schedule for a round, counted from 0. They are empty if the schedule has no such line.
+/// Returns the entries of a schedule's line for a round, counted from 0, or no entries if the schedule has no line for
+/// it.
 fn line_at(schedule: &Schedule, round: usize) -> &[Repeat]
     ensures { result.now ≡ slice_index_or schedule.now round [] }
 {
@@ -347,7 +359,7 @@ fn line_at(schedule: &Schedule, round: usize) -> &[Repeat]
     }
 }
 
-/// Returns the names for a round, counted from 0. They are empty if there is no such round in the list.
+/// Returns the list of `names` for a round, counted from 0, or an empty list if there is none for it.
 fn names_at(names: &[Vec<u8>], round: usize) -> &[u8]
     ensures { result.now ≡ slice_index_or (lists_in names.now) round [] }
 {

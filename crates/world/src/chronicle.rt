@@ -1,4 +1,4 @@
-//! The chronicle of a finished campaign: letters, accesses, decisions and verdict.
+//! Defines the chronicle of a finished campaign: its letters, accesses, decisions and verdict.
 ghost use Rattle.std.specs.Prelude.{◌≡◌};
 ghost use Rattle.world.specs.Chronicle.{chronicle_with, verdict_of};
 
@@ -9,7 +9,8 @@ use board::Access;
 use round::{Round, Scenario};
 use std::marker::Model;
 
-/// The record of a finished campaign: its letters, its accesses, the lieutenants' decisions and the verdict on them.
+/// The record of a finished campaign: its scenario, letters and accesses, the lieutenants' decisions and the verdict on
+/// them.
 #[derive(Drop)]
 pub struct Chronicle {
     scenario: Scenario,
@@ -34,9 +35,9 @@ impl Model for Chronicle {
 }
 
 impl Chronicle {
-    /// Returns the chronicle of a campaign. `accesses` are in the board's order, `letters` has a round's letters by
-    /// general in each entry, and `decisions` has the decision of each lieutenant, in ascending order of the
-    /// lieutenants. The verdict is computed from the scenario and the decisions.
+    /// Returns the chronicle with these contents, and computes its verdict. `accesses` are in the board's order.
+    /// `letters` has an element for each round, with the letters by general. `decisions` has the decision of each
+    /// lieutenant, ascending by lieutenant.
     pub fn of(
         scenario: Scenario,
         accesses: Vec<Access>,
@@ -69,14 +70,14 @@ impl Chronicle {
         self.letters.as_slice()
     }
 
-    /// Returns the accesses in the board's order.
+    /// Returns the accesses of all rounds, in the board's order.
     pub fn accesses(&self) -> &[Access]
         ensures { result.now ≡ self.now.accesses }
     {
         self.accesses.as_slice()
     }
 
-    /// Returns the decisions of the lieutenants, ascending by number.
+    /// Returns the order on which each lieutenant decided, ascending by lieutenant.
     pub fn decisions(&self) -> &[u32]
         ensures { result.now ≡ self.now.decisions }
     {

@@ -1,9 +1,10 @@
-//! The draft of a general's letter, made before his activation is taken apart as a round is closed.
+//! Defines the draft of a general's letter. When a round is closed, all drafts are made before any letter, since only
+//! drafts need memory that could be lacking.
 use board::Access;
 use round::Letter;
 use std::marker::Model;
 
-/// One general's accesses of a round. In contracts it is the list of the accesses.
+/// The accesses of one general in a round. Contracts see it as a list of accesses.
 #[derive(Drop)]
 pub struct Transcript {
     pub accesses: Vec<Access>,
@@ -18,13 +19,13 @@ impl Model for Transcript {
     ghost view = { λ t. t.accesses.items };
 }
 
-/// The parts of a general's letter for which memory must be allocated.
+/// A draft of a general's letter: whatever in the letter needs newly allocated memory.
 #[derive(Drop)]
 pub enum LetterDraft {
-    /// A traitor's accesses. The rest of his letter is in his activation.
+    /// A traitor's accesses. The other contents of his letter are in his activation.
     Begun(Transcript),
-    /// A loyal general's letter.
+    /// A loyal general's complete letter.
     Whole(Letter),
-    /// There is no letter.
+    /// There is no letter: a loyal general has not posted, or the draft was moved out.
     Missing,
 }

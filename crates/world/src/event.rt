@@ -1,28 +1,29 @@
-//! The events of a campaign, and why an event is rejected.
+//! Defines the events of a campaign, and why an event is rejected.
 use std::alloc::AllocError;
 use std::error::Error;
 use std::fmt;
 
-/// An event of a campaign.
+/// An event of a campaign: a tick, a post or a close.
 #[derive(Clone, Copy)]
 pub enum Event {
-    /// A traitor's program executes one instruction. The number is the general's.
+    /// The traitor with this number takes a step: his program executes one instruction, or makes a request that the
+    /// board answers.
     Tick(u32),
-    /// A loyal general's letter is marked as posted. The number is the general's.
+    /// The loyal general with this number posts his letter.
     Post(u32),
-    /// The open round is closed.
+    /// The open round is closed: its letters are delivered, and the next round begins.
     Close,
 }
 
-/// Why an event is rejected or fails.
+/// Why an event is rejected, or cannot be applied.
 #[derive(Clone, Copy, Debug, PartialEq, Eq)]
 pub enum EventError {
     /// E1: all rounds are closed.
     NotOpen,
-    /// E2: the general does not exist or is not of the event's kind. A tick needs a traitor, and a post needs a loyal
+    /// E2: there is no such general, or he is of the wrong kind: a tick needs a traitor, and a post needs a loyal
     /// general.
     NoGeneral,
-    /// There is no memory for what the event needs.
+    /// An allocation failed.
     Memory,
 }
 

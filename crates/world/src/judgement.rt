@@ -1,4 +1,4 @@
-//! Judges the lieutenants' decisions: the verdict on a campaign.
+//! Judges the lieutenants' decisions.
 ghost use Rattle.std.specs.Prelude.{◌≡◌, ◌<◌, ◌*◌, ◌++◌, ◌==◌, ◌&&◌, length, cond, None, Some, count_by, nat_lt, nat_le, slice_get};
 ghost use Rattle.std.specs.List.{list_all};
 ghost use Rattle.label.specs.Labels.{generals};
@@ -11,7 +11,7 @@ use crate::verdict::Verdict;
 use arrayvec::ArrayVec;
 use round::Scenario;
 
-/// Returns the verdict on these decisions of the lieutenants, which are ascending by number.
+/// Returns the verdict on the lieutenants' decisions, which are given ascending by lieutenant.
 pub(crate) fn verdict(scenario: &Scenario, decisions: &[u32]) -> Verdict
     ensures { result ≡ verdict_of scenario.now decisions.now }
 {
@@ -23,7 +23,7 @@ pub(crate) fn verdict(scenario: &Scenario, decisions: &[u32]) -> Verdict
     }
 }
 
-/// Checks whether all these decisions of loyal lieutenants are the same.
+/// Returns whether all these decisions of loyal lieutenants are the same. It is true for an empty list.
 pub fn alike(loyal: &[u32]) -> bool
     ensures { result ≡ are_alike loyal.now }
 {
@@ -33,15 +33,15 @@ pub fn alike(loyal: &[u32]) -> bool
     }
 }
 
-/// Checks whether all these decisions are this order.
+/// Returns whether each of these decisions is this order.
 fn are_all(decisions: &[u32], order: u32) -> bool
     ensures { result ≡ list_all (λ d. d == order) decisions.now }
 {
     decisions.iter().all(|decision| *decision == order)
 }
 
-/// Checks whether all these decisions of loyal lieutenants are the commander's order. Returns `None` if the commander
-/// is a traitor.
+/// Returns whether each of these decisions of loyal lieutenants is the commander's order. Returns `None` if the
+/// commander is a traitor.
 pub fn obeyed(scenario: &Scenario, loyal: &[u32]) -> Option<bool>
     ensures { result ≡ cond (is_traitor scenario.now scenario.now.commander) None
         (Some (list_all (λ d. d == scenario.now.order) loyal.now)) }
@@ -52,7 +52,8 @@ pub fn obeyed(scenario: &Scenario, loyal: &[u32]) -> Option<bool>
     Some(are_all(loyal, scenario.order()))
 }
 
-/// Checks whether there are more generals than three times the bound, and at most as many traitors as the bound.
+/// Returns whether the bound holds: there are more generals than three times the bound, and at most as many traitors as
+/// the bound.
 fn is_bound(scenario: &Scenario) -> bool
     ensures { result ≡ (nat_lt (3 * scenario.now.bound) scenario.now.generals
         && nat_le (count_by (is_traitor scenario.now) (generals scenario.now.generals)) scenario.now.bound) }
@@ -61,7 +62,7 @@ fn is_bound(scenario: &Scenario) -> bool
     3 * bound < scenario.generals() && traitors(scenario) <= bound
 }
 
-/// Returns how many generals are traitors.
+/// Returns the number of traitors among the generals.
 pub fn traitors(scenario: &Scenario) -> u8
     ensures { result ≡ count_by (is_traitor scenario.now) (generals scenario.now.generals) }
 {
@@ -74,7 +75,8 @@ pub fn traitors(scenario: &Scenario) -> u8
     traitors
 }
 
-/// Returns the decisions of the loyal lieutenants, ascending by number.
+/// Returns the decisions of only the loyal lieutenants, ascending by lieutenant. `decisions` are those of all
+/// lieutenants, in the same order.
 pub fn loyal_decisions(scenario: &Scenario, decisions: &[u32]) -> ArrayVec<u32, 13>
     ensures { result.items ≡ of_loyal scenario.now
         (lieutenants scenario.now.generals scenario.now.commander) decisions.now }
@@ -90,7 +92,8 @@ pub fn loyal_decisions(scenario: &Scenario, decisions: &[u32]) -> ArrayVec<u32, 
     loyal
 }
 
-/// Appends one lieutenant's decision if he is loyal. `place` is its index in `decisions`.
+/// Appends the decision of lieutenant `general` to `loyal` if he is loyal. `place` is the index of his decision in
+/// `decisions`.
 fn count(
     loyal: &mut ArrayVec<u32, 13>,
     scenario: &Scenario,

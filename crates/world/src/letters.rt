@@ -1,4 +1,4 @@
-//! Makes the letters of a round as it is closed: first the drafts that need memory, then the letters.
+//! Makes the letters of a round when it is closed: first drafts, which need memory, then the letters, which need none.
 ghost use Rattle.std.specs.Prelude.{◌≡◌, ◌≢◌, ◌<◌, ◌≤◌, ◌+◌, ℕ, [], suc, List, Some, length, ◌++◌, ◌&&◌, drop, IfOk, slice_get, vec_len, vec_capacity};
 ghost use Rattle.std.specs.List.{list_all};
 ghost use Rattle.board.specs.Board.{Access as Entry};
@@ -18,8 +18,9 @@ use round::{Letter, Received, Round, Scenario, loyal_letter};
 use std::alloc::{AllocError, Global};
 use std::mem::replace;
 
-/// Returns the drafts of all generals' letters from their current parts. No other memory is needed for the letters in
-/// the round's list.
+/// Returns the drafts of all generals' letters in the open round, ascending. `parts` has what each general has done in
+/// it so far. Writing letters from these drafts, into a list with room for them, allocates no memory. Fails with
+/// `AllocError` if it runs out of memory.
 pub(crate) fn drafts(
     alloc: Global,
     told: &Received,
@@ -39,7 +40,8 @@ pub(crate) fn drafts(
     Ok(drafts)
 }
 
-/// Returns the draft of one general's letter.
+/// Returns the draft of one general's letter in the open round: a traitor's accesses, or a loyal general's letter if he
+/// has posted. Fails with `AllocError` if it runs out of memory.
 fn draft(
     alloc: Global,
     told: &Received,
@@ -69,7 +71,8 @@ fn draft(
     }
 }
 
-/// Returns a loyal general's letter of the open round.
+/// Returns a loyal general's letter of the open round, in which he relays what he received in the closed rounds. Fails
+/// with `AllocError` if it runs out of memory.
 fn loyal(
     alloc: Global,
     told: &Received,
@@ -88,7 +91,7 @@ fn loyal(
     loyal_letter(alloc, u32::from(general), round, context)
 }
 
-/// Returns a copy of one general's accesses.
+/// Returns a copy of those accesses that were made by this general, in their order.
 ///
 /// # Errors
 ///
@@ -109,10 +112,10 @@ pub fn transcript(
     Ok(Transcript { accesses: own })
 }
 
-/// Returns the letters of `generals` generals, made from their drafts and the traitors' activations. The letters are
-/// written into `list`, which must have capacity for them, and no memory is allocated.
+/// Returns the letters of `generals` generals in a round, made from their drafts and the traitors' activations. They
+/// are written into `list`, which must be empty and have room for them, so no memory is allocated.
 ///
-/// The activations are moved out of the parts, which are useless afterwards and should be dropped.
+/// The activations are moved out of `parts`, which should then be dropped.
 pub fn letters(
     mut list: Vec<Letter>,
     mut drafts: Vec<LetterDraft>,
@@ -132,7 +135,7 @@ pub fn letters(
     list
 }
 
-/// Appends one general's letter, if there is one.
+/// Appends one general's letter to `list`. It appends nothing if his draft says that he has no letter.
 fn write(
     list: &mut Vec<Letter>,
     drafts: &mut Vec<LetterDraft>,
@@ -171,7 +174,8 @@ fn write(
     }
 }
 
-/// Appends a traitor's letter, which is made from his accesses and his activation.
+/// Appends a traitor's letter to `list`. It is made from his accesses and from his activation, which is moved out of
+/// `part`.
 fn leave(
     list: &mut Vec<Letter>,
     part: &mut Progress,
@@ -191,7 +195,7 @@ fn leave(
     }
 }
 
-/// Returns the accesses from the index `opened` on.
+/// Returns the accesses of the ledger from index `opened` on.
 pub fn since(ledger: &[Access], opened: usize) -> &[Access]
     ensures { result.now ≡ drop opened ledger.now }
 {
@@ -201,14 +205,15 @@ pub fn since(ledger: &[Access], opened: usize) -> &[Access]
     &ledger[opened..]
 }
 
-/// Checks whether the world was full before and every loyal general has posted in the open round.
+/// Returns whether `full` is true and every loyal general has posted in the open round. `full` says whether all of them
+/// posted in each closed round.
 pub fn is_full(full: bool, parts: &[Progress]) -> bool
     ensures { result ≡ (full && list_all owes_no_letter parts.now) }
 {
     full && all_posted(parts)
 }
 
-/// Checks whether every loyal general has posted.
+/// Returns whether every loyal general has posted in the open round.
 fn all_posted(parts: &[Progress]) -> bool
     ensures { result ≡ list_all owes_no_letter parts.now }
 {

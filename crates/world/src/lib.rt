@@ -1,4 +1,5 @@
-//! The world of a campaign: plays a campaign event by event, and judges its decisions. The definitions are in specs/.
+//! Plays a campaign event by event, and judges the lieutenants' decisions. The world is the state of a campaign. The
+//! definitions are in specs/.
 #![tactic(auto)]
 
 mod campaign;

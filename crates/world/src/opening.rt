@@ -1,4 +1,5 @@
-//! Opens a round: makes the generals' parts, and gives the traitors' activations their contexts.
+//! Opens a round: makes the generals' parts in it, and gives the traitors' activations their contexts. A part is what a
+//! general does in the round.
 ghost use Rattle.std.specs.Prelude.{◌≡◌, ◌<◌, ◌≤◌, ◌+◌, ◌++◌, ◌∷◌, [], suc, Some, length, slice_get, slice_set, IfOk, OnOk, vec_len, vec_capacity};
 ghost use Rattle.std.specs.Arc.{arc_value};
 ghost use Rattle.semantics.specs.Relay.{oral};
@@ -17,8 +18,9 @@ use std::alloc::{AllocError, Global};
 use std::sync::Arc;
 use verify::Verified;
 
-/// Returns all generals' parts at the start of the round after `before` closed ones. The contexts are not written yet.
-/// If no round is left, there are no parts. Opening a round needs no other memory.
+/// Returns each general's part in the round after the first `before` rounds. The traitors' activations have empty
+/// contexts, which `brief` will write without allocating memory. If there is no further round, returns an empty list.
+/// Fails with `AllocError` if it runs out of memory.
 pub(crate) fn blanks(
     alloc: Global,
     scenario: &Scenario,
@@ -36,7 +38,8 @@ pub(crate) fn blanks(
     Ok(parts)
 }
 
-/// Appends one general's part. The list must have capacity for it.
+/// Appends one general's part in the round after the first `before` rounds: a new activation if he is a traitor,
+/// otherwise that he has not posted. `parts` must have room for it. Fails with `AllocError` if it runs out of memory.
 fn push_blank(
     parts: &mut Vec<Progress>,
     alloc: Global,
@@ -63,7 +66,8 @@ fn push_blank(
     Ok(())
 }
 
-/// Returns the activation of a traitor with a context of zero bytes and an empty outbox.
+/// Returns a traitor's new activation in the round after the first `before` rounds. Its outbox is empty, and its
+/// context is 4,096 zero bytes until the real one is written. Fails with `AllocError` if it runs out of memory.
 fn blank(
     alloc: Global,
     scenario: &Scenario,
@@ -84,7 +88,7 @@ fn blank(
     Running::start(alloc, program, context, scenario.patience(), outbox)
 }
 
-/// Returns a context that consists of 4,096 zero bytes.
+/// Returns a context of 4,096 zero bytes. Fails with `AllocError` if it runs out of memory.
 fn zeros(alloc: Global) -> Result<Vec<u8>, AllocError>
     ensures same { IfOk result (λ bytes. bytes.items ≡ zeros) }
     ensures long { IfOk result (λ bytes. length bytes.items ≡ 4096) }
@@ -94,7 +98,8 @@ fn zeros(alloc: Global) -> Result<Vec<u8>, AllocError>
     Ok(bytes)
 }
 
-/// Writes the generals' contexts into the traitors' activations. It allocates no memory.
+/// Writes each traitor's context into his activation. `told` is what was received in the closed rounds. It allocates no
+/// memory.
 pub(crate) fn brief(
     parts: &mut Vec<Progress>,
     told: &Received,
@@ -113,7 +118,8 @@ pub(crate) fn brief(
     }
 }
 
-/// Writes a general's context into his activation if he is a traitor. It allocates no memory.
+/// Writes this general's context into his activation if he is a traitor. `told` is what was received in the closed
+/// rounds. It allocates no memory.
 fn brief_one(
     parts: &mut Vec<Progress>,
     told: &Received,

@@ -1,4 +1,4 @@
-//! The outcome of a campaign: the lieutenants' decisions and the chronicle of a world.
+//! Computes the outcome of a campaign from its world: the lieutenants' decisions and the chronicle.
 ghost use Rattle.std.specs.Prelude.{◌≡◌, ◌↔◌, IfSome, IsSome};
 ghost use Rattle.round.specs.Letters.{messages};
 ghost use Rattle.world.specs.Agreement.{IsFinished};
@@ -11,11 +11,11 @@ use arrayvec::ArrayVec;
 use resolve::resolve;
 
 impl World {
-    /// Returns what the lieutenants decide from the messages so far, ascending by number: the decision of OM(m) by the
-    /// scenario's rule, where m is the bound (TOPLAS 1982). It allocates no memory.
+    /// Returns the order on which each lieutenant decides from the messages so far, ascending by lieutenant. He decides
+    /// by OM(m) with the scenario's rule, where m is the bound (TOPLAS 1982). It allocates no memory.
     ///
-    /// If all rounds are closed, every loyal general has posted in each, and the bound holds, the loyal lieutenants
-    /// decide alike, and on the order of a loyal commander.
+    /// Suppose all rounds are closed, every loyal general has posted in each, and the bound holds. Then all loyal
+    /// lieutenants decide on the same order, and on the commander's order if he is loyal.
     pub fn decisions(&self) -> ArrayVec<u32, 12>
         ensures values { result.items ≡ decisions self.now.scenario (messages self.now.closed) }
         ensures agree { IsFinished self.now → AgreeUnderBound self.now.scenario result.items }
@@ -29,8 +29,8 @@ impl World {
         decisions
     }
 
-    /// Returns the chronicle of the world. Returns `None` if a round is open, or if a loyal general had not posted in a
-    /// closed round. It allocates no memory.
+    /// Returns the chronicle of the world's campaign. Returns `None` if a round is open, or if a loyal general had not
+    /// posted in some closed round. It allocates no memory.
     pub fn chronicle(self) -> Option<Chronicle>
         ensures finished { IsSome result ↔ IsFinished self }
         ensures told { IfSome result (λ chronicle. chronicle ≡ chronicle_of self) }

@@ -1,13 +1,14 @@
-//! The part of a general in the open round.
+//! Defines a general's part in the open round.
 ghost use Rattle.std.specs.Prelude.{◌≡◌};
 ghost use Rattle.world.specs.Part.{owes_no_letter};
 
 use round::Running;
 
-/// The part of a general in the open round: a traitor's activation, or whether a loyal general has posted his letter.
+/// What a general does in the open round: a traitor has an activation, and a loyal general has posted his letter or
+/// not.
 #[derive(Drop)]
 pub enum Progress {
-    /// A traitor in his activation.
+    /// A traitor with his activation.
     Acting(Running),
     /// A loyal general who has not posted his letter.
     Silent,
@@ -16,7 +17,8 @@ pub enum Progress {
 }
 
 impl Progress {
-    /// Checks whether no letter of the general is missing before the round is closed.
+    /// Returns whether the round can be closed without missing this general's letter: he is a traitor, or he has
+    /// posted.
     pub fn owes_no_letter(&self) -> bool
         ensures { result ≡ owes_no_letter self.now }
     {

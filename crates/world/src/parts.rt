@@ -1,4 +1,4 @@
-//! Applies one event to the generals' parts and the board, and reads the parts.
+//! Applies events to the generals' parts in the open round and to the board, and reads the parts.
 ghost use Rattle.std.specs.Prelude.{◌≡◌, ◌↔◌, IsTrue, OnOk, OnErr, slice_get, is_some};
 ghost use Rattle.world.specs.World.{unfit, named_by};
 ghost use Rattle.world.specs.Held.{ticked_of, posted_of, AheadTo, AsksNext, steps_of};
@@ -9,8 +9,8 @@ use crate::part::Progress;
 use board::Board;
 use std::alloc::AllocError;
 
-/// Checks whether the event's general does not exist or is not of the event's kind: a traitor for a tick, a loyal
-/// general for a post.
+/// Returns whether an event names a general who does not exist or is of the wrong kind: a tick needs a traitor, and a
+/// post needs a loyal general. It is false for a close.
 pub fn is_unfit(parts: &[Progress], event: Event) -> bool
     ensures { result ≡ is_some (unfit event (slice_get parts.now (named_by event))) }
 {
@@ -24,11 +24,12 @@ pub fn is_unfit(parts: &[Progress], event: Event) -> bool
     }
 }
 
-/// Takes one turn of a traitor's activation. For any other general it does nothing.
+/// Takes one tick of a traitor's activation: a step of his program, or a request that the board answers. For any other
+/// general it does nothing.
 ///
 /// # Errors
 ///
-/// Fails with `AllocError` if the turn makes a request and there is no memory for the access. Then nothing has changed.
+/// Fails with `AllocError` if the tick makes a request and there is no memory for the access. Then nothing has changed.
 pub fn turn(
     parts: &mut Vec<Progress>,
     board: &mut Board,
@@ -52,8 +53,8 @@ pub fn turn(
     }
 }
 
-/// Takes turns of the traitor `general` until his next turn would be a request to the board, his activation has ended,
-/// or it has taken at least `limit` steps since it began. Returns the number of turns taken, which is 0 if the general
+/// Takes ticks of the traitor `general` until his next tick would be a request to the board, his activation has ended,
+/// or it has taken at least `limit` steps since it began. Returns the number of ticks taken, which is 0 if the general
 /// is not a traitor with a running activation.
 pub fn ahead(parts: &mut Vec<Progress>, general: u32, limit: u32) -> u32
     ensures { AheadTo limit result parts.old.items general (slice_get parts.old.items general) parts.new.items }
@@ -73,7 +74,8 @@ pub fn ahead(parts: &mut Vec<Progress>, general: u32, limit: u32) -> u32
     }
 }
 
-/// Marks a loyal general as having posted. A second post changes nothing.
+/// Marks a loyal general as having posted his letter. It does nothing if he has already posted or is not a loyal
+/// general.
 pub fn mark_posted(parts: &mut Vec<Progress>, general: u32)
     ensures { parts.new.items ≡ posted_of general parts.old.items (slice_get parts.old.items general) }
 {
@@ -83,7 +85,7 @@ pub fn mark_posted(parts: &mut Vec<Progress>, general: u32)
     }
 }
 
-/// Checks whether the general is not acting, or his activation has ended.
+/// Returns whether ticks of this general change nothing: his activation has ended, or he is not a traitor.
 pub fn is_still(parts: &[Progress], general: u32) -> bool
     ensures { IsTrue result ↔ IsStill (slice_get parts.now general) }
 {
@@ -95,7 +97,7 @@ pub fn is_still(parts: &[Progress], general: u32) -> bool
     }
 }
 
-/// Returns how many steps a traitor's activation has taken, which is 0 for any other general.
+/// Returns how many steps a traitor's activation has taken, or 0 for any other general.
 pub fn steps(parts: &[Progress], general: u32) -> u32
     ensures { result ≡ steps_of (slice_get parts.now general) }
 {
@@ -107,7 +109,7 @@ pub fn steps(parts: &[Progress], general: u32) -> u32
     }
 }
 
-/// Returns how many instructions the program of an acting general has, or `None` if he is not acting.
+/// Returns how many instructions a traitor's program has, or `None` for any other general.
 pub fn instructions(parts: &[Progress], general: u32) -> Option<u32>
     ensures { result ≡ program_length (slice_get parts.now general) }
 {

@@ -1,12 +1,12 @@
-//! Schedules: the order in which the generals act in each round.
+//! Defines schedules: the order in which the generals act in each round.
 use std::marker::Model;
 
-/// Consecutive entries of one general in a schedule's line.
+/// An entry of a schedule's line: a general, and how many times in a row he acts.
 #[derive(Clone, Copy)]
 pub struct Repeat {
-    /// The general's number.
+    /// The number of the general.
     pub general: u8,
-    /// How many entries he has.
+    /// How many times he acts: a traitor takes that many ticks, and a loyal general posts his letter that many times.
     pub times: u16,
 }
 
@@ -25,7 +25,7 @@ impl Model for ScheduleLine {
     ghost view = { λ e. e.repeats.items };
 }
 
-/// A schedule: a line of entries for each round, from the first on. Rounds without a line have no entries.
+/// A schedule: a line of entries for each round, from the first round on. A round without a line has no entries.
 #[derive(Drop)]
 pub struct Schedule {
     pub lines: Vec<ScheduleLine>,

@@ -1,4 +1,4 @@
-//! The world of a campaign with oral orders: its state, how it opens, and what an event does to it.
+//! Defines the world of a campaign with oral orders: its state, how it opens, and what an event does to it.
 ghost use Rattle.std.specs.Prelude.{◌≡◌, ◌≤◌, suc, length, IfOk, OnOk, OnErr, IfErr, None, slice_get, replicate};
 ghost use Rattle.world.specs.declared.event.Event.TheVariants.{Tick, Post, Close};
 ghost use Rattle.world.specs.World.{opening, happen, refusal, run};
@@ -24,11 +24,11 @@ pub struct World {
     pub(crate) closed: Vec<Round>,
     /// The board with its words and its ledger.
     pub(crate) board: Board,
-    /// The index at which the open round's accesses begin in the ledger.
+    /// The index in the ledger of the open round's first access.
     pub(crate) opened: usize,
-    /// The generals' parts in the open round, by general.
+    /// What each general does in the open round, ascending by general. It is empty if all rounds are closed.
     pub(crate) parts: Vec<Progress>,
-    /// Whether all loyal generals had posted in each closed round.
+    /// Whether every loyal general had posted when each of the closed rounds was closed.
     pub(crate) full: bool,
     /// What the lieutenants have received from the letters of the closed rounds.
     pub(crate) told: Received,
@@ -49,7 +49,7 @@ impl Model for World {
 }
 
 impl World {
-    /// Returns the scenario's world before any event.
+    /// Returns the world of the scenario's campaign before any event. Its first round is open.
     ///
     /// # Errors
     ///
@@ -77,9 +77,9 @@ impl World {
     ///
     /// # Errors
     ///
-    /// After an error the world is as it was. The call fails with `NotOpen` if all rounds are closed. It fails with
-    /// `NoGeneral` if the general does not exist or is not of the event's kind. Otherwise it fails with `Memory` if
-    /// there is no memory for a close or for the access of a tick that makes a request. Other ticks and posts need none.
+    /// Fails with `NotOpen` if all rounds are closed. Fails with `NoGeneral` if the event's general does not exist or
+    /// is of the wrong kind: a tick needs a traitor, and a post needs a loyal general. Fails with `Memory` if there is
+    /// no memory for a close, or for the access of a tick that makes a request. After any error the world is unchanged.
     pub fn apply(&mut self, event: Event) -> Result<(), EventError>
         ensures done { OnOk result (self.new ≡ happen self.old event) }
         ensures undone { OnErr result (self.new ≡ self.old) }
@@ -102,7 +102,8 @@ impl World {
         }
     }
 
-    /// Returns the number of the open round, counted from 1.
+    /// Returns the number of the open round, counted from 1. If all rounds are closed, it is one more than the number
+    /// of the last.
     fn round(&self) -> u32
         ensures { result ≡ suc (length self.now.closed) }
     {
@@ -110,19 +111,20 @@ impl World {
         self.closed.len() as u32 + 1
     }
 
-    /// Checks whether every loyal general had posted in each closed round.
+    /// Returns whether every loyal general had posted when each of the closed rounds was closed.
     pub fn full(&self) -> bool
         ensures { result ≡ self.now.full }
     {
         self.full
     }
 
-    /// Takes one turn of a traitor's activation. For any other general it does nothing.
+    /// Takes one tick of a traitor's activation: a step of his program, or a request that the board answers. For any
+    /// other general it does nothing.
     ///
     /// # Errors
     ///
-    /// Fails with `AllocError` if the turn makes a request and there is no memory for the access. The world is then as it
-    /// was.
+    /// Fails with `AllocError` if the tick makes a request and there is no memory for the access. Then the world is
+    /// unchanged.
     pub(crate) fn turn(&mut self, general: u32) -> Result<(), AllocError>
         ensures done { OnOk result (self.new ≡ happen self.old (Tick general)) }
         ensures undone { OnErr result (self.new ≡ self.old) }
@@ -132,8 +134,8 @@ impl World {
         parts::turn(&mut self.parts, &mut self.board, general, round)
     }
 
-    /// Takes turns of the traitor `general` until his next turn would be a request to the board, his activation has
-    /// ended, or it has taken at least `limit` steps since it began. Returns the number of turns taken, which is 0 if
+    /// Takes ticks of the traitor `general` until his next tick would be a request to the board, his activation has
+    /// ended, or it has taken at least `limit` steps since it began. Returns the number of ticks taken, which is 0 if
     /// the general is not a traitor with a running activation.
     pub(crate) fn ahead(&mut self, general: u32, limit: u32) -> u32
         ensures same { self.new ≡ run self.old (replicate result (Tick general)) }
@@ -142,23 +144,22 @@ impl World {
         parts::ahead(&mut self.parts, general, limit)
     }
 
-    /// Marks a loyal general as having posted, until the round is closed. If no letter of his is missing, it does
-    /// nothing.
+    /// Marks a loyal general as having posted his letter of the open round. It does nothing if he has already posted or
+    /// is not a loyal general.
     pub(crate) fn post(&mut self, general: u32)
         ensures { self.new ≡ happen self.old (Post general) }
     {
         parts::mark_posted(&mut self.parts, general);
     }
 
-    /// Closes the open round.
+    /// Closes the open round: delivers its letters to the lieutenants, and begins the next round if there is one.
     ///
-    /// All memory is allocated before anything changes: capacity for the letters and for their list among the closed
-    /// rounds, the drafts of the letters, and the parts of the next round. Then the letters are moved from the parts
-    /// into the list and delivered, and the next contexts are written, which cannot fail.
+    /// All memory is allocated before anything changes: for the letters, for their drafts, for the list of closed
+    /// rounds, and for the next round. After that, nothing can fail.
     ///
     /// # Errors
     ///
-    /// Fails with `AllocError` if there is no memory for the letters or the next round. The world is then as it was.
+    /// Fails with `AllocError` if there is no memory for the letters or the next round. Then the world is unchanged.
     pub(crate) fn close(&mut self) -> Result<(), AllocError>
         requires { length self.old.closed ≤ self.old.scenario.bound }
         ensures done { OnOk result (self.new ≡ happen self.old Close) }

@@ -5,14 +5,14 @@ use crate::world::World;
 use round::Round;
 
 impl World {
-    /// Returns the board's words.
+    /// Returns the board's current words.
     pub fn words(&self) -> &[u64; 64]
         ensures { result.now ≡ self.now.words }
     {
         self.board.words()
     }
 
-    /// Returns the letters of the closed rounds by round, the first round first, and within a round by general.
+    /// Returns the letters of the closed rounds, the first round first, and within a round by general.
     pub fn closed_rounds(&self) -> &[Round]
         ensures { result.now ≡ self.now.closed }
     {

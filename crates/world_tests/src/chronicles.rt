@@ -1,4 +1,4 @@
-//! Tests of the texts of scenarios and schedules: how faults are printed, and whether texts that are cut or randomly
+//! Tests the readers of scenarios and schedules: how faults are printed, and whether texts that are cut or randomly
 //! changed are accepted or rejected.
 
 use crate::scenarios::joined;
@@ -7,7 +7,7 @@ use scenario::{ScenarioError, read};
 use std::alloc::{AllocError, Global};
 use trace::{TraceError, TraceFault, read_schedule};
 
-/// A schedule of the events with which each of five rounds begins.
+/// A schedule of five lines, one for each round.
 const SCHEDULE: &str = "4*15 0*2
 0 4*4096 12
 
@@ -15,7 +15,7 @@ const SCHEDULE: &str = "4*15 0*2
 4*15
 ";
 
-/// Faults, and how they are printed.
+/// Errors of schedules and chronicles, and how they are printed.
 const PRINTED_FAULTS: &[(TraceError, &str)] = &[
     (TraceError::At(TraceFault::Line, 6), "X1 line 6"),
     (TraceError::At(TraceFault::Scenario, 2), "X2 line 2"),
@@ -24,7 +24,7 @@ const PRINTED_FAULTS: &[(TraceError, &str)] = &[
     (TraceError::Memory, "out of memory"),
 ];
 
-/// Checks whether a fault is printed as `expected`.
+/// Returns whether a fault is printed as `expected`.
 fn is_printed(alloc: Global, fault: TraceError, expected: &str) -> bool {
     match fault.to_string(alloc) {
         Ok(text) => text.as_str() == expected,
@@ -32,7 +32,7 @@ fn is_printed(alloc: Global, fault: TraceError, expected: &str) -> bool {
     }
 }
 
-/// Checks whether the error that memory ran out while a scenario was read is printed as `expected`.
+/// Returns whether the error for running out of memory while a scenario is read is printed as `expected`.
 fn is_refused_memory_printed(alloc: Global, expected: &str) -> bool {
     match ScenarioError::Memory.to_string(alloc) {
         Ok(text) => text.as_str() == expected,
@@ -49,7 +49,7 @@ fn faults_of_texts_are_printed(rt: HostRuntime) {
     assert!(rt; is_refused_memory_printed(alloc, "out of memory"));
 }
 
-/// Checks whether the text is accepted as a scenario, or fails if memory runs out.
+/// Returns whether the text is accepted as a scenario. Fails if memory runs out.
 fn tells_scenario(alloc: Global, text: &str) -> Result<bool, AllocError> {
     match read(alloc, text) {
         Ok(_) => Ok(true),
@@ -58,8 +58,8 @@ fn tells_scenario(alloc: Global, text: &str) -> Result<bool, AllocError> {
     }
 }
 
-/// Checks whether the text is accepted as a schedule, or fails if it is rejected with another fault than X1 in lines 1
-/// to 6.
+/// Returns whether the text is accepted as a schedule. Fails if it is rejected for another reason than a faulty line
+/// (X1) from 1 to 6.
 fn tells_schedule(alloc: Global, text: &str) -> Result<bool, AllocError> {
     match read_schedule(alloc, text) {
         Ok(_) => Ok(true),
@@ -68,14 +68,14 @@ fn tells_schedule(alloc: Global, text: &str) -> Result<bool, AllocError> {
     }
 }
 
-/// What kind of text is read.
+/// The kind of text to be read.
 #[derive(Clone, Copy)]
 enum Reading {
     Scenario,
     Schedule,
 }
 
-/// Checks whether the text is accepted as this kind of text.
+/// Returns whether the text is accepted as a text of this kind.
 fn is_taken(alloc: Global, reading: Reading, text: &str) -> Result<bool, AllocError> {
     match reading {
         Reading::Scenario => tells_scenario(alloc, text),
@@ -83,7 +83,7 @@ fn is_taken(alloc: Global, reading: Reading, text: &str) -> Result<bool, AllocEr
     }
 }
 
-/// Counts the beginnings of the text, including the whole text, that are rejected.
+/// Returns how many beginnings of the text are rejected. The empty text and the whole text count as beginnings.
 fn refused_beginnings(alloc: Global, reading: Reading, text: &str) -> Result<u32, AllocError> {
     let mut refused = 0u32;
     for end in 0..=text.len() {
@@ -96,7 +96,7 @@ fn refused_beginnings(alloc: Global, reading: Reading, text: &str) -> Result<u32
     Ok(refused)
 }
 
-/// Checks whether `refused` beginnings of the text are rejected.
+/// Returns whether exactly `refused` beginnings of the text are rejected.
 fn has_refused(alloc: Global, reading: Reading, text: &str, refused: u32) -> bool {
     match refused_beginnings(alloc, reading, text) {
         Ok(found) => found == refused,
@@ -104,7 +104,7 @@ fn has_refused(alloc: Global, reading: Reading, text: &str, refused: u32) -> boo
     }
 }
 
-/// Checks that the scenario of two colluders has 431 bytes, and that `refused` of its beginnings are rejected.
+/// Checks that the scenario of two colluders has 431 bytes, and that exactly `refused` of its beginnings are rejected.
 fn has_refused_of_scenario(alloc: Global, refused: u32) -> bool {
     match joined(alloc, SEVEN, COLLUDING) {
         Ok(scenario) => {
@@ -115,8 +115,8 @@ fn has_refused_of_scenario(alloc: Global, refused: u32) -> bool {
     }
 }
 
-/// Checks which beginnings of texts are accepted. The scenario has 432 beginnings, of which six are accepted: those
-/// that end after the four keys, after the first traitor or after the second, each with the last line feed or without.
+/// Checks which beginnings of texts are accepted. The scenario has 432 beginnings, of which six are accepted. They end
+/// after the four keys, after the first traitor or after the second, each with or without the last line feed.
 #[test]
 fn beginnings_of_texts(rt: HostRuntime) {
     let alloc = rt.alloc();
@@ -124,7 +124,7 @@ fn beginnings_of_texts(rt: HostRuntime) {
     assert!(rt; has_refused(alloc, Reading::Schedule, SCHEDULE, 10));
 }
 
-/// Returns the next number of a linear congruential generator, which consists of the upper 31 bits of its state.
+/// Returns the next random number: the upper 31 bits of the state of a linear congruential generator.
 fn next(state: &mut u64) -> u64 {
     *state = state
         .wrapping_mul(6364136223846793005)
@@ -132,7 +132,7 @@ fn next(state: &mut u64) -> u64 {
     *state >> 33
 }
 
-/// Replaces, removes or inserts a byte at a random place. It does nothing if the place is beyond the end.
+/// Replaces, removes or inserts a byte at a random index. It does nothing if the index is past the end.
 fn change(bytes: &mut Vec<u8>, state: &mut u64) -> Result<(), AllocError> {
     let kind = next(state) % 3;
     let place = next(state) as usize % 1024;
@@ -159,7 +159,7 @@ fn changed(alloc: Global, text: &str, state: &mut u64) -> Result<Vec<u8>, AllocE
     Ok(bytes)
 }
 
-/// Checks whether the text is accepted after random changes.
+/// Changes the text randomly, and returns whether it is then accepted as a text of this kind.
 fn is_taken_changed(
     alloc: Global,
     reading: Reading,
@@ -173,8 +173,8 @@ fn is_taken_changed(
     }
 }
 
-/// Counts how many of `count` randomly changed texts are accepted. It fails if one of them can be neither accepted nor
-/// rejected.
+/// Returns how many of `count` randomly changed texts are accepted. Fails if reading one of them neither accepts nor
+/// rejects it.
 fn taken_changed(
     alloc: Global,
     reading: Reading,
@@ -200,7 +200,8 @@ fn are_some_taken(alloc: Global, reading: Reading, text: &str, seed: u64, count:
     }
 }
 
-/// Checks `are_some_taken` for 6,000 scenarios of two colluders, from two seeds.
+/// Checks that some of 6,000 randomly changed scenarios of two colluders are accepted and the others rejected, from two
+/// seeds.
 fn are_some_scenarios_taken(alloc: Global) -> bool {
     match joined(alloc, SEVEN, COLLUDING) {
         Ok(scenario) => {

@@ -1,5 +1,4 @@
-//! Tests of gates, which may hold a general before an access, and tests that the generals' threads act at the same
-//! time.
+//! Tests gates, which may hold a general before an access, and tests that the generals' threads run at the same time.
 
 use crate::scenarios::told;
 use crate::texts::{
@@ -17,11 +16,11 @@ use std::thread::Threads;
 use threads::{Gate, muster, muster_with};
 use world::{Chronicle, Verdict};
 
-/// The most turns that a general is held.
+/// How many times a held general checks whether he may go on before he gives up.
 const TURNS: u32 = 100_000_000;
 
-/// Holds a general until the count is at least `wanted`. If this takes more than `TURNS` turns, `missed` is counted up,
-/// and no general is held any more.
+/// Holds a general until `count` is at least `wanted`. If he has checked this `TURNS` times, he gives up, `missed`
+/// becomes positive, and nobody is held any more.
 fn hold(count: &AtomicU32, wanted: u32, missed: &AtomicU32) {
     for turn in 0..TURNS {
         if count.load(Ordering::SeqCst) >= wanted || missed.load(Ordering::SeqCst) > 0 {
@@ -34,7 +33,7 @@ fn hold(count: &AtomicU32, wanted: u32, missed: &AtomicU32) {
     missed.fetch_add(1, Ordering::SeqCst);
 }
 
-/// A count for each of three rounds.
+/// A counter for each of the rounds 1 to 3.
 #[derive(Drop)]
 struct Counts {
     first: AtomicU32,
@@ -51,7 +50,7 @@ impl Counts {
         }
     }
 
-    /// Returns the counter of the round with this number. The third counter counts round 3 and all later rounds.
+    /// Returns the counter for round `round`. Rounds after the third use the counter of round 3.
     fn of(&self, round: u32) -> &AtomicU32 {
         match round {
             1 => &self.first,
@@ -60,7 +59,7 @@ impl Counts {
         }
     }
 
-    /// Checks whether the counts of the three rounds are `counts`.
+    /// Returns whether the counts of the three rounds are `counts`.
     fn are(&self, counts: (u32, u32, u32)) -> bool {
         self.first.load(Ordering::SeqCst) == counts.0
             && self.second.load(Ordering::SeqCst) == counts.1
@@ -68,15 +67,15 @@ impl Counts {
     }
 }
 
-/// A gate that holds each general at his access number `nth` until `wanted` generals have come to it. It does so in the
-/// rounds up to `last_round`.
+/// A gate that holds each general before his access number `nth` (counted from 0) until `wanted` generals wait for
+/// theirs. It does so in rounds 1 to `last_round`.
 #[derive(Drop)]
 struct Meeting {
     nth: u64,
     last_round: u32,
     wanted: u32,
     come: Counts,
-    /// How many generals were released because the turns were over.
+    /// How many generals gave up waiting.
     missed: AtomicU32,
 }
 
@@ -91,7 +90,8 @@ impl Meeting {
         }
     }
 
-    /// Checks that `come` generals came in each round, and that none was released because the turns were over.
+    /// Checks that the gate has held the given number of generals in each of the three rounds, and that none gave up
+    /// waiting.
     fn is_met(&self, come: (u32, u32, u32)) -> bool {
         self.come.are(come) && self.missed.load(Ordering::SeqCst) == 0
     }
@@ -108,12 +108,12 @@ impl Gate for Meeting {
     }
 }
 
-/// Checks whether an access read a word with the value 1.
+/// Returns whether an access read a word of the board that was 1.
 fn got_one(access: &Access) -> bool {
     matches!(access.request, Request::Get { .. }) && word(&access.reply) == Some(1)
 }
 
-/// Checks whether all of these accesses are of round 1.
+/// Returns whether all of these accesses were made in round 1.
 fn are_of_first_round(accesses: &[Access]) -> bool {
     for access in accesses {
         if access.round != 1 {
@@ -123,15 +123,15 @@ fn are_of_first_round(accesses: &[Access]) -> bool {
     true
 }
 
-/// Checks whether generals 5 and 6 made one of these accesses each, and both read a 1.
+/// Returns whether `third` is general 5's access and `fourth` general 6's, and both read a 1.
 fn both_got_one(third: &Access, fourth: &Access) -> bool {
     let is_order = third.general == 5 && fourth.general == 6;
     let is_other = third.general == 6 && fourth.general == 5;
     (is_order || is_other) && got_one(third) && got_one(fourth)
 }
 
-/// Checks that the first four of twelve accesses are of round 1, and that both generals read a 1 in the third and the
-/// fourth.
+/// Checks that there are twelve accesses, of which the first four are of round 1, and that generals 5 and 6 read a 1 in
+/// the third and the fourth.
 fn have_met(accesses: &[Access]) -> bool {
     let Some(four) = accesses.get(..4) else {
         return false;
@@ -142,8 +142,8 @@ fn have_met(accesses: &[Access]) -> bool {
     accesses.len() == 12 && are_of_first_round(four) && both_got_one(third, fourth)
 }
 
-/// Checks that two generals, who each set a word and meet before they read the other's word, both read what the other
-/// set.
+/// Plays a campaign in which two generals each set a word of the board. The gate holds both until they have done so,
+/// and then each reads the other's word. Checks that both read what the other has set.
 fn get_what_the_other_set<R: Threads + Wait + Sync>(rt: &R, alloc: Global) -> bool {
     let gate = Meeting::of(1, 1, 2);
     match mustered(rt, alloc, SEVEN, SETTING, &gate) {
@@ -166,7 +166,8 @@ const BEYOND_BOUND: Verdict = Verdict {
     bound: false,
 };
 
-/// Checks that seven generals, who meet before their first access of each round, add to the board one after another.
+/// Plays a campaign in which the gate holds seven generals before their first access of each round, until all have
+/// come. Checks that their 21 additions to a word of the board give the replies 0 to 20.
 fn add_together<R: Threads + Wait + Sync>(rt: &R, alloc: Global) -> bool {
     let gate = Meeting::of(0, 3, 7);
     match mustered(rt, alloc, SEVEN, SEVEN_ADDERS, &gate) {
@@ -185,7 +186,7 @@ fn seven_traitors_come_to_the_board_together(rt: HostRuntime) {
     assert!(rt; add_together(&rt, rt.alloc()));
 }
 
-/// A gate that holds general 0 at his first access of a round until general 4 has come to his second.
+/// A gate that holds general 0 before his first access of a round until general 4 has come to his second.
 #[derive(Drop)]
 struct Reversing {
     come: Counts,
@@ -203,13 +204,14 @@ impl Gate for Reversing {
     }
 }
 
-/// Checks the addition that follows `added` others: generals 4 and 0 add alternately, and the reply is `added`.
+/// Returns whether an addition to a word is made by the right general with the right reply. Generals 4 and 0 take
+/// turns, and after `added` additions the reply is `added`.
 fn is_in_turn(access: &Access, added: u64) -> bool {
     let general = if added % 2 == 0 { 4 } else { 0 };
     access.general == general && word(&access.reply) == Some(added)
 }
 
-/// Checks that six of the twelve accesses are additions, which generals 4 and 0 make alternately.
+/// Checks that six of the twelve accesses are additions, which generals 4 and 0 make in turns.
 fn are_reversed(accesses: &[Access]) -> bool {
     let mut added = 0u64;
     for access in accesses {
@@ -223,12 +225,12 @@ fn are_reversed(accesses: &[Access]) -> bool {
     added == 6 && accesses.len() == 12
 }
 
-/// Checks whether a letter is a loyal general's, or says that its program took `steps` steps.
+/// Returns whether a letter is from a loyal general, or its program took `steps` steps.
 fn has_taken(letter: &Letter, steps: u32) -> bool {
     letter.program.program().is_none() || letter.steps == steps
 }
 
-/// Checks whether each traitor's letter says that its program took `steps` steps.
+/// Returns whether the program of each traitor's letter took `steps` steps.
 fn have_taken(chronicle: &Chronicle, steps: u32) -> bool {
     for round in chronicle.letters() {
         for letter in round.letters() {
@@ -249,8 +251,8 @@ fn five_retreat(chronicle: &Chronicle) -> bool {
     chronicle.verdict() == AGREED
 }
 
-/// Checks that general 4 added before general 0 in each round, that each of their programs took `steps` steps, and that
-/// a replay gives the same chronicle.
+/// Checks that general 4 added before general 0 in each round, that their programs took `steps` steps, and that
+/// replaying the accesses gives the same chronicle.
 fn is_reversed(alloc: Global, chronicle: &Chronicle, steps: u32) -> bool {
     are_reversed(chronicle.accesses())
         && have_taken(chronicle, steps)
@@ -258,8 +260,8 @@ fn is_reversed(alloc: Global, chronicle: &Chronicle, steps: u32) -> bool {
         && replays(alloc, chronicle)
 }
 
-/// Plays a campaign of two colluders who read word 63 at the end, while general 0 is held, and checks it with
-/// `is_reversed`.
+/// Plays a campaign in which generals 4 and 0 add to a word and then read another. The gate holds general 0 until
+/// general 4 has added. Checks that they added in this order, and that each program took `steps` steps.
 fn adds_first<R: Threads + Wait + Sync>(rt: &R, alloc: Global, keys: &str, steps: u32) -> bool {
     let gate = Reversing {
         come: Counts::none(),
@@ -273,8 +275,8 @@ fn adds_first<R: Threads + Wait + Sync>(rt: &R, alloc: Global, keys: &str, steps
     }
 }
 
-/// Checks that general 4 adds first in each round while general 0 is held. Each program takes seventeen steps. With a
-/// patience of sixteen steps, the last step is an access.
+/// Checks that general 4 adds first in each round while the gate holds general 0. Each program takes seventeen steps.
+/// With a patience of sixteen steps it is cut off after its last access.
 #[test]
 fn the_second_colluder_adds_first(rt: HostRuntime) {
     let alloc = rt.alloc();
@@ -282,7 +284,7 @@ fn the_second_colluder_adds_first(rt: HostRuntime) {
     assert!(rt; adds_first(&rt, alloc, SEVEN_AND_SIXTEEN_STEPS, 16));
 }
 
-/// A gate that counts how many times it is called for a first, a second, a third and a later access.
+/// A gate that counts how often it is called for a first, second, third and later access.
 #[derive(Drop)]
 struct Counting {
     asked: Counts,
@@ -301,8 +303,8 @@ impl Gate for Counting {
     }
 }
 
-/// Checks that the gate is called once for each access of two generals who read three words in each of three rounds.
-/// The threads have stacks of `stack` bytes, or of the usual size.
+/// Checks that the gate is called exactly once for each access, in a campaign of two generals who read three words in
+/// each of three rounds. The threads have stacks of `stack` bytes, or of the usual size if it is `None`.
 fn is_asked_once<R: Threads + Wait + Sync>(rt: &R, alloc: Global, stack: Option<usize>) -> bool {
     let Some(scenario) = told(alloc, SEVEN, LOOKING) else {
         return false;

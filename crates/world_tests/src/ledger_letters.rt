@@ -1,4 +1,4 @@
-//! Tests which letters a ledger accounts for.
+//! Tests for which letters a ledger accounts.
 
 use crate::texts::{COLLUDING, SEVEN};
 use crate::threaded_campaigns::{letters, mustered};
@@ -15,7 +15,7 @@ fn colluded<R: Threads + Wait + Sync>(rt: &R, alloc: Global) -> Option<Chronicle
     mustered(rt, alloc, SEVEN, COLLUDING, &Open)
 }
 
-/// Checks whether two rounds have equal letters.
+/// Returns whether two rounds have equal letters.
 fn are_alike(round: &Round, other: &Round) -> bool {
     for (letter, other) in round.letters().iter().zip(other.letters().iter()) {
         if !letter.same(other) {
@@ -25,7 +25,7 @@ fn are_alike(round: &Round, other: &Round) -> bool {
     round.letters().len() == 7 && other.letters().len() == 7
 }
 
-/// Checks whether these rounds are the chronicle's three rounds.
+/// Returns whether these rounds have the same letters as the chronicle's three rounds.
 fn are_rounds(rounds: &[Round], chronicle: &Chronicle) -> bool {
     for (round, other) in rounds.iter().zip(chronicle.letters().iter()) {
         if !are_alike(round, other) {
@@ -42,7 +42,7 @@ fn reversed(alloc: Global, chronicle: &Chronicle) -> Result<Vec<Letter>, AllocEr
     Ok(all)
 }
 
-/// Checks whether these letters are gathered into the chronicle's rounds.
+/// Returns whether `gather` arranges these letters into the chronicle's rounds.
 fn gathers(alloc: Global, chronicle: &Chronicle, letters: Vec<Letter>) -> bool {
     match gather(alloc, chronicle.scenario(), chronicle.accesses(), letters) {
         Ok(rounds) => are_rounds(rounds.as_slice(), chronicle),
@@ -50,7 +50,7 @@ fn gathers(alloc: Global, chronicle: &Chronicle, letters: Vec<Letter>) -> bool {
     }
 }
 
-/// Checks whether the chronicle's letters in reverse order are gathered into its rounds.
+/// Returns whether `gather` arranges the chronicle's letters, given in reverse order, into its rounds.
 fn are_gathered(alloc: Global, chronicle: &Chronicle) -> bool {
     match reversed(alloc, chronicle) {
         Ok(letters) => gathers(alloc, chronicle, letters),
@@ -58,7 +58,7 @@ fn are_gathered(alloc: Global, chronicle: &Chronicle) -> bool {
     }
 }
 
-/// Checks whether the letters are rejected because the ledger does not account for them.
+/// Returns whether `gather` rejects the letters because the ledger does not account for them.
 fn refuses(alloc: Global, chronicle: &Chronicle, ledger: &[Access], letters: Vec<Letter>) -> bool {
     matches!(
         gather(alloc, chronicle.scenario(), ledger, letters),
@@ -75,7 +75,7 @@ fn without(alloc: Global, chronicle: &Chronicle, place: usize) -> Result<Vec<Let
     Ok(fewer)
 }
 
-/// Returns the chronicle's letters, with a second copy of the one at index `place`.
+/// Returns the chronicle's letters with a second copy of the one at index `place`.
 fn with(alloc: Global, chronicle: &Chronicle, place: usize) -> Result<Vec<Letter>, AllocError> {
     let mut more = letters(alloc, chronicle)?;
     if let Some(letter) = more.get(place) {
@@ -101,7 +101,7 @@ fn is_wanted_once(alloc: Global, chronicle: &Chronicle, place: usize) -> bool {
     }
 }
 
-/// Checks that the chronicle's 21 letters are gathered, and that no letter may be missing or come twice.
+/// Checks that `gather` accepts the chronicle's 21 letters, and rejects them if one of them is missing or occurs twice.
 fn are_just_these(alloc: Global, chronicle: &Chronicle) -> bool {
     for place in 0..21 {
         if !is_missed(alloc, chronicle, place) || !is_wanted_once(alloc, chronicle, place) {
@@ -111,7 +111,8 @@ fn are_just_these(alloc: Global, chronicle: &Chronicle) -> bool {
     are_gathered(alloc, chronicle)
 }
 
-/// Checks `are_just_these` for the campaign of two colluders.
+/// Plays the campaign of two colluders, and checks that `gather` accepts its letters and rejects them if one is missing
+/// or occurs twice.
 fn gathers_just_these<R: Threads + Wait + Sync>(rt: &R, alloc: Global) -> bool {
     match colluded(rt, alloc) {
         Some(chronicle) => are_just_these(alloc, &chronicle),
@@ -124,7 +125,7 @@ fn just_the_letters_are_gathered(rt: HostRuntime) {
     assert!(rt; gathers_just_these(&rt, rt.alloc()));
 }
 
-/// Copies a ledger's entries.
+/// Returns a copy of a ledger.
 fn copied(alloc: Global, ledger: &[Access]) -> Result<Vec<Access>, AllocError> {
     let mut entries = Vec::new(alloc);
     for access in ledger {
@@ -133,7 +134,7 @@ fn copied(alloc: Global, ledger: &[Access]) -> Result<Vec<Access>, AllocError> {
     Ok(entries)
 }
 
-/// Copies a ledger's entries, and appends the last one again as the access of general 12, who does not exist.
+/// Returns a copy of a ledger with one more entry: the last access again, but made by general 12, who does not exist.
 fn with_a_stranger(alloc: Global, ledger: &[Access]) -> Result<Vec<Access>, AllocError> {
     let mut entries = copied(alloc, ledger)?;
     if let Some(last) = ledger.last() {
@@ -144,7 +145,7 @@ fn with_a_stranger(alloc: Global, ledger: &[Access]) -> Result<Vec<Access>, Allo
     Ok(entries)
 }
 
-/// Checks whether this ledger does not account for the chronicle's letters.
+/// Returns whether this ledger does not account for the chronicle's letters.
 fn is_another(alloc: Global, chronicle: &Chronicle, ledger: &[Access]) -> bool {
     match letters(alloc, chronicle) {
         Ok(letters) => refuses(alloc, chronicle, ledger, letters),
@@ -160,7 +161,8 @@ fn is_wanted_whole(alloc: Global, chronicle: &Chronicle) -> bool {
     }
 }
 
-/// Checks that the ledger with an access of a general who does not exist does not account for the chronicle's letters.
+/// Checks that the ledger does not account for the chronicle's letters if it has one more access, by a general who does
+/// not exist.
 fn is_wanted_alone(alloc: Global, chronicle: &Chronicle) -> bool {
     match with_a_stranger(alloc, chronicle.accesses()) {
         Ok(more) => is_another(alloc, chronicle, more.as_slice()),
@@ -168,8 +170,8 @@ fn is_wanted_alone(alloc: Global, chronicle: &Chronicle) -> bool {
     }
 }
 
-/// Checks that the ledger of two colluders' campaign has six entries, and that a shorter or a longer ledger does not
-/// account for the letters.
+/// Checks that the ledger of two colluders' campaign has six entries, and that it does not account for the letters with
+/// one entry less or more.
 fn has_its_ledger<R: Threads + Wait + Sync>(rt: &R, alloc: Global) -> bool {
     match colluded(rt, alloc) {
         Some(chronicle) => {

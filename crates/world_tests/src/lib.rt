@@ -33,8 +33,8 @@ mod threaded_campaigns;
 #[cfg(test)]
 mod worlds;
 
-/// Passes the beginning of a program to the macro `$form`, followed by `$words`. The program adds 1 to word 0 of the
-/// board, and sends generals 1, 2 and 3 the last bit of the word's old value.
+/// Passes a program's beginning to the macro `$form`, followed by `$words`. The beginning adds 1 to word 0 of the
+/// board, and sends generals 1, 2 and 3 the last bit of the word's old value as their order.
 #[macro_export]
 macro_rules! counting {
     ($form:ident $($words:tt)*) => {
@@ -56,7 +56,7 @@ call sway
     };
 }
 
-/// Passes the beginning of a program to the macro `$form`, followed by `$words`. The program sends generals 1 and 2 the
+/// Passes a program's beginning to the macro `$form`, followed by `$words`. The beginning sends generals 1 and 2 the
 /// order to retreat.
 #[macro_export]
 macro_rules! swaying {
@@ -71,8 +71,8 @@ call sway
     };
 }
 
-/// Joins the text of a campaign: the keys, and for each of the given generals a traitor's table. Each traitor runs the
-/// program that consists of `$program` and `$ending`.
+/// Joins the text of a campaign: its keys, and a traitor's table for each of the given generals. Each traitor's program
+/// is `$program` followed by `$ending`.
 #[macro_export]
 macro_rules! campaign {
     ($program:literal, $ending:literal, $keys:literal, [$($general:literal),*]) => {

@@ -1,4 +1,4 @@
-//! Tests of `live`, which runs a traitor's program from its start to its end, or until its patience is over.
+//! Tests `live`, which runs a traitor's program in one round until it exits or its patience is used up.
 ghost use Rattle.std.specs.Prelude.{◌≡◌};
 
 use crate::scenarios::{first_letters, played};
@@ -9,8 +9,8 @@ use semantics::{Reply, Request};
 use std::alloc::{AllocError, Global};
 use world::Chronicle;
 
-/// A server that replies with these words, one after another. It fails with `AllocError` if there are no more words,
-/// and at a request to copy.
+/// A server that replies to requests with these words, in order. It fails with `AllocError` once there are no more
+/// words, and at a request to copy words.
 #[derive(Drop)]
 struct Answers<'a> {
     words: &'a [u64],
@@ -51,8 +51,7 @@ impl Server for Answers<'_> {
     }
 }
 
-/// Runs the program of a letter again in the letter's context, with the replies of this server, and returns its new
-/// letter.
+/// Runs a letter's program again in the letter's context, with the replies of this server, and returns the new letter.
 fn lived(
     alloc: Global,
     server: &mut Answers<'_>,
@@ -77,7 +76,7 @@ fn lived(
     )
 }
 
-/// Checks whether the replies in a letter's transcript are the first of these words, in order.
+/// Returns whether the replies in a letter's transcript are the first of these words, in order.
 fn had(letter: &Letter, words: &[u64]) -> bool {
     let mut rest = words;
     for access in &letter.transcript {
@@ -95,7 +94,7 @@ fn had(letter: &Letter, words: &[u64]) -> bool {
     true
 }
 
-/// Returns the words of the replies in a letter's transcript.
+/// Returns the replies in a letter's transcript, one word each.
 fn words_of(alloc: Global, letter: &Letter) -> Result<Vec<u64>, AllocError> {
     let mut words = Vec::new(alloc);
     for access in &letter.transcript {
@@ -106,7 +105,8 @@ fn words_of(alloc: Global, letter: &Letter) -> Result<Vec<u64>, AllocError> {
     Ok(words)
 }
 
-/// Runs the letter's program again with these replies, and checks that it writes the same letter, with one access.
+/// Runs a letter's program again with these words as replies, and checks that the result is the same letter, with one
+/// access.
 fn lives_with(alloc: Global, letter: &Letter, words: &[u64]) -> bool {
     let mut server = Answers::new(alloc, words);
     match lived(alloc, &mut server, letter, None) {
@@ -115,8 +115,8 @@ fn lives_with(alloc: Global, letter: &Letter, words: &[u64]) -> bool {
     }
 }
 
-/// Runs the letter's program again with the replies that it had, and checks that it writes the same letter, with one
-/// access.
+/// Runs a letter's program again with the replies in its transcript, and checks that the result is the same letter,
+/// with one access.
 fn lives_again(alloc: Global, letter: &Letter) -> bool {
     match words_of(alloc, letter) {
         Ok(words) => lives_with(alloc, letter, words.as_slice()),
@@ -124,11 +124,11 @@ fn lives_again(alloc: Global, letter: &Letter) -> bool {
     }
 }
 
-/// The generals and rounds of the letters that two colluders' programs write.
+/// The general and the round of each letter of two colluders.
 const LIVES: &[(u32, u32)] = &[(0, 1), (4, 1), (0, 2), (4, 2), (0, 3), (4, 3)];
 
-/// Checks whether the letter is that of the general and the round at index `place` in `LIVES`, and is written again by
-/// another run.
+/// Checks that a letter is for the general and round at index `place` of `LIVES`, and that running its program again
+/// gives the same letter.
 fn is_life(alloc: Global, letter: &Letter, place: usize) -> bool {
     match LIVES.get(place) {
         Some(&(general, round)) => {
@@ -138,8 +138,8 @@ fn is_life(alloc: Global, letter: &Letter, place: usize) -> bool {
     }
 }
 
-/// Checks that the letters that programs wrote are those of `LIVES`, in this order, and that another run writes each
-/// again.
+/// Checks that the chronicle's letters of traitors are those of `LIVES`, in this order, and that running each program
+/// again gives the same letter.
 fn are_lives(alloc: Global, chronicle: &Chronicle) -> bool {
     let mut place = 0usize;
     for round in chronicle.letters() {
@@ -155,7 +155,8 @@ fn are_lives(alloc: Global, chronicle: &Chronicle) -> bool {
     place == LIVES.len()
 }
 
-/// Checks the letters of two colluders, of whom general 4 acts first in the first round.
+/// Plays the campaign of two colluders, in which general 4 acts first in the first round. Checks that running their
+/// programs again gives the same letters.
 fn colluders_live_again(alloc: Global) -> bool {
     match played(alloc, SEVEN, COLLUDING, "4*15") {
         Some(chronicle) => are_lives(alloc, &chronicle),
@@ -168,7 +169,8 @@ fn traitors_live_again(rt: HostRuntime) {
     assert!(rt; colluders_live_again(rt.alloc()));
 }
 
-/// Returns the first letter of general 5 of seven, who swaps word 5 and then reads word 6, in six steps.
+/// Returns the first letter of general 5, a spy among seven generals. In six steps his program swaps word 5 of the
+/// board for another and then reads word 6.
 fn spy(chronicle: &Chronicle) -> Option<&Letter> {
     match first_letters(chronicle).get(5) {
         Some(letter) if letter.general == 5 => Some(letter),
@@ -176,10 +178,10 @@ fn spy(chronicle: &Chronicle) -> Option<&Letter> {
     }
 }
 
-/// A patience, and then the number of steps, the number of accesses, and whether the program exited.
+/// A row of `PATIENCES`: a patience, and the spy's number of steps, number of accesses, and whether he exited.
 type Patience = (Option<u32>, u32, usize, bool);
 
-/// How the spy's program ends with each patience.
+/// How the spy's program ends with each of these patiences.
 const PATIENCES: &[Patience] = &[
     (None, 6, 2, true),
     (Some(4096), 6, 2, true),
@@ -191,8 +193,8 @@ const PATIENCES: &[Patience] = &[
     (Some(1), 1, 0, false),
 ];
 
-/// Checks whether a letter has `steps` steps and `accesses` accesses, exited as given, and received the first of the
-/// replies 7, 9 and 11.
+/// Returns whether a letter has this number of steps and of accesses, `exited` as given, and as replies the first of 7,
+/// 9 and 11.
 fn has_taken(letter: &Letter, steps: u32, accesses: usize, exited: bool) -> bool {
     letter.steps == steps
         && letter.exited == exited
@@ -200,8 +202,8 @@ fn has_taken(letter: &Letter, steps: u32, accesses: usize, exited: bool) -> bool
         && had(letter, &[7, 9, 11])
 }
 
-/// Runs the letter's program with the replies 7, 9 and 11, and checks that it ends as the row says. The server must
-/// have served exactly its accesses.
+/// Runs a letter's program with the replies 7, 9 and 11, and checks that it ends as the row says. Also checks that the
+/// server has served no other accesses.
 fn takes(alloc: Global, letter: &Letter, row: &Patience) -> bool {
     let (patience, steps, accesses, exited) = *row;
     let mut server = Answers::new(alloc, &[7, 9, 11]);
@@ -213,7 +215,7 @@ fn takes(alloc: Global, letter: &Letter, row: &Patience) -> bool {
     }
 }
 
-/// Checks all rows of `PATIENCES` for a letter's program.
+/// Runs a letter's program with each of the patiences in `PATIENCES`, and checks that it ends as that row says.
 fn takes_all(alloc: Global, letter: &Letter) -> bool {
     for row in PATIENCES {
         if !takes(alloc, letter, row) {
@@ -223,12 +225,12 @@ fn takes_all(alloc: Global, letter: &Letter) -> bool {
     true
 }
 
-/// Plays the campaign of seven generals, of whom general 5 is a spy, and returns its chronicle.
+/// Plays the campaign of seven generals in which general 5 is a spy, and returns its chronicle.
 fn spied(alloc: Global) -> Option<Chronicle> {
     played(alloc, SEVEN, SPYING, "")
 }
 
-/// Checks all rows of `PATIENCES` for the spy's first letter.
+/// Checks that the spy's program ends with each patience as `PATIENCES` says.
 fn spies_by_patience(alloc: Global) -> bool {
     let Some(chronicle) = spied(alloc) else {
         return false;
@@ -244,11 +246,11 @@ fn the_last_permitted_request_is_served(rt: HostRuntime) {
     assert!(rt; spies_by_patience(rt.alloc()));
 }
 
-/// The words of a server, the patience, and the number of accesses, which is `None` if the server has one reply too
-/// few.
+/// A row of `SCARCE`: a server's words, the patience, and the number of accesses. It is `None` if the server has too
+/// few words.
 type Scarcity = (&'static [u64], Option<u32>, Option<usize>);
 
-/// How the spy's program ends if the server has few words.
+/// How the spy's program ends if the server has few words for its replies.
 const SCARCE: &[Scarcity] = &[
     (&[], None, None),
     (&[], Some(3), None),
@@ -257,7 +259,7 @@ const SCARCE: &[Scarcity] = &[
     (&[7], Some(4), Some(1)),
 ];
 
-/// Runs the letter's program with a server, and returns the number of its accesses, or `None` if memory runs out.
+/// Runs a letter's program with this server, and returns the number of its accesses, or `None` if `live` fails.
 fn accesses_with(
     alloc: Global,
     server: &mut Answers<'_>,
@@ -270,8 +272,8 @@ fn accesses_with(
     }
 }
 
-/// Runs the letter's program with a server of these words. Checks that it makes the number of accesses in the row, or
-/// fails, and that each word is served.
+/// Runs a letter's program with a server of these words. Checks that it makes the row's number of accesses or fails,
+/// and that every word was served.
 fn comes_to(alloc: Global, letter: &Letter, row: &Scarcity) -> bool {
     let (words, patience, accesses) = *row;
     let mut server = Answers::new(alloc, words);
@@ -279,7 +281,7 @@ fn comes_to(alloc: Global, letter: &Letter, row: &Scarcity) -> bool {
         && server.served.len() == words.len()
 }
 
-/// Checks all rows of `SCARCE` for a letter's program.
+/// Runs a letter's program for each row of `SCARCE`, and checks that it ends as the row says.
 fn comes_to_all(alloc: Global, letter: &Letter) -> bool {
     for row in SCARCE {
         if !comes_to(alloc, letter, row) {
@@ -289,7 +291,7 @@ fn comes_to_all(alloc: Global, letter: &Letter) -> bool {
     true
 }
 
-/// Checks all rows of `SCARCE` for the spy's first letter.
+/// Checks that the spy's program ends as `SCARCE` says if the server has few words.
 fn spies_in_scarcity(alloc: Global) -> bool {
     let Some(chronicle) = spied(alloc) else {
         return false;

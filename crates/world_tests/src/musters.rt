@@ -1,4 +1,4 @@
-//! Tests of campaigns with a thread for each general, whose accesses may come in any order.
+//! Tests campaigns with one thread for each general, in which accesses may come in any order.
 
 use crate::scenarios::{are_told_alike, played, told};
 use crate::texts::{
@@ -12,8 +12,8 @@ use std::thread::Threads;
 use threads::{MusterError, Open, ended, muster_with};
 use world::Chronicle;
 
-/// Campaigns of two colluders: the keys, the first reply, the number of accesses, and how many times the campaign is
-/// played.
+/// Rows for campaigns of two colluders: the keys, the first reply, the number of accesses, and how many times the
+/// campaign is played.
 const COLLUSIONS: &[(&str, u64, usize, u32)] = &[
     (SEVEN, 0, 6, 21),
     (SEVEN_AND_THREE_STEPS, 0, 6, 1),
@@ -21,7 +21,7 @@ const COLLUSIONS: &[(&str, u64, usize, u32)] = &[
     (SEVEN_ON_A_BOARD, 5, 6, 1),
 ];
 
-/// Failures of a campaign: why a thread was not started, how each general has failed, and the expected error.
+/// Rows for failed campaigns: why a thread was not started, how each general has failed, and the error to be reported.
 const FAILURES: &[(Option<MusterError>, &[Option<MusterError>], MusterError)] = &[
     (
         None,
@@ -46,7 +46,7 @@ const FAILURES: &[(Option<MusterError>, &[Option<MusterError>], MusterError)] = 
     (None, &[None, None], MusterError::Unaccounted),
 ];
 
-/// Checks whether each round has two of the accesses.
+/// Returns whether each round has exactly two of these accesses.
 fn are_two_a_round(accesses: &[Access]) -> bool {
     for (place, access) in accesses.iter().enumerate() {
         if access.round as usize != place / 2 + 1 {
@@ -56,8 +56,8 @@ fn are_two_a_round(accesses: &[Access]) -> bool {
     true
 }
 
-/// Checks that two colluders made `accesses` accesses with replies that count up from `first`. Also checks that the
-/// lieutenants agreed, and that a replay gives the same chronicle.
+/// Checks that two colluders made this number of accesses, with replies that count up from `first`, and that the
+/// lieutenants agreed. Also checks that replaying the accesses gives the same chronicle.
 fn have_colluded(alloc: Global, chronicle: &Chronicle, first: u64, accesses: usize) -> bool {
     count(chronicle.accesses(), accesses, first)
         && are_two_a_round(chronicle.accesses())
@@ -65,7 +65,7 @@ fn have_colluded(alloc: Global, chronicle: &Chronicle, first: u64, accesses: usi
         && replays(alloc, chronicle)
 }
 
-/// Plays the campaign of two colluders in threads, and checks its chronicle with `have_colluded`.
+/// Plays the campaign of two colluders in threads, and checks its accesses, its decisions and its replay.
 fn collude<R: Threads + Wait + Sync>(
     rt: &R,
     alloc: Global,
@@ -89,7 +89,7 @@ fn two_colluders_in_any_order(rt: HostRuntime) {
     }
 }
 
-/// Checks that a campaign fails with `Spawn` if its threads need stacks of 2^60 bytes.
+/// Checks that a campaign fails with `Spawn` if its threads are to have stacks of 2^60 bytes.
 fn cannot_start<R: Threads + Wait + Sync>(
     rt: &R,
     alloc: Global,
@@ -105,7 +105,7 @@ fn cannot_start<R: Threads + Wait + Sync>(
     )
 }
 
-/// Checks that a campaign has the same chronicle whether its generals act in threads or on one thread.
+/// Checks that a campaign played with threads has the same chronicle as played in one thread.
 fn is_told_as_played<R: Threads + Wait + Sync>(
     rt: &R,
     alloc: Global,

@@ -1,4 +1,4 @@
-//! Tests of the post, the queue of letters that threads share: first letter by letter, and then between threads.
+//! Tests the post, the queue of letters that threads share: first with one thread, then with several at once.
 ghost use Rattle.std.specs.Prelude.{◌≡◌, IfSome};
 
 use crate::scenarios::{first_letters, played};
@@ -11,18 +11,18 @@ use std::thread;
 use std::thread::Threads;
 use threads::{Collector, Post, Poster};
 
-/// How many different letters a general has.
+/// The number of different letters of a general.
 const ORDERS: u32 = 50;
 
-/// How many times each different letter is posted, so that a general posts 1,000 letters.
+/// The number of times that each letter is posted. A general so posts 1,000 letters.
 const TIMES: u32 = 20;
 
-/// Returns the keys of a campaign of three generals with this commander and this order.
+/// Returns the keys of a campaign of three generals with commander `general`, whose order is `number`.
 fn keys(alloc: Global, general: u32, number: u32) -> Result<String, AllocError> {
     format!(in alloc; "generals = 3\nbound = 0\ncommander = {general}\norder = {number}\n")
 }
 
-/// Copies the letter if it is this general's.
+/// Returns a copy of the letter if it is from this general, otherwise `None`.
 fn own(alloc: Global, letter: &Letter, general: u32) -> Option<Letter>
     ensures { IfSome result (λ letter. letter.general ≡ general) }
 {
@@ -35,7 +35,7 @@ fn own(alloc: Global, letter: &Letter, general: u32) -> Option<Letter>
     }
 }
 
-/// Returns the first letter of a general who commands three generals and has the order `number`.
+/// Returns the letter that `general` sends in round 1 as the commander of three generals, with the order `number`.
 fn numbered(alloc: Global, general: u32, number: u32) -> Option<Letter>
     ensures { IfSome result (λ letter. letter.general ≡ general) }
 {
@@ -59,7 +59,7 @@ struct Letters {
     other: Letter,
 }
 
-/// Returns the letters of general 1 with the orders 1 and 2, and the letter of general 2 with the order 1.
+/// Returns general 1's letters with the orders 1 and 2, and general 2's letter with the order 1.
 fn three_letters(alloc: Global) -> Option<Letters>
     ensures first { IfSome result (λ letters. letters.first.general ≡ 1) }
     ensures second { IfSome result (λ letters. letters.second.general ≡ 1) }
@@ -81,8 +81,7 @@ fn three_letters(alloc: Global) -> Option<Letters>
     })
 }
 
-/// Creates a post of three generals with room for two letters. Returns it with the posters of generals 1 and 2 and the
-/// collector.
+/// Returns a post for three generals with room for two letters, the posters of generals 1 and 2, and the collector.
 fn post_of_three(alloc: Global) -> Option<(Post, (Poster, Poster, Collector))>
     ensures first { IfSome result (λ r. (r.1.0.table ≡ r.0.table) × (r.1.0.general ≡ 1)) }
     ensures second { IfSome result (λ r. (r.1.1.table ≡ r.0.table) × (r.1.1.general ≡ 2)) }
@@ -100,7 +99,7 @@ fn post_of_three(alloc: Global) -> Option<(Post, (Poster, Poster, Collector))>
     Some((post, (first, second, collector)))
 }
 
-/// Posts a letter, and asserts that there is room for it.
+/// Posts a letter, and asserts that the post has room for it. Returns the poster.
 fn goes_in<R: Wait + Abort>(rt: &R, post: &Post, poster: Poster, letter: Letter) -> Poster
     requires post { poster.table ≡ post.now.table }
     requires general { letter.general ≡ poster.general }
@@ -112,7 +111,8 @@ fn goes_in<R: Wait + Abort>(rt: &R, post: &Post, poster: Poster, letter: Letter)
     poster
 }
 
-/// Posts a letter, and asserts that there is no room for it and that the returned letter equals `same`.
+/// Posts a letter, and asserts that the post has no room for it and returns a letter equal to `same`. Returns the
+/// poster.
 fn comes_back<R: Wait + Abort>(
     rt: &R,
     post: &Post,
@@ -136,7 +136,7 @@ fn comes_back<R: Wait + Abort>(
     }
 }
 
-/// Checks whether the letter that was taken equals the expected one, or whether there is none and none is expected.
+/// Returns whether the letter that was taken equals `expected`, or both are `None`.
 fn is_taken(taken: &Option<Letter>, expected: Option<&Letter>) -> bool {
     match (taken, expected) {
         (Some(letter), Some(expected)) => letter.same(expected),
@@ -145,7 +145,8 @@ fn is_taken(taken: &Option<Letter>, expected: Option<&Letter>) -> bool {
     }
 }
 
-/// Takes a letter, and asserts that it equals the expected one, or that there is none if none is expected.
+/// Takes a letter out of the post, and asserts that it equals `expected`, or that the post is empty if `expected` is
+/// `None`. Returns the collector.
 fn comes_next<R: Wait + Abort>(
     rt: &R,
     post: &Post,
@@ -160,8 +161,8 @@ fn comes_next<R: Wait + Abort>(
     collector
 }
 
-/// Lets general 1 post a letter, and general 2 another. General 1's second letter is then returned for lack of room.
-/// After his first letter is taken, he posts the second again.
+/// Lets generals 1 and 2 each post a letter, which fills the post, so that general 1's second letter is returned to
+/// him. After his first letter is taken out, he posts his second again.
 fn exchange<R: Wait + Abort>(
     rt: &R,
     post: &Post,
@@ -193,7 +194,8 @@ fn exchange<R: Wait + Abort>(
     (one, other, collector)
 }
 
-/// Creates a post and lets the generals post the letters that `exchange` describes.
+/// Makes a post in which generals 1 and 2 have posted a letter each, and general 1 has posted a second one after his
+/// first was taken out.
 fn exchanged<R: Wait + Abort>(
     rt: &R,
     alloc: Global,
@@ -213,7 +215,7 @@ fn exchanged<R: Wait + Abort>(
     (post, ends)
 }
 
-/// Ends the post, and returns the letters that it still has.
+/// Ends the post, and returns the letters that it still had.
 fn left_in<R: Wait + Abort>(
     rt: &R,
     alloc: Global,
@@ -234,7 +236,7 @@ fn left_in<R: Wait + Abort>(
     }
 }
 
-/// Checks whether exactly these two letters are left.
+/// Returns whether `left` is exactly these two letters, in this order.
 fn are_left(left: &[Letter], first: &Letter, second: &Letter) -> bool {
     match left {
         [one, other] => one.same(first) && other.same(second),
@@ -242,7 +244,8 @@ fn are_left(left: &[Letter], first: &Letter, second: &Letter) -> bool {
     }
 }
 
-/// Takes general 2's letter, then general 1's second letter, and asserts that there is no other.
+/// Takes two letters out of the post, and asserts that they are general 2's letter and general 1's second one. Then
+/// asserts that the post is empty.
 fn others_come<R: Wait + Abort>(
     rt: &R,
     post: &Post,
@@ -280,7 +283,7 @@ fn letters_are_left_in_the_order_of_their_posting(rt: HostRuntime) {
     assert!(rt; are_left(left.as_slice(), &letters.other, &letters.second));
 }
 
-/// Returns a general's `ORDERS` different letters, in the order of their numbers.
+/// Returns a general's 50 different letters, ascending by their orders.
 fn originals(alloc: Global, general: u32) -> Option<Vec<Letter>> {
     let mut letters = Vec::new(alloc);
     for number in 0..ORDERS {
@@ -294,7 +297,7 @@ fn originals(alloc: Global, general: u32) -> Option<Vec<Letter>> {
     Some(letters)
 }
 
-/// Returns `TIMES` copies of these letters, in turn.
+/// Returns 20 copies of a list of letters, one after the other.
 fn repeated(alloc: Global, originals: &[Letter]) -> Result<Vec<Letter>, AllocError> {
     let mut letters = Vec::new(alloc);
     for _ in 0..TIMES {
@@ -305,7 +308,7 @@ fn repeated(alloc: Global, originals: &[Letter]) -> Result<Vec<Letter>, AllocErr
     Ok(letters)
 }
 
-/// Returns a general's 1,000 letters.
+/// Returns a general's 1,000 letters: 20 times his 50 different ones.
 fn letters_of(alloc: Global, general: u32) -> Option<Vec<Letter>> {
     let Some(originals) = originals(alloc, general) else {
         return None;
@@ -316,7 +319,7 @@ fn letters_of(alloc: Global, general: u32) -> Option<Vec<Letter>> {
     }
 }
 
-/// Posts a letter, and tries again until there is room.
+/// Posts a letter, trying again as long as the post is full. Returns the poster.
 fn send<R: Wait>(rt: &R, post: &Post, mut poster: Poster, mut letter: Letter) -> Poster
     requires post { poster.table ≡ post.now.table }
     requires general { letter.general ≡ poster.general }
@@ -335,7 +338,7 @@ fn send<R: Wait>(rt: &R, post: &Post, mut poster: Poster, mut letter: Letter) ->
     unreachable!()
 }
 
-/// Posts copies of a general's letters, and returns whether all are his and were posted.
+/// Posts copies of these letters of a general, in order. Returns whether all were his and were posted.
 fn send_all<R: Wait>(
     rt: &R,
     alloc: Global,
@@ -356,8 +359,8 @@ fn send_all<R: Wait>(
     true
 }
 
-/// Posts copies of a general's letters, and then counts up `ended`. Returns whether all letters are his and were
-/// posted.
+/// Posts copies of these letters of a general, and then adds 1 to `ended`. Returns whether all letters were his and
+/// were posted.
 fn send_and_end<R: Wait>(
     rt: &R,
     alloc: Global,
@@ -375,7 +378,7 @@ fn send_and_end<R: Wait>(
     sent
 }
 
-/// A general's letters, and how many of them were received.
+/// A general's letters in the order in which he posts them, and how many of them were received.
 #[derive(Drop)]
 struct Course<'a> {
     letters: &'a [Letter],
@@ -387,7 +390,7 @@ impl<'a> Course<'a> {
         Course { letters, come: 0 }
     }
 
-    /// Counts one more received letter, and returns whether it is the next of the list.
+    /// Counts one more received letter. Returns whether it is the next of the general's letters.
     fn goes_on(&mut self, letter: &Letter) -> bool {
         match self.letters.get(self.come) {
             Some(wanted) => {
@@ -398,13 +401,13 @@ impl<'a> Course<'a> {
         }
     }
 
-    /// Checks whether all letters were received.
+    /// Returns whether all of the general's letters were received.
     fn is_over(&self) -> bool {
         self.come == self.letters.len()
     }
 }
 
-/// Counts one more letter of general 0 or 1, and returns whether it is the next of his list.
+/// Counts one more received letter of general 0 or 1. Returns whether it is the next of his letters.
 fn is_next(first: &mut Course<'_>, second: &mut Course<'_>, letter: &Letter) -> bool {
     match letter.general {
         0 => first.goes_on(letter),
@@ -413,8 +416,8 @@ fn is_next(first: &mut Course<'_>, second: &mut Course<'_>, letter: &Letter) -> 
     }
 }
 
-/// Takes letters until both generals have posted all theirs and none is left. Returns whether each general's letters
-/// were received in order, each once.
+/// Takes letters out of the post until both generals have posted all theirs and the post is empty. Returns whether each
+/// general's letters were received in order, each once.
 fn receive<R: Wait>(
     rt: &R,
     post: &Post,
@@ -439,7 +442,7 @@ fn receive<R: Wait>(
     in_order && first.is_over() && second.is_over()
 }
 
-/// Posts the letters of generals 0 and 1 from two threads at the same time, and returns whether all were posted.
+/// Posts the letters of generals 0 and 1 from two threads at the same time. Returns whether all were posted.
 fn both_send<R: Threads + Wait + Sync>(
     rt: &R,
     alloc: Global,
@@ -465,8 +468,8 @@ fn both_send<R: Threads + Wait + Sync>(
     one && other
 }
 
-/// Checks that the letters of two generals are received in order if both post at the same time and a third thread takes
-/// the letters.
+/// Checks that the letters of two generals are received in order if both post at the same time while a third thread
+/// takes them out.
 fn come_in_order<R: Threads + Wait + Sync>(
     rt: &R,
     alloc: Global,
@@ -505,7 +508,7 @@ fn come_in_order<R: Threads + Wait + Sync>(
     sent && received
 }
 
-/// Creates a post of two generals with room for four letters. Returns it with their posters and the collector.
+/// Returns a post for two generals with room for four letters, their posters, and the collector.
 fn post_of_two(alloc: Global) -> Option<(Post, (Poster, Poster), Collector)>
     ensures first { IfSome result (λ r. (r.1.0.table ≡ r.0.table) × (r.1.0.general ≡ 0)) }
     ensures second { IfSome result (λ r. (r.1.1.table ≡ r.0.table) × (r.1.1.general ≡ 1)) }
@@ -523,7 +526,7 @@ fn post_of_two(alloc: Global) -> Option<(Post, (Poster, Poster), Collector)>
     Some((post, (first, second), collector))
 }
 
-/// Checks that these letters of two generals, who post at the same time, are received in order.
+/// Checks that these letters of two generals are received in order if both post at the same time.
 fn come_between_threads<R: Threads + Wait + Sync>(
     rt: &R,
     alloc: Global,
@@ -538,7 +541,7 @@ fn come_between_threads<R: Threads + Wait + Sync>(
     }
 }
 
-/// Checks that the 1,000 letters of each of two generals, who post at the same time, are received in order.
+/// Checks that 1,000 letters of each of two generals are received in order if both post at the same time.
 fn thousands_come<R: Threads + Wait + Sync>(rt: &R, alloc: Global) -> bool {
     let Some(firsts) = letters_of(alloc, 0) else {
         return false;

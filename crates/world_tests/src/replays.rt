@@ -1,6 +1,6 @@
-//! Tests of replays, in which the generals make their accesses in a given order. A replay must have the same text as
-//! the campaign played by a schedule, even if the order names generals who make no access. The crate `rows` tests the
-//! texts of campaigns played by schedules.
+//! Tests replays, in which the generals make their accesses in a given order. A replay must have the same text as the
+//! campaign played by a schedule, even if the order names generals who make no access. The crate `rows` tests the texts
+//! of campaigns played by schedules.
 
 use crate::scenarios::{are_told_alike, played, replayed};
 use crate::texts::{
@@ -10,7 +10,8 @@ use crate::texts::{
 };
 use std::alloc::Global;
 
-/// The keys of a campaign, its traitors, the order of accesses in each round, and the schedule.
+/// A campaign's keys and traitors, the generals who make its accesses in each round, in order, and a schedule with the
+/// same result.
 type Row = (
     &'static str,
     &'static str,
@@ -37,7 +38,7 @@ const REPLAYED: &[Row] = &[
     (SEVEN_AND_TWO_STEPS, COLLUDING, &[], ""),
 ];
 
-/// Checks whether a campaign has the same text if it is replayed and if it is played by the schedule.
+/// Returns whether a campaign's replay has the same text as the campaign played by the schedule of the row.
 fn is_told_alike(alloc: Global, row: &Row) -> bool {
     let (keys, traitors, names, schedule) = *row;
     let Some(scheduled) = played(alloc, keys, traitors, schedule) else {

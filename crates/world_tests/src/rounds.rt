@@ -1,4 +1,4 @@
-//! Tests of contexts, of loyal generals' letters, and of the delivery of letters.
+//! Tests contexts, loyal generals' letters, and the delivery of letters.
 ghost use Rattle.std.specs.Prelude.{◌≡◌, ◌<◌, IsTrue};
 ghost use Rattle.round.specs.Told.{AreDue};
 
@@ -13,8 +13,8 @@ use std::alloc::{AllocError, Global};
 use tree::Tree;
 use world::Chronicle;
 
-/// Returns the context of a general after the rounds `before`. Returns `None` if these are not rounds of the campaign,
-/// if he is not one of its generals, or if memory runs out.
+/// Returns a general's context after the rounds `before`. Returns `None` if these are not rounds of the campaign, if
+/// there is no such general, or if memory runs out.
 fn context(alloc: Global, scenario: &Scenario, general: u8, before: &[Round]) -> Option<Vec<u8>> {
     if before.len() > usize::from(scenario.bound()) || general >= scenario.generals() {
         return None;
@@ -28,7 +28,7 @@ fn context(alloc: Global, scenario: &Scenario, general: u8, before: &[Round]) ->
     }
 }
 
-/// Plays a campaign, and returns the context of a general after its first `behind` rounds.
+/// Plays a campaign, and returns a general's context after its first `behind` rounds.
 fn context_behind(
     alloc: Global,
     keys: &str,
@@ -45,7 +45,7 @@ fn context_behind(
     }
 }
 
-/// Encodes the numbers in four bytes each, followed by zeros, 4,096 bytes in all.
+/// Returns 4,096 bytes: each number in four bytes, and then zeros.
 fn spelt(alloc: Global, numbers: &[u32]) -> Result<Vec<u8>, AllocError> {
     let mut bytes = Vec::new(alloc);
     for number in numbers {
@@ -55,8 +55,8 @@ fn spelt(alloc: Global, numbers: &[u32]) -> Result<Vec<u8>, AllocError> {
     Ok(bytes)
 }
 
-/// The keys of a campaign, its traitors, a general, the number of rounds before his context, and the numbers with which
-/// his context begins.
+/// A row of `CONTEXTS`: the keys and traitors of a campaign, a general, the number of rounds before his context, and
+/// the numbers at its beginning.
 type Row = (&'static str, &'static str, u8, usize, &'static [u32]);
 
 /// Contexts in campaigns of four loyal generals, of four generals with a traitor as commander, and of five generals.
@@ -96,7 +96,7 @@ const CONTEXTS: &[Row] = &[
     (FIVE, NINE_FOR_FOUR, 1, 2, &[5, 2, 1, 1, 3, 0, 2, 0]),
 ];
 
-/// Checks whether the context of a row has its numbers.
+/// Returns whether the context that a row describes begins with the row's numbers.
 fn tells(alloc: Global, row: &Row) -> bool {
     let (keys, traitors, general, behind, numbers) = *row;
     let Some(bytes) = context_behind(alloc, keys, traitors, general, behind) else {
@@ -116,7 +116,7 @@ fn contexts_tell_what_was_told(rt: HostRuntime) {
     }
 }
 
-/// The bytes with which the first context of `CONTEXTS` begins.
+/// The bytes at the beginning of the first context of `CONTEXTS`.
 const BYTES: &[u8] =
     b"\x04\0\0\0\x01\0\0\0\0\0\0\0\0\0\0\0\x01\0\0\0\x01\0\0\0\x03\0\0\0\0\0\0\0\x04\x03\x02\x01\0";
 
@@ -133,8 +133,8 @@ fn context_begins_with_its_bytes(rt: HostRuntime) {
     assert!(rt; begins_with_its_bytes(rt.alloc()));
 }
 
-/// Returns the letter that a loyal general would write in place of this letter's writer, with the same context and
-/// round.
+/// Returns the letter that a loyal general would send in place of this letter's general, in the same round and with the
+/// same context.
 fn faithful(alloc: Global, letter: &Letter) -> Option<Letter> {
     letter.recall();
     let _shape = letter.outbox.shape();
@@ -147,7 +147,7 @@ fn faithful(alloc: Global, letter: &Letter) -> Option<Letter> {
     }
 }
 
-/// Checks that the letter is faithful exactly if its writer is loyal.
+/// Checks that the letter is the one that a loyal general would send exactly if its general is loyal.
 fn is_faithful_if_loyal(alloc: Global, letter: &Letter) -> bool {
     let is_loyal = letter.program.program().is_none();
     match faithful(alloc, letter) {
@@ -164,7 +164,7 @@ fn is_copied(alloc: Global, letter: &Letter) -> bool {
     }
 }
 
-/// Checks that the letter equals no letter of the chronicle except that of the same general and round.
+/// Checks that the letter equals none of the chronicle's letters except the one of the same general and round.
 fn is_its_own(chronicle: &Chronicle, letter: &Letter) -> bool {
     for round in chronicle.letters() {
         for other in round.letters() {
@@ -177,8 +177,8 @@ fn is_its_own(chronicle: &Chronicle, letter: &Letter) -> bool {
     true
 }
 
-/// Checks that each letter of the chronicle is faithful exactly if its writer is loyal, equals its copy, and equals no
-/// other letter.
+/// Checks each letter of the chronicle. It must be the one that a loyal general would send exactly if its general is
+/// loyal, equal its copy, and equal no other letter.
 fn are_right(alloc: Global, chronicle: &Chronicle) -> bool {
     for round in chronicle.letters() {
         for letter in round.letters() {
@@ -193,7 +193,7 @@ fn are_right(alloc: Global, chronicle: &Chronicle) -> bool {
     true
 }
 
-/// Checks the letters of four generals, of whom general 3 sends orders to retreat.
+/// Checks the letters of four generals in a campaign in which traitor 3 sends orders to retreat.
 fn follow_from_their_contexts(alloc: Global) -> bool {
     match played(alloc, FOUR, SWAYING, "") {
         Some(chronicle) => are_right(alloc, &chronicle),
@@ -206,7 +206,7 @@ fn letters_follow_from_their_contexts(rt: HostRuntime) {
     assert!(rt; follow_from_their_contexts(rt.alloc()));
 }
 
-/// Checks that two lists of four generals' letters differ only in those of general 3.
+/// Checks that two lists of four generals' letters differ only in general 3's letter.
 fn last_differs(letters: &[Letter], others: &[Letter]) -> bool {
     for (letter, other) in letters.iter().zip(others.iter()) {
         if letter.general != other.general || letter.same(other) != (letter.general != 3) {
@@ -216,7 +216,8 @@ fn last_differs(letters: &[Letter], others: &[Letter]) -> bool {
     letters.len() == 4 && others.len() == 4
 }
 
-/// Checks that the first letters with a patience of two steps and of three steps differ only in those of general 3.
+/// Checks that the first letters with a patience of two steps differ from those with three steps only in general 3's
+/// letter.
 fn differ_by_their_steps(alloc: Global) -> bool {
     let Some(short) = played(alloc, FOUR_AND_TWO_STEPS, SWAYING, "") else {
         return false;
@@ -227,14 +228,14 @@ fn differ_by_their_steps(alloc: Global) -> bool {
     last_differs(first_letters(&short), first_letters(&long))
 }
 
-/// Checks that letters differ by their number of steps. In the first round general 3 relays nothing, so that the
-/// letters of two runs that were cut off differ in nothing else.
+/// Checks that letters differ if only their numbers of steps do. In the first round general 3 relays nothing, so his
+/// letters with different patiences differ in nothing else.
 #[test]
 fn letters_differ_by_their_steps(rt: HostRuntime) {
     assert!(rt; differ_by_their_steps(rt.alloc()));
 }
 
-/// Checks whether the letter is of this round of the tree's campaign.
+/// Returns whether the letter belongs to this round of the tree's campaign.
 fn is_due(tree: &Tree, round: u32, letter: &Letter) -> bool
     ensures { IsTrue result → letter.now.outbox.relay.shape ≡ record {
       generals = tree.now.generals;
@@ -251,7 +252,7 @@ fn is_due(tree: &Tree, round: u32, letter: &Letter) -> bool
         && shape.round == round
 }
 
-/// Checks whether all letters are of one round of the tree's campaign, and there is at least one.
+/// Returns whether there are letters, and all belong to one round of the tree's campaign.
 fn are_due(tree: &Tree, letters: &[Letter]) -> bool
     ensures { IsTrue result → AreDue tree.now letters.now }
 {
@@ -270,8 +271,7 @@ fn are_due(tree: &Tree, letters: &[Letter]) -> bool
     true
 }
 
-/// Returns the orders in the tree for the labels 0, 0.2 and 0.3: what commander 0 sent, and what generals 2 and 3
-/// relayed.
+/// Returns the tree's orders for the labels 0, 0.2 and 0.3: what commander 0 sent, and what generals 2 and 3 relayed.
 fn orders(tree: &Tree) -> [Option<u32>; 3] {
     [
         tree.value(&Label::of(0)),
@@ -280,8 +280,8 @@ fn orders(tree: &Tree) -> [Option<u32>; 3] {
     ]
 }
 
-/// Checks that the letters are of a round of the tree's campaign, and that the tree has the orders `told` after their
-/// delivery.
+/// Delivers a round's letters into the tree, and checks that it then has the orders `told`. Also checks that the
+/// letters belong to a round of the tree's campaign.
 fn fills(tree: &mut Tree, round: &Round, told: [Option<u32>; 3]) -> bool {
     if !are_due(tree, round.letters()) {
         return false;
@@ -290,7 +290,7 @@ fn fills(tree: &mut Tree, round: &Round, told: [Option<u32>; 3]) -> bool {
     orders(tree) == told
 }
 
-/// Checks the orders in the tree after the delivery of each of two rounds.
+/// Delivers the letters of two rounds into the tree, and checks its orders after each.
 fn are_filled_in(tree: &mut Tree, chronicle: &Chronicle) -> bool {
     match chronicle.letters() {
         [first, second] => {
@@ -301,7 +301,7 @@ fn are_filled_in(tree: &mut Tree, chronicle: &Chronicle) -> bool {
     }
 }
 
-/// Checks that the letters of four generals, of whom general 3 sends orders to retreat, fill the tree of general 1.
+/// Checks how the letters of four generals, of whom traitor 3 sends orders to retreat, fill the tree of general 1.
 fn fill_a_tree(alloc: Global) -> bool {
     let Ok(mut tree) = Tree::new(alloc, 4, 1, 0, 1) else {
         return false;

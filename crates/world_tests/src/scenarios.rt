@@ -1,5 +1,5 @@
-//! Reads, plays and replays the campaigns of these tests. The functions that return an `Option` return `None` if a text
-//! is rejected or memory runs out.
+//! Reads, plays and replays the campaigns of these tests. Functions that return an `Option` return `None` if a text is
+//! rejected or memory runs out.
 
 use round::{Letter, Scenario};
 use scenario::read;
@@ -7,14 +7,14 @@ use std::alloc::{AllocError, Global};
 use trace::{Latch, read_schedule, write_chronicle};
 use world::{Chronicle, play, replay};
 
-/// Joins the keys of a campaign and its tables of traitors to one text.
+/// Returns the text of a campaign: its keys, followed by its tables of traitors.
 pub(crate) fn joined(alloc: Global, keys: &str, traitors: &str) -> Result<String, AllocError> {
     let mut text = String::from_str(alloc, keys)?;
     text.push_str(traitors)?;
     Ok(text)
 }
 
-/// Reads the campaign with these keys and traitors.
+/// Returns the scenario with these keys and traitors.
 pub(crate) fn told(alloc: Global, keys: &str, traitors: &str) -> Option<Scenario> {
     let Ok(text) = joined(alloc, keys, traitors) else {
         return None;
@@ -52,7 +52,7 @@ pub(crate) fn first_letters(chronicle: &Chronicle) -> &[Letter] {
     }
 }
 
-/// Copies the names of generals, which are listed by round.
+/// Returns copies of the lists of generals, one list for each round.
 fn named(alloc: Global, names: &[&[u8]]) -> Result<Vec<Vec<u8>>, AllocError> {
     let mut rounds = Vec::new(alloc);
     for generals in names {
@@ -61,8 +61,8 @@ fn named(alloc: Global, names: &[&[u8]]) -> Result<Vec<Vec<u8>>, AllocError> {
     Ok(rounds)
 }
 
-/// Replays a campaign in which the generals that `names` lists by round make their accesses in this order, and returns
-/// its chronicle.
+/// Replays a campaign, and returns its chronicle. `names` lists for each round the generals who make accesses, in the
+/// order of these accesses.
 pub(crate) fn replayed(
     alloc: Global,
     keys: &str,
@@ -90,7 +90,7 @@ fn text(alloc: Global, chronicle: &Chronicle) -> Option<Vec<u8>> {
     }
 }
 
-/// Checks whether two chronicles have the same text.
+/// Returns whether two chronicles have the same text.
 pub(crate) fn are_told_alike(alloc: Global, chronicle: &Chronicle, other: &Chronicle) -> bool {
     let Some(told) = text(alloc, chronicle) else {
         return false;

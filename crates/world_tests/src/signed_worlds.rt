@@ -1,4 +1,4 @@
-//! Tests of the world of signed messages, event by event.
+//! Tests the world of signed campaigns, event by event.
 
 use crate::scenarios::joined;
 use crate::texts::{PASSING, SIGNING_TWICE, THREE_SIGNED};
@@ -8,7 +8,7 @@ use signed::{Chain, SignedChronicle, SignedWorld};
 use std::alloc::Global;
 use world::{Event, EventError, Verdict};
 
-/// Reads the campaign of three generals with these traitors' tables.
+/// Returns the scenario of three generals with these traitors' tables.
 fn three(alloc: Global, traitors: &str) -> Option<Scenario> {
     let Ok(text) = joined(alloc, THREE_SIGNED, traitors) else {
         return None;
@@ -19,7 +19,7 @@ fn three(alloc: Global, traitors: &str) -> Option<Scenario> {
     }
 }
 
-/// Opens the world of the campaign of three generals with these traitors' tables.
+/// Returns the world of a campaign of three generals with these traitors' tables, before its first event.
 fn opened(alloc: Global, traitors: &str) -> Option<SignedWorld> {
     let Some(scenario) = three(alloc, traitors) else {
         return None;
@@ -30,16 +30,16 @@ fn opened(alloc: Global, traitors: &str) -> Option<SignedWorld> {
     }
 }
 
-/// A step of a test: events for a world, or a check of it.
+/// A step of a test: events to be applied to a world, or a check of the world.
 #[derive(Clone, Copy)]
 enum Step {
-    /// Each of these events happens.
+    /// Each of these events is accepted.
     Done(&'static [Event]),
-    /// Each of these events is rejected for this reason, and does not change the decisions.
+    /// Each of these events is rejected for this reason, and the decisions stay the same.
     Refused(&'static [Event], EventError),
-    /// Whether every loyal general has posted in each closed round.
+    /// Whether every loyal general had posted in each closed round.
     Full(bool),
-    /// The decisions of the lieutenants.
+    /// The lieutenants' current decisions.
     Decided(&'static [u32]),
 }
 
@@ -68,7 +68,7 @@ const SIGNED_TWICE: &[Event] = &[
     Event::Close,
 ];
 
-/// Two rounds in which lieutenant 2 is a traitor who passes on a chain.
+/// The steps of a campaign of two rounds in which lieutenant 2 is a traitor who passes on a chain.
 const BESIDE_ONE_WHO_PASSES_ON: &[Step] = &[
     Step::Decided(&[0, 0]),
     Step::Done(PASSED_ON),
@@ -78,14 +78,15 @@ const BESIDE_ONE_WHO_PASSES_ON: &[Step] = &[
     Step::Full(true),
 ];
 
-/// Two rounds in which the commander is a traitor who signs two orders.
+/// The steps of a campaign of two rounds in which the commander is a traitor who signs two orders.
 const UNDER_TWO_ORDERS: &[Step] = &[
     Step::Done(SIGNED_TWICE),
     Step::Done(SIGNED_TWICE),
     Step::Decided(&[0, 0]),
 ];
 
-/// Events of generals who cannot act so, two rounds in which nobody acts, and events after the last round.
+/// The steps of a campaign in which no general acts for two rounds. Events of generals who do not exist or are of the
+/// wrong kind are rejected, and so are events after the last round.
 const WITH_STRANGERS: &[Step] = &[
     Step::Refused(
         &[Event::Tick(0), Event::Post(2), Event::Post(3)],
@@ -101,12 +102,12 @@ const WITH_STRANGERS: &[Step] = &[
     ),
 ];
 
-/// Checks whether the event happens.
+/// Applies an event, and returns whether it was accepted.
 fn is_done(world: &mut SignedWorld, event: Event) -> bool {
     world.apply(event).is_ok()
 }
 
-/// Checks whether each of these events happens.
+/// Applies these events, and returns whether all were accepted.
 fn are_done(world: &mut SignedWorld, events: &[Event]) -> bool {
     for event in events {
         if !is_done(world, *event) {
@@ -116,7 +117,7 @@ fn are_done(world: &mut SignedWorld, events: &[Event]) -> bool {
     true
 }
 
-/// Checks whether the event is rejected for this reason.
+/// Applies an event, and returns whether it was rejected for this reason.
 fn is_refused(world: &mut SignedWorld, event: Event, reason: EventError) -> bool {
     match world.apply(event) {
         Ok(()) => false,
@@ -124,12 +125,12 @@ fn is_refused(world: &mut SignedWorld, event: Event, reason: EventError) -> bool
     }
 }
 
-/// Checks whether the lieutenants' decisions are `orders`.
+/// Returns whether the lieutenants' decisions are `orders`.
 fn has_decided(world: &SignedWorld, orders: &[u32]) -> bool {
     world.decisions().as_slice() == orders
 }
 
-/// Checks whether each of these events is rejected for this reason and does not change the decisions.
+/// Applies these events, and returns whether each was rejected for this reason and the decisions stayed the same.
 fn are_refused(world: &mut SignedWorld, events: &[Event], reason: EventError) -> bool {
     let before = world.decisions();
     for event in events {
@@ -140,7 +141,7 @@ fn are_refused(world: &mut SignedWorld, events: &[Event], reason: EventError) ->
     true
 }
 
-/// Takes a step in a world, and checks whether it goes as expected.
+/// Takes a step in a world, and returns whether it went as expected.
 fn goes(world: &mut SignedWorld, step: Step) -> bool {
     match step {
         Step::Done(events) => are_done(world, events),
@@ -150,7 +151,7 @@ fn goes(world: &mut SignedWorld, step: Step) -> bool {
     }
 }
 
-/// Takes all steps in a world, and checks whether each goes as expected.
+/// Takes all steps in a world, and returns whether each went as expected.
 fn go(world: &mut SignedWorld, steps: &[Step]) -> bool {
     for step in steps {
         if !goes(world, *step) {
@@ -160,14 +161,14 @@ fn go(world: &mut SignedWorld, steps: &[Step]) -> bool {
     true
 }
 
-/// Checks whether a chain that was sent has this order, these signers and these receivers.
+/// Returns whether a chain that was sent has this order, these signers and these receivers.
 fn is_sent(sent: &(Chain, u16), order: u32, signers: &[u8], receivers: u16) -> bool {
     let (chain, to) = sent;
     chain.order() == order && chain.signers() == signers && *to == receivers
 }
 
-/// Checks that the commander sent one chain in the first round. Traitor 2 sent none in the first round, and in the
-/// second passed on that chain to general 1, with his own signature.
+/// Checks that the commander sent one chain in the first round. Traitor 2 must have sent none in that round, and in the
+/// second round passed on the commander's chain to general 1, with his own signature.
 fn is_passed_on(chronicle: &SignedChronicle) -> bool {
     let [sent] = chronicle.sent(2, 2) else {
         return false;
@@ -184,8 +185,8 @@ const OBEYED: Verdict = Verdict {
     bound: true,
 };
 
-/// Takes all steps in the world of these traitors, and returns its chronicle. Returns `None` if a step does not go as
-/// expected.
+/// Takes all steps in the world of a campaign with these traitors, and returns its chronicle. Returns `None` if a step
+/// does not go as expected.
 fn led(alloc: Global, traitors: &str, steps: &[Step]) -> Option<SignedChronicle> {
     let Some(mut world) = opened(alloc, traitors) else {
         return None;
@@ -209,8 +210,8 @@ fn three_generals_agree_beside_one_who_passes_on(rt: HostRuntime) {
     assert!(rt; agree_beside_one_who_passes_on(rt.alloc()));
 }
 
-/// Checks that the commander sent two chains in the first round, that general 1 sent one in the second, and that there
-/// was no order to obey.
+/// Checks that the commander sent two chains in the first round, and general 1 sent one in the second. The verdict must
+/// not say whether the commander was obeyed.
 fn are_sent_two_orders(chronicle: &SignedChronicle) -> bool {
     chronicle.sent(0, 1).len() == 2
         && chronicle.sent(1, 2).len() == 1

@@ -1,4 +1,4 @@
-//! Plays and checks campaigns with a thread for each general, for several tests.
+//! Plays campaigns with one thread for each general, and checks them, for several tests.
 
 use crate::scenarios::{are_told_alike, told};
 use board::Access;
@@ -17,7 +17,7 @@ pub(crate) const AGREED: Verdict = Verdict {
     bound: true,
 };
 
-/// Plays a campaign with a thread for each general, and returns its chronicle, or `None` if this fails.
+/// Plays a campaign with one thread for each general, and returns its chronicle, or `None` if this fails.
 pub(crate) fn mustered<R: Threads + Wait + Sync, G: Gate + Sync>(
     rt: &R,
     alloc: Global,
@@ -34,7 +34,7 @@ pub(crate) fn mustered<R: Threads + Wait + Sync, G: Gate + Sync>(
     }
 }
 
-/// Returns the general who made each access of a round, in the order of the accesses.
+/// Returns the generals who made the accesses of a round, in the order of the accesses.
 fn names_in(alloc: Global, accesses: &[Access], round: usize) -> Result<Vec<u8>, AllocError> {
     let mut names = Vec::new(alloc);
     for access in accesses {
@@ -45,7 +45,7 @@ fn names_in(alloc: Global, accesses: &[Access], round: usize) -> Result<Vec<u8>,
     Ok(names)
 }
 
-/// Returns, for each round, the general who made each access, in the order of the accesses.
+/// Returns for each round the generals who made its accesses, in the order of the accesses.
 fn names(alloc: Global, chronicle: &Chronicle) -> Result<Vec<Vec<u8>>, AllocError> {
     let mut rounds = Vec::new(alloc);
     for place in 0..chronicle.letters().len() {
@@ -54,13 +54,13 @@ fn names(alloc: Global, chronicle: &Chronicle) -> Result<Vec<Vec<u8>>, AllocErro
     Ok(rounds)
 }
 
-/// Replays a chronicle's campaign with its accesses in the same order.
+/// Replays a chronicle's campaign with the accesses in the same order, and returns the replay's chronicle.
 fn replayed(alloc: Global, chronicle: &Chronicle) -> Result<Chronicle, AllocError> {
     let names = names(alloc, chronicle)?;
     replay(alloc, chronicle.scenario().copy(alloc)?, names.as_slice())
 }
 
-/// Checks whether the replay of a chronicle's accesses has the same text as the chronicle.
+/// Returns whether the replay of a chronicle's accesses has the same text as the chronicle.
 pub(crate) fn replays(alloc: Global, chronicle: &Chronicle) -> bool {
     match replayed(alloc, chronicle) {
         Ok(again) => are_told_alike(alloc, chronicle, &again),
@@ -68,7 +68,7 @@ pub(crate) fn replays(alloc: Global, chronicle: &Chronicle) -> bool {
     }
 }
 
-/// Returns the word of a reply, or `None` if the reply has several words.
+/// Returns the word of a reply, or `None` for a reply of several copied words.
 pub(crate) fn word(reply: &Reply) -> Option<u64> {
     match reply {
         Reply::Word(word) => Some(*word),
@@ -76,7 +76,7 @@ pub(crate) fn word(reply: &Reply) -> Option<u64> {
     }
 }
 
-/// Checks that there are `number` accesses, and that their replies count up from `first`.
+/// Returns whether there are `number` accesses whose replies count up from `first`.
 pub(crate) fn count(accesses: &[Access], number: usize, first: u64) -> bool {
     let mut next = first;
     for access in accesses {
@@ -88,7 +88,7 @@ pub(crate) fn count(accesses: &[Access], number: usize, first: u64) -> bool {
     accesses.len() == number
 }
 
-/// Copies a chronicle's letters, round by round.
+/// Returns copies of a chronicle's letters, by round.
 pub(crate) fn letters(alloc: Global, chronicle: &Chronicle) -> Result<Vec<Letter>, AllocError> {
     let mut all = Vec::new(alloc);
     for round in chronicle.letters() {

@@ -1,33 +1,33 @@
-//! Tests of the world, event by event.
+//! Tests the world of oral campaigns, event by event.
 
 use crate::scenarios::told;
 use crate::texts::{FOUR, SWAYING, TORN};
 use std::alloc::Global;
 use world::{Event, EventError, Verdict, World};
 
-/// A step of a test: events for a world, or a check of it.
+/// A step of a test: events to be applied to a world, or a check of the world.
 #[derive(Clone, Copy)]
 enum Step {
-    /// Each of these events happens.
+    /// Each of these events is accepted.
     Done(&'static [Event]),
-    /// Each of these events is rejected for this reason, and does not change the decisions.
+    /// Each of these events is rejected for this reason, and the decisions stay the same.
     Refused(&'static [Event], EventError),
-    /// Whether every loyal general has posted in each closed round.
+    /// Whether every loyal general had posted in each closed round.
     Full(bool),
-    /// The decisions of the lieutenants.
+    /// The lieutenants' current decisions.
     Decided(&'static [u32]),
 }
 
-/// The loyal generals of four post, and the round is closed.
+/// The events in which loyal generals 0, 1 and 2 post, and the round is closed.
 const POSTS: &[Event] = &[Event::Post(0), Event::Post(1), Event::Post(2), Event::Close];
 
-/// General 3 runs his program of seven instructions to its end.
+/// The seven ticks in which general 3 runs his program of seven instructions to its end.
 const TICKS: &[Event] = &[Event::Tick(3); 7];
 
-/// Events of generals who do not exist or cannot act so.
+/// Events of generals who do not exist or are of the wrong kind: a tick of a loyal general, and a post of a traitor.
 const STRANGE: &[Event] = &[Event::Tick(0), Event::Post(3), Event::Post(12)];
 
-/// Events of a campaign that is over.
+/// Events after all rounds are closed.
 const LATE: &[Event] = &[
     Event::Tick(3),
     Event::Post(0),
@@ -36,7 +36,7 @@ const LATE: &[Event] = &[
     Event::Tick(0),
 ];
 
-/// Two rounds, with events before, between and after them that are rejected.
+/// The steps of a campaign of two rounds, with rejected events before, between and after them.
 const WITH_STRANGERS: &[Step] = &[
     Step::Refused(STRANGE, EventError::NoGeneral),
     Step::Done(TICKS),
@@ -49,7 +49,7 @@ const WITH_STRANGERS: &[Step] = &[
     Step::Full(true),
 ];
 
-/// Two rounds. In the second, no loyal general posts.
+/// The steps of a campaign of two rounds. In the second round, no loyal general posts.
 const WITH_THE_ABSENT: &[Step] = &[
     Step::Done(POSTS),
     Step::Done(TICKS),
@@ -59,7 +59,7 @@ const WITH_THE_ABSENT: &[Step] = &[
     Step::Decided(&[1, 0, 0]),
 ];
 
-/// Two rounds. In the second, all loyal generals post.
+/// The steps of a campaign of two rounds. In the second round, all loyal generals post.
 const WITH_ALL: &[Step] = &[
     Step::Done(POSTS),
     Step::Done(TICKS),
@@ -75,20 +75,20 @@ const OBEYED: Verdict = Verdict {
     bound: true,
 };
 
-/// The traitors' tables of a campaign of four generals, the steps, and the verdict, which is `None` if the world then
-/// has no chronicle.
+/// Rows for campaigns of four generals: the traitors' tables, the steps, and the verdict, which is `None` if the world
+/// then has no chronicle.
 const WORLDS: &[(&str, &[Step], Option<Verdict>)] = &[
     (SWAYING, WITH_STRANGERS, Some(OBEYED)),
     (TORN, WITH_THE_ABSENT, None),
     (TORN, WITH_ALL, Some(OBEYED)),
 ];
 
-/// Checks whether the event happens.
+/// Applies an event, and returns whether it was accepted.
 fn is_done(world: &mut World, event: Event) -> bool {
     world.apply(event).is_ok()
 }
 
-/// Checks whether each of these events happens.
+/// Applies these events, and returns whether all were accepted.
 fn are_done(world: &mut World, events: &[Event]) -> bool {
     for event in events {
         if !is_done(world, *event) {
@@ -98,7 +98,7 @@ fn are_done(world: &mut World, events: &[Event]) -> bool {
     true
 }
 
-/// Checks whether the event is rejected for this reason.
+/// Applies an event, and returns whether it was rejected for this reason.
 fn is_refused(world: &mut World, event: Event, reason: EventError) -> bool {
     match world.apply(event) {
         Ok(()) => false,
@@ -106,12 +106,12 @@ fn is_refused(world: &mut World, event: Event, reason: EventError) -> bool {
     }
 }
 
-/// Checks whether the lieutenants' decisions are `orders`.
+/// Returns whether the lieutenants' decisions are `orders`.
 fn has_decided(world: &World, orders: &[u32]) -> bool {
     world.decisions().as_slice() == orders
 }
 
-/// Checks whether each of these events is rejected for this reason and does not change the decisions.
+/// Applies these events, and returns whether each was rejected for this reason and the decisions stayed the same.
 fn are_refused(world: &mut World, events: &[Event], reason: EventError) -> bool {
     let before = world.decisions();
     for event in events {
@@ -122,7 +122,7 @@ fn are_refused(world: &mut World, events: &[Event], reason: EventError) -> bool 
     true
 }
 
-/// Takes a step in a world, and checks whether it goes as expected.
+/// Takes a step in a world, and returns whether it went as expected.
 fn goes(world: &mut World, step: Step) -> bool {
     match step {
         Step::Done(events) => are_done(world, events),
@@ -132,7 +132,7 @@ fn goes(world: &mut World, step: Step) -> bool {
     }
 }
 
-/// Takes all steps in a world, and checks whether each goes as expected.
+/// Takes all steps in a world, and returns whether each went as expected.
 fn go(world: &mut World, steps: &[Step]) -> bool {
     for step in steps {
         if !goes(world, *step) {
@@ -150,8 +150,8 @@ fn verdict_of(world: World) -> Option<Verdict> {
     }
 }
 
-/// Takes all steps in the world of these traitors. Checks whether they go as expected, and whether the world's
-/// chronicle then has the verdict `verdict`.
+/// Takes all steps in the world of a campaign with these traitors. Returns whether each went as expected, and the
+/// world's chronicle then has this verdict.
 fn leads(alloc: Global, traitors: &str, steps: &[Step], verdict: Option<Verdict>) -> bool {
     let Some(scenario) = told(alloc, FOUR, traitors) else {
         return false;

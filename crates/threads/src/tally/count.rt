@@ -12,12 +12,12 @@ pub(crate) use uncounted_letter::{Uncounted, send};
 #[derive(Drop)]
 pub(crate) struct AllPosted {
     letters: usize,
-    /// The evidence for the tasks for which they posted.
+    /// The evidence that they were given their tasks of this round.
     out: HandedOut,
 }
 
 impl AllPosted {
-    /// Returns the number of letters that they have posted.
+    /// Returns how many letters the generals have posted in this round.
     pub(crate) fn letters(&self) -> usize
         ensures { result ≡ self.now.letters }
     {
@@ -25,19 +25,19 @@ impl AllPosted {
     }
 }
 
-/// Evidence that a general has failed. Only `Count::begin_again` creates one.
+/// Evidence that a general has failed, found when a round was over. Only `Count::begin_again` creates one.
 #[derive(Clone, Copy)]
 pub(crate) struct SomeoneFailed {
     failed: Failed,
 }
 
-/// Evidence that a failure was recorded. Only `Count::fail` creates one.
+/// Evidence that a general's failure was recorded. Only `Count::fail` creates one.
 #[derive(Clone, Copy)]
 pub(super) struct Counted {
     failed: Failed,
 }
 
-/// The number of letters of a round that are posted, and why a general has failed, if one has.
+/// How many letters of the current round are posted, and why a general has failed, if one has.
 #[derive(Drop)]
 pub(super) struct Count {
     posted: usize,
@@ -45,7 +45,7 @@ pub(super) struct Count {
 }
 
 impl Count {
-    /// Returns a count without posted letters and without a failure.
+    /// Returns the count at the start: no posted letters and no failure.
     pub(super) fn new() -> Count
         ensures posted { result.posted ≡ 0 }
         ensures failed { result.failed ≡ None }
@@ -56,7 +56,8 @@ impl Count {
         }
     }
 
-    /// Counts one more posted letter, and returns its poster.
+    /// Counts one more posted letter, and returns the poster with which it was posted. The count stays at 2^64 - 1 if
+    /// it has reached that.
     pub(super) fn add(&mut self, uncounted: Uncounted) -> Poster
         ensures count { self.new ≡ record self.old { posted = min (self.old.posted + 1) 0xffff_ffff_ffff_ffff } }
         ensures poster { result ≡ uncounted.poster }
@@ -66,7 +67,7 @@ impl Count {
         poster
     }
 
-    /// Records that a general has failed.
+    /// Records that a general has failed, and returns the evidence that this was recorded.
     pub(super) fn fail(&mut self, failed: Failed) -> Counted
         ensures count { self.new ≡ record self.old { failed = Some failed } }
         ensures counted { result.failed ≡ failed }
@@ -75,7 +76,8 @@ impl Count {
         Counted { failed }
     }
 
-    /// Begins the next round. All `generals` generals must have posted, or one must have failed.
+    /// Sets the count to 0 for the next round, and returns evidence that all generals have posted. Before the call,
+    /// `generals` letters must be posted or a general must have failed.
     ///
     /// # Errors
     ///
@@ -100,7 +102,7 @@ impl Count {
         }
     }
 
-    /// Returns whether the wait is over: at least `generals` letters are posted, or a general has failed.
+    /// Returns whether the wait for a round is over: at least `generals` letters are posted, or a general has failed.
     pub(super) fn is_over(&self, generals: usize) -> bool
         ensures { IsTrue result ↔ ((generals ≤ self.now.posted) ⊎ IsSome self.now.failed) }
     {

@@ -3,18 +3,18 @@ ghost use Rattle.std.specs.Prelude.{◌≡◌, Ok, IsErrAnd, MatchResult};
 
 use round::Letter;
 
-/// Evidence that the post returned a letter, for which it had no room. Only `posted` creates one.
+/// Evidence that the post had no room for a letter and returned it. Only `posted` creates one.
 #[derive(Clone, Copy)]
 pub(crate) struct Returned {
-    /// The general whose letter it is.
+    /// The general whose letter was returned.
     general: u32,
 }
 
-/// Checks that a letter was posted.
+/// Checks the result of posting a letter.
 ///
 /// # Errors
 ///
-/// `Returned` if the post returned it.
+/// `Returned` if the post was full and returned the letter.
 pub(super) fn posted(sent: Result<(), Letter>) -> Result<(), Returned>
     ensures { MatchResult sent (λ _. result ≡ Ok tt) (λ back. IsErrAnd result (λ r. r.general ≡ back.general)) }
 {

@@ -1,4 +1,4 @@
--- At once over, over without an access, or an access and what follows it.
+-- The activation has ended, ends without an access, or makes one.
 use Rattle.std.proofs.Common.{◌∙◌, ℕ, refl, sym, subst}
 use Rattle.round.specs.Activation.{Activation, turn}
 use Rattle.round.specs.Running.{Silently, Pauses}

@@ -1,4 +1,4 @@
--- Counted where they were found, or behind all.
+-- The state is counted by an earlier finding, or appended.
 use Rattle.std.proofs.Common.{◌≡◌, ◌∙◌, ◌+◌, ap, subst, refl, List, ℕ}
 use Rattle.world.specs.Playing.{lists_in}
 use Rattle.campaign_orders.specs.Exploring.{Finding}

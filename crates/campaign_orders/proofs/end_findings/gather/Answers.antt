@@ -1,4 +1,4 @@
--- State by state.
+-- One more state is considered.
 use Rattle.std.proofs.Common.{arith}
 use Rattle.campaign_orders.proofs.Collecting.{gather_begins, gather_goes_on, gather_ends}
 use Rattle.campaign_orders.proofs.end_findings.gather.Goals as goal

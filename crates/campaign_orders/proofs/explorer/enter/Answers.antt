@@ -1,4 +1,4 @@
--- Entered where they were found, or behind all.
+-- The order is counted by an earlier finding, or appended.
 use Rattle.std.proofs.Common.{◌∷◌, [], ◌++◌, ◌∙◌, sym, ap, subst, List}
 use Rattle.campaign_orders.specs.Exploring.{Finding}
 use Rattle.campaign_orders.specs.Places.{IsPlaceOf, IsNowhere}

@@ -1,4 +1,4 @@
--- Without a limit, all.
+-- Without a limit all orders are explored.
 use Rattle.std.proofs.Common.{ℕ, sym, subst}
 use Rattle.std.specs.Prelude.{IfOk}
 use Rattle.world.specs.World.{oral_kind}

@@ -1,4 +1,4 @@
--- Few orders are all.
+-- If there are few orders, they are all.
 use Rattle.std.proofs.Common.{arith, ◌-◌, ◌^◌, ◌∙◌, sym}
 use Rattle.campaign_orders.proofs.Replaying.{whole_within}
 use Rattle.campaign_orders.proofs.explorer.explore_all.Goals as goal

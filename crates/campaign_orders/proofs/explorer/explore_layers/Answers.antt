@@ -1,4 +1,4 @@
--- All orders are counted, or too many for that.
+-- All orders are counted, or there are too many to be counted.
 use Rattle.std.proofs.Common.{◌≡◌, ◌∙◌, ◌-◌, ◌^◌, sym, ap, subst, List, arith}
 use Rattle.campaign_orders.specs.Exploring.{Finding, counted_in}
 use Rattle.campaign_orders.specs.Gathering.{AreGathered}

@@ -1,4 +1,4 @@
--- From visit to visit, to the last order or to the limit.
+-- Orders are visited up to the last one or the limit.
 use Rattle.std.proofs.Common.{◌≡◌, arith}
 use Rattle.campaign_orders.specs.declared.exploration.Reach.TheVariants.{Whole, Beyond, InPart}
 use Rattle.campaign_orders.proofs.Replaying.{visits_begin, visits_go_on, visits_end, visits_few, visits_first, visits_cut, cut_first}

@@ -1,4 +1,4 @@
--- The replay of the names, its order and its outcome.
+-- The replay of the names gives its order and its outcome.
 use Rattle.std.proofs.Common.{◌+◌, ◌∙◌, suc, ap, arith, ◌≡◌}
 use Rattle.world.specs.Playing.{lists_in}
 use Rattle.world.specs.World.{oral_kind}

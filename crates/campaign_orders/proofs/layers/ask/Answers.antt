@@ -1,4 +1,4 @@
--- Entered, or not.
+-- The state is entered, or there is none.
 use Rattle.std.proofs.Common.{refl}
 use Rattle.campaign_orders.proofs.layers.ask.Goals as goal
 

@@ -1,4 +1,4 @@
--- General by general.
+-- One more general's access is considered.
 use Rattle.std.proofs.Common.{◌≡◌, ◌+◌, Bool, sym, subst, arith}
 use Rattle.campaign_orders.proofs.Spreading.{IsSpread, expanded_if, expanded_else, own_run, shut_is, spread_begins, spread_next}
 use Rattle.campaign_orders.proofs.layers.expand.Goals as goal

@@ -1,4 +1,4 @@
--- Round by round.
+-- One more round is closed.
 use Rattle.std.proofs.Common.{◌+◌, ◌∙◌, [], ap, arith, subst, sym}
 use Rattle.round.specs.Scenario.{Scenario}
 use Rattle.world.specs.Kind.{opening}

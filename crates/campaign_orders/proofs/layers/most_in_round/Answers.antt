@@ -1,4 +1,4 @@
--- General by general.
+-- One more general's program is counted.
 use Rattle.std.proofs.Common.{◌≡◌, ◌∙◌, ◌*◌, None, ap, length, arith}
 use Rattle.std.specs.Prelude.{sum_by}
 use Rattle.std.proofs.lemmas.List.{take_all}

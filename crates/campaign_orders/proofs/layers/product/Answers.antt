@@ -1,4 +1,4 @@
--- It fits.
+-- The product fits into 32 bits.
 use Rattle.std.proofs.Common.{arith}
 use Rattle.std.proofs.lemmas.Nat.{mul-le}
 use Rattle.campaign_orders.proofs.layers.product.Goals as goal

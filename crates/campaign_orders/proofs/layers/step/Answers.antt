@@ -1,4 +1,4 @@
--- State by state.
+-- One more state is replaced.
 use Rattle.std.proofs.Common.{List, subst, sym, ◌∙◌}
 use Rattle.campaign_orders.specs.Layers.{State, IsStep}
 use Rattle.campaign_orders.proofs.Spreading.{left_is_state, none_left, stepping_begins, stepping_goes_on, stepping_ends, turned}

@@ -1,4 +1,4 @@
--- Access by access.
+-- One more access is made.
 use Rattle.std.proofs.Common.{List, arith, subst, sym}
 use Rattle.campaign_orders.specs.Layers.{State, IsRoundOn}
 use Rattle.campaign_orders.proofs.Spreading.{way_begins, way_goes_on, way_ends}

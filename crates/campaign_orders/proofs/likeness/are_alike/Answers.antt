@@ -1,4 +1,4 @@
--- Words, activations, and what was told.
+-- The words, the parts and the orders sent are the same.
 use Rattle.std.proofs.Common.{List, ◌∙◌, sym, subst}
 use Rattle.round.specs.Letters.{Letter}
 use Rattle.campaign_orders.specs.Merging.{RoundsAlike}

@@ -1,4 +1,4 @@
--- One round more, and all.
+-- One more round is compared, and in the end all.
 use Rattle.std.proofs.Common.{List, subst, arith}
 use Rattle.round.specs.Letters.{Letter}
 use Rattle.campaign_orders.specs.Merging.{TellAlike}

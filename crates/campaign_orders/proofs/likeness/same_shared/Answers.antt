@@ -1,4 +1,4 @@
--- One part more, and all.
+-- One more part is compared, and in the end all.
 use Rattle.std.proofs.Common.{◌∙◌, sym, arith}
 use Rattle.std.specs.Arc.{arc_value}
 use Rattle.campaign_orders.proofs.Sharing.{same_more, same_all}

@@ -1,4 +1,4 @@
--- One letter more, and all.
+-- One more letter is compared, and in the end all.
 use Rattle.std.proofs.Common.{arith}
 use Rattle.campaign_orders.proofs.Comparing.{tell_more, tell_all}
 use Rattle.campaign_orders.proofs.likeness.tell_alike.Goals as goal

@@ -1,4 +1,4 @@
--- One more.
+-- One more part is copied.
 use Rattle.std.proofs.Common.{◌∙◌}
 use Rattle.std.specs.Arc.{arc_value}
 use Rattle.campaign_orders.proofs.Sharing.{copied_more}

@@ -1,4 +1,4 @@
--- At the index, or nowhere.
+-- The part at the index is replaced, or there is no such index.
 use Rattle.std.proofs.Common.{arith, refl}
 use Rattle.std.specs.Arc.{arc_value}
 use Rattle.campaign_orders.proofs.Sharing.{replaced_here, replaced_nowhere}

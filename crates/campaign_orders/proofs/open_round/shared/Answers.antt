@@ -1,4 +1,4 @@
--- One more.
+-- One more part is shared.
 use Rattle.std.specs.Arc.{arc_value}
 use Rattle.std.proofs.Common.{arith}
 use Rattle.campaign_orders.proofs.Sharing.{shared_more, shared_all}

@@ -1,4 +1,4 @@
--- Round by round.
+-- Orders are compared round by round.
 use Rattle.std.proofs.Common.{◌∙◌}
 use Rattle.campaign_orders.proofs.Lesser.{lists_cmp}
 use Rattle.campaign_orders.proofs.order.compared.Goals as goal

@@ -1,4 +1,4 @@
--- One round more.
+-- One more round is listed.
 use Rattle.std.proofs.Common.{◌+◌, arith}
 use Rattle.campaign_orders.proofs.Passing.{order_more}
 use Rattle.campaign_orders.proofs.order.order_in.Goals as goal

@@ -1,4 +1,4 @@
--- What was explored can be printed.
+-- The result of an exploration can be printed.
 use Rattle.std.proofs.Common.{arith}
 use Rattle.campaign_orders.proofs.Replaying.{all_walk}
 use Rattle.campaign_orders.proofs.printer.explored.Goals as goal

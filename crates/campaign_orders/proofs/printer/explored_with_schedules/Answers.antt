@@ -1,4 +1,4 @@
--- What was explored can be printed, and each example has a schedule.
+-- The result of an exploration can be printed, and each example has a schedule.
 use Rattle.std.proofs.Common.{◌≤◌, ◌∙◌, ℕ, ap, arith, length, map, subst, sym, List, All}
 use Rattle.world.specs.Kind.{opening}
 use Rattle.world.specs.World.{oral_kind}

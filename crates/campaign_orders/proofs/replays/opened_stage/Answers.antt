@@ -1,4 +1,4 @@
--- Open already, or played again.
+-- The round is open already, or the campaign is played again.
 use Rattle.std.proofs.Common.{◌∙◌, ap, sym}
 use Rattle.world.specs.Kind.{opening}
 use Rattle.world.specs.Playing.{lists_in}

@@ -1,4 +1,4 @@
--- Round by round.
+-- One more round is played.
 use Rattle.std.proofs.Common.{◌∙◌, ap, arith}
 use Rattle.world.specs.Kind.{opening}
 use Rattle.world.specs.World.{oral_kind}

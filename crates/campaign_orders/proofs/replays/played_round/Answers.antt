@@ -1,4 +1,4 @@
--- The round that is open in the world.
+-- The round is the open one of the world.
 use Rattle.world.specs.Playing.{lists_in}
 use Rattle.campaign_orders.proofs.Stating.{played_open}
 use Rattle.campaign_orders.proofs.replays.played_round.Goals as goal

@@ -1,4 +1,4 @@
--- One name more.
+-- One more named general makes his access.
 use Rattle.std.proofs.Common.{◌+◌, ◌<◌, subst, length, drop, get_or, List, ℕ, arith}
 use Rattle.campaign_orders.proofs.Planned.{IsOnLine, names_at, line_goes_on, line_stops}
 use Rattle.campaign_orders.proofs.schedules.line_of.Goals as goal

@@ -1,4 +1,4 @@
--- One round more.
+-- One more line is made.
 use Rattle.std.proofs.Common.{◌+◌, ◌<◌, subst, length, drop, List, ℕ, arith}
 use Rattle.world.specs.Playing.{lists_in}
 use Rattle.campaign_orders.specs.Planning.{IsLineOf}

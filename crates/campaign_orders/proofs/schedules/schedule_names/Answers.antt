@@ -1,4 +1,4 @@
--- From the opening.
+-- The schedule begins with the opening of the world.
 use Rattle.std.proofs.Common.{subst}
 use Rattle.std.specs.Prelude.{IfOk}
 use Rattle.world.specs.Kind.{World, opening}

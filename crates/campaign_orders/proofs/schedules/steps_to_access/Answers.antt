@@ -1,4 +1,4 @@
--- Ahead to the next request, and one tick more.
+-- Turns up to the next request are taken, and then one more tick.
 use Rattle.campaign_orders.proofs.Stepping.{step_taken, step_still}
 use Rattle.campaign_orders.proofs.schedules.steps_to_access.Goals as goal
 

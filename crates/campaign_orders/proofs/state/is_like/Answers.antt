@@ -1,4 +1,4 @@
--- Both in an open round, or both at the start of one.
+-- Both states are in an open round, or both are at the start of one.
 use Rattle.std.proofs.Common.{◌∙◌}
 use Rattle.world.specs.Playing.{lists_in}
 use Rattle.campaign_orders.proofs.Stating.{begun_alike, begun_world, open_alike, open_world}

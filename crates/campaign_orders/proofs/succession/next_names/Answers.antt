@@ -1,4 +1,4 @@
--- The least name above, in place of one before it.
+-- The least greater name replaces an earlier one.
 use Rattle.std.proofs.Common.{◌∙◌, ap, arith}
 use Rattle.campaign_orders.specs.Succession.{next_names}
 use Rattle.campaign_orders.proofs.Passing.{turned_before}

@@ -1,4 +1,4 @@
--- A round taken from the end.
+-- A round is removed from the end.
 use Rattle.std.proofs.Common.{◌∙◌}
 use Rattle.campaign_orders.proofs.Passing.{order_turned, order_passed}
 use Rattle.campaign_orders.proofs.succession.next_order.Goals as goal

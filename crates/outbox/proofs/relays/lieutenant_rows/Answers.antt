@@ -1,4 +1,4 @@
--- No label, or all that prolong the commander's.
+-- A lieutenant relays no label in round 1, and otherwise all labels that extend the commander's.
 use Rattle.std.proofs.Common.{ℕ, suc, ◌-◌, ◌≡◌, ◌++◌, map, ap, ◌∙◌, arith}
 use Rattle.label.specs.Labels.{labels}
 use Rattle.outbox.specs.Rows.{row_for}

@@ -1,4 +1,4 @@
--- The commander's row, or none.
+-- The commander has one row in round 1 and none later.
 use Rattle.std.proofs.Common.{◌∷◌, ◌++◌, [], ap, ◌∙◌}
 use Rattle.outbox.proofs.RowByRow.{one_row, no_row}
 use Rattle.outbox.proofs.relays.rows_of.Goals as goal

@@ -1,4 +1,4 @@
--- Orders for the first receivers.
+-- Orders are put for the first receivers.
 use Rattle.std.proofs.Common.{◌≡◌, ◌<◌, ◌∙◌, length, arith, get_or, min}
 use Rattle.outbox.specs.Rows.{row_of}
 use Rattle.label.proofs.Bounds.{on-get_or}

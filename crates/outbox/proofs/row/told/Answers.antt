@@ -1,4 +1,4 @@
--- One order more.
+-- One more order is appended.
 use Rattle.std.proofs.Common.{ℕ, ◌≡◌, List, Option, None, [], ◌∷◌, ◌++◌, length, length-append, map, take, get_or, sym, ap, ◌∙◌, arith}
 use Rattle.std.proofs.lemmas.List.{take_all, take_more, map-append}
 use Rattle.outbox.proofs.AlikeRows.{row_told}

@@ -1,4 +1,4 @@
--- The same orders, each at its number.
+-- The orders at each index are the same.
 use Rattle.std.proofs.Common.{arith, refl, None}
 use Rattle.outbox.proofs.Sameness.{same_lists}
 use Rattle.outbox.proofs.rows.are_same.Goals as goal

@@ -1,4 +1,4 @@
--- One row more.
+-- One more row is written.
 use Rattle.std.proofs.Common.{◌≡◌, ◌≢◌, ◌<◌, ◌≤◌, ◌+◌, ℕ, sym, ap, ◌∙◌, length, get_or, arith, cond}
 use Rattle.std.proofs.lemmas.List.{length-set, get_or-set_other}
 use Rattle.outbox.specs.Rows.{receivers_in, put_in_row, found_first}

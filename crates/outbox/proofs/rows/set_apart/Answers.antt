@@ -1,4 +1,4 @@
--- Row by row, or none.
+-- Mixed rows are made one by one, or there are some already.
 use Rattle.std.proofs.Common.{rules, ◌≡◌, ◌≢◌, ◌<◌, ◌∙◌, length, refl, arith}
 use Rattle.std.proofs.lemmas.List.{take_all}
 use Rattle.outbox.specs.Rows.{rows_seen}

@@ -1,4 +1,4 @@
--- The same entries, each at its place.
+-- The entries at each index are the same.
 use Rattle.std.proofs.Common.{arith, refl}
 use Rattle.semantics.specs.declared.entry.Entry.TheVariants.{Sign}
 use Rattle.outbox.proofs.Sameness.{same_lists}

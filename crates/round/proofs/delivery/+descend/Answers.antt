@@ -1,4 +1,4 @@
--- General by general.
+-- One more general is considered.
 use Rattle.std.proofs.Common.{◌≡◌, ◌+◌, ◌∙◌, ◌∷◌, ◌++◌, [], ℕ, false, true, sym, ap, refl, arith}
 use Rattle.std.specs.Prelude.{slice_index_or}
 use Rattle.outbox.proofs.RowLemmas.{others-few}

@@ -1,4 +1,4 @@
--- The one tree.
+-- There is only one tree.
 use Rattle.std.proofs.Common.{◌<◌, length, ap, arith}
 use Rattle.std.specs.Prelude.{slice_get}
 use Rattle.std.proofs.lemmas.Option.{slice_get-get_or}

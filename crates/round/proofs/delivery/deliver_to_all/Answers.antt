@@ -1,4 +1,4 @@
--- All labels of the round.
+-- All labels of the round are entered.
 use Rattle.std.proofs.Common.{◌≡◌, ◌<◌, ◌∷◌, [], length, arith, rules}
 use Rattle.round.specs.Told.{round_of}
 use Rattle.round.proofs.Together.{all_told, none_told, round_told}

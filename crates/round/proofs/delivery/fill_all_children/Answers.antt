@@ -1,4 +1,4 @@
--- One of those off the label after another.
+-- The tree of one more general off the label is filled.
 use Rattle.std.proofs.Common.{◌≡◌, ℕ, refl, subst, take, arith}
 use Rattle.std.specs.Prelude.{slice_index, slice_index_or}
 use Rattle.round.proofs.Together.{stays_read}

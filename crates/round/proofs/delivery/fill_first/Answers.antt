@@ -1,4 +1,4 @@
--- Tree by tree.
+-- One more tree is filled.
 use Rattle.std.proofs.Common.{◌≡◌, ◌<◌, ◌∙◌, ℕ, length, ap, arith}
 use Rattle.std.specs.Prelude.{slice_index_or}
 use Rattle.label.specs.Labels.{labels}

@@ -1,4 +1,4 @@
--- Tree by tree.
+-- One more tree is found.
 use Rattle.std.proofs.Common.{◌<◌, ◌∙◌, length, refl, arith}
 use Rattle.round.proofs.TreeTables.{table_all, table_from, table_next}
 use Rattle.round.proofs.delivery.find_trees.Goals as goal

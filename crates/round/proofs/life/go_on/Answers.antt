@@ -1,4 +1,4 @@
--- One turn, and silently on.
+-- One turn is taken, and then turns that are no requests.
 use Rattle.std.proofs.Common.{◌≡◌, Option, true, subst, arith}
 use Rattle.std.specs.Prelude.{IfSome}
 use Rattle.semantics.specs.Call.{fits}

@@ -1,4 +1,4 @@
--- Each of his places, in one pass.
+-- The orders for all receivers are put in one pass.
 use Rattle.std.proofs.Common.{◌∙◌, ap, map, Some}
 use Rattle.semantics.specs.Relay.{Relay}
 use Rattle.semantics.specs.Outbox.{places, taken_value}

@@ -1,4 +1,4 @@
--- One seat more, and all.
+-- One more player is considered, and in the end all.
 use Rattle.std.proofs.Common.{◌≡◌, ◌<◌, ◌∙◌, List, Option, Some, length, subst, sym, refl, arith, below_more}
 use Rattle.std.specs.Prelude.{slice_get, IfSome}
 use Rattle.std.proofs.lemmas.Option.{slice_get_read, slice_get_within}

@@ -1,4 +1,4 @@
--- General by general.
+-- One more general is considered.
 use Rattle.std.proofs.Common.{◌≡◌, ◌≤◌, ◌+◌, ◌∙◌, ℕ, false, not, cond, refl, ap, arith, length-set}
 use mir.Val.{bool_byte}
 use Rattle.std.specs.Prelude.{slice_index, slice_index_or}

@@ -1,4 +1,4 @@
--- A lieutenant is told nothing yet.
+-- In the first round a lieutenant has received nothing.
 use Rattle.std.proofs.Common.{◌∙◌, ℕ, Ok, sym}
 use Rattle.round.proofs.Values.{opening_told}
 use Rattle.round.proofs.told_trees.write_first_context.Goals as goal

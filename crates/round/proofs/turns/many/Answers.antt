@@ -1,4 +1,4 @@
--- The steps are turns.
+-- The machine's steps are turns.
 use Rattle.std.proofs.Common.{refl, ◌∙◌}
 use Rattle.machine.specs.declared.stop.StopReason.TheVariants.{Asked, Exited, Limit}
 use Rattle.round.proofs.Turning.{ahead_with, within_with}

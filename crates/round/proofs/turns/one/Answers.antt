@@ -1,4 +1,4 @@
--- One step of the run.
+-- One step of the machine is one step of the run.
 use Rattle.std.proofs.Common.{◌≡◌, ◌<◌, ◌≤◌, ◌+◌, ◌∙◌, arith, length, ap}
 use Rattle.semantics.specs.Execution.{step}
 use Rattle.machine.proofs.AdvanceLemmas.{fewer}

@@ -4,6 +4,6 @@ use Rattle.std.specs.String.{string_bytes}
 use Rattle.show_chains.specs.Bands.{drawn}
 use Rattle.show_chains.proofs.bands.put_strokes.Given as goal
 
--- those so far
+-- The strokes so far are drawn.
 abbrev pub invariant-loop-stroke : goal.invariant-loop-stroke
 invariant-loop-stroke l = string_bytes l.out ≡ string_bytes l.fn.out ++ flat_map (drawn l.generals l.accesses l.round) (take l.stroke-index l.strokes)

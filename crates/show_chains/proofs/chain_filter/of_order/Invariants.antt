@@ -2,6 +2,6 @@ use Rattle.std.proofs.Common.{◌≡◌, take}
 use Rattle.std.specs.Prelude.{◌==◌, filter}
 use Rattle.show_chains.proofs.chain_filter.of_order.Given as goal
 
--- those of the chains so far
+-- Those of the chains so far that have the order are kept.
 abbrev pub invariant-loop-chain : goal.invariant-loop-chain
 invariant-loop-chain l = l.kept.items ≡ filter (λ ch. ch.order == l.order) (take l.chain-index l.chains)

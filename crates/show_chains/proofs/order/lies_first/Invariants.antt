@@ -4,7 +4,7 @@ use Rattle.show_diagram.specs.Order.{firsts, is_by_one, repeats}
 use Rattle.show_chains.specs.Strokes.{is_lie, sender}
 use Rattle.show_chains.proofs.order.lies_first.Given as goal
 
--- those of the strokes so far
+-- The strokes so far are distributed to the three lists.
 abbrev pub invariant-loop-stroke : goal.invariant-loop-stroke
 invariant-loop-stroke l =
     (l.rows.items ≡ firsts (is_by_one sender) [] (filter is_lie l.yielded))

@@ -4,6 +4,6 @@ use Rattle.std.specs.String.{string_bytes}
 use Rattle.show_chains.specs.Words.{several_words}
 use Rattle.show_chains.proofs.words.put_several.Given as goal
 
--- those so far
+-- The sentences of the strokes so far are written.
 abbrev pub invariant-loop-stroke : goal.invariant-loop-stroke
 invariant-loop-stroke l = string_bytes l.out ≡ string_bytes l.fn.out ++ flat_map several_words (take l.stroke-index l.strokes)

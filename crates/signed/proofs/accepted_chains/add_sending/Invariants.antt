@@ -4,6 +4,6 @@ use Rattle.signed.specs.Gathered.{gathered}
 use Rattle.signed.specs.Sending.{dispatch_of, lent}
 use Rattle.signed.proofs.accepted_chains.add_sending.Given as goal
 
--- with those of the chains so far
+-- The chains so far are considered.
 abbrev pub invariant-loop-chain : goal.invariant-loop-chain
 invariant-loop-chain l = lent l.chains.items ≡ gathered l.round l.general (lent l.initial.chains.items) (received l.general (map dispatch_of (take l.chain-index l.sending)))

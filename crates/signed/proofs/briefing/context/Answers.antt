@@ -1,4 +1,4 @@
--- The campaign's numbers, and those of the chains held.
+-- The context has the campaign's numbers, and those of the chains held.
 use Rattle.std.proofs.Common.{◌≡◌, ◌+◌, ◌-◌, ℕ, [], ◌∷◌, length, flat_map, Vec, Global, ap, ◌∙◌, arith}
 use Rattle.std.proofs.lemmas.Result.{IfOk-weaker}
 use Rattle.round.specs.Contexts.{context_bytes}

@@ -1,4 +1,4 @@
--- His relay has the signers of the chains held.
+-- The relay has the signers of the chains held.
 use Rattle.std.proofs.Common.{◌≡◌, ◌+◌, length, map, ap, ◌∙◌, arith}
 use Rattle.std.proofs.lemmas.Result.{IfOk-weaker}
 use Rattle.semantics.specs.Relay.{signed}

@@ -1,4 +1,4 @@
--- The chronicle of the world that was played.
+-- The chronicle is that of the world that was played.
 use Rattle.std.proofs.Common.{ap, ◌∙◌}
 use Rattle.world.specs.Kind.{World}
 use Rattle.world.specs.KindLists.{replayed}

@@ -1,4 +1,4 @@
--- As it is the commander or not, in the first round or a later one.
+-- The general is the commander or not, and the round is the first or a later one.
 use Rattle.std.proofs.Common.{ℕ, ◌-◌, [], ◌∷◌, length, refl, sym, ap, ◌∙◌, arith}
 use Rattle.semantics.specs.Entries.{entered}
 use Rattle.signed.specs.Entries.{Sign}

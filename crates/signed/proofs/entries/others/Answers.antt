@@ -1,4 +1,4 @@
--- All others.
+-- The bits are set for exactly the other generals.
 use Rattle.signed.proofs.Masks.{but_are}
 use Rattle.signed.proofs.entries.others.Goals as goal
 

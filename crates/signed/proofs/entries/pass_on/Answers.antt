@@ -1,4 +1,4 @@
--- One chain after another.
+-- One more chain is considered.
 use Rattle.std.proofs.Common.{arith, refl, ◌∙◌}
 use Rattle.std.specs.Prelude.{slice_get}
 use Rattle.signed.proofs.Onward.{passing_first, passing_last, chain_at, uncounted, known_already, passed_on_also, some_there}

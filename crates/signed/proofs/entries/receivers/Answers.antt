@@ -1,4 +1,4 @@
--- All others.
+-- The bits are set for exactly the other generals.
 use Rattle.std.proofs.Common.{◌++◌, ◌∷◌, []}
 use Rattle.signed.proofs.Marks.{marks_more}
 use Rattle.signed.proofs.Masks.{but_are}

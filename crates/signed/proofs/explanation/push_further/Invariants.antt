@@ -5,6 +5,6 @@ use Rattle.std.specs.List.{flat_map}
 use Rattle.std.specs.String.{string_bytes}
 use Rattle.signed.proofs.explanation.push_further.Given as goal
 
--- those so far
+-- The generals so far are written.
 abbrev pub invariant-loop-general : goal.invariant-loop-general
 invariant-loop-general l = string_bytes l.lines ≡ string_bytes l.fn.lines ++ flat_map (λ g. codes "." ++ decimal g) (take l.general-index l.generals)

@@ -1,4 +1,4 @@
--- His context, his relay, and what he enters.
+-- The letter has his context, his relay and his entries.
 use Rattle.std.proofs.Common.{◌+◌, length, sym, subst, ◌∙◌, arith}
 use Rattle.round.specs.Letters.{Letter}
 use Rattle.round.specs.Runs.{IsLetter}

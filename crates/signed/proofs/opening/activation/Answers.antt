@@ -1,4 +1,4 @@
--- What he is told is whole.
+-- The context is a whole one.
 use Rattle.std.proofs.Common.{length, ap, ◌∙◌}
 use Rattle.signed.proofs.Receipts.{sent_rows}
 use Rattle.signed.proofs.Written.{context_whole}

@@ -1,4 +1,4 @@
--- One draft more.
+-- One more draft is made.
 use Rattle.std.proofs.Common.{ap, ◌∷◌, []}
 use Rattle.std.specs.Prelude.{slice_get}
 use Rattle.world.specs.declared.draft.LetterDraft.{LetterDraft}

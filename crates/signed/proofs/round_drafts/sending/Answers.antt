@@ -1,4 +1,4 @@
--- By what he holds, and what he has entered.
+-- The chains follow from what he holds and from his entries.
 use Rattle.std.proofs.Common.{◌≡◌, List, ◌∙◌}
 use Rattle.std.specs.Prelude.{slice_get}
 use Rattle.std.proofs.lemmas.Result.{IfOk-weaker}

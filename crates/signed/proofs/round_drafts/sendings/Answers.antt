@@ -1,4 +1,4 @@
--- One general more.
+-- One more general sends.
 use Rattle.std.proofs.Common.{◌<◌, length, ap, ◌∙◌, arith}
 use Rattle.std.specs.Prelude.{slice_get}
 use Rattle.signed.specs.Entries.{dispatched}

@@ -1,4 +1,4 @@
--- One signer more.
+-- One more signer is made.
 use Rattle.std.proofs.Common.{ℕ, ◌∷◌, [], ◌++◌, sym, ◌∙◌, arith}
 use Rattle.std.proofs.lemmas.List.FromFn.{map-range_with_len_more}
 use Rattle.signed.proofs.signed_world.signers.Goals as goal

@@ -1,4 +1,4 @@
--- The key that is sorted by is the general.
+-- The answers are sorted by their generals.
 use Rattle.std.proofs.Common.{rules}
 use Rattle.std.proofs.lemmas.List.Sorted.{answers_always}
 use Rattle.threads.specs.declared.resident.Answer.{Answer}

@@ -1,4 +1,4 @@
--- The letters that are delivered are those of the round to come.
+-- The delivered letters are those of the next round.
 use Rattle.std.proofs.Common.{rules, suc, List, sym, subst}
 use Rattle.std.specs.Prelude.{All}
 use Rattle.round.specs.Letters.{Letter}

@@ -11,12 +11,12 @@ use Rattle.threads.proofs.Grids.{grid_of}
 use Rattle.threads.proofs.Whose.{rounds_are}
 use Rattle.threads.proofs.ledger_letters.gather.Goals as goal
 
--- whatever the error is
+-- If a property holds for every error, it holds for this one.
 any_error : {T E : Type 0} {P : E → Type 0} (r : Result T E) → ((e : E) → P e) → IfErr r P
 any_error (Ok t) all = tt
 any_error (Err e) all = all e
 
--- what was refused is not there, or is not so
+-- If a check fails, the value is missing or the condition does not hold.
 not_there : {T : Type 0} {absent : Type 0} (there : T → Type 0) (o : Option T) (r : Result T MusterError) (e : MusterError) → r ≡ Err e
     → MatchOption o (r ≡ Err Unaccounted) (λ own. r ≡ Ok own) → MatchOption o absent there → absent
 not_there there None r e fails refused is = is

@@ -1,4 +1,4 @@
--- The accesses are the ledger of the board that was given back.
+-- The chronicle's accesses are the ledger of the board that was taken back from the threads.
 use Rattle.std.proofs.Common.{List, sym, subst, ◌∙◌}
 use mathlib.Core.List.{IsPrefix}
 use Rattle.board.specs.Board.{Access}

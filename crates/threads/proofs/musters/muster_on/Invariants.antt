@@ -1,6 +1,6 @@
 use Rattle.threads.proofs.musters.muster_on.Given as goal
 
--- the board that was just made
+-- The name `J` is for the board that was just made.
 abbrev pub ghosts-mustered-J-Room : goal.ghosts-mustered-J-Room
 ghosts-mustered-J-Room g a = record { book = a.unshared.book; opening = a.unshared.opening }
 

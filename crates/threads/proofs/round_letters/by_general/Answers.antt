@@ -1,4 +1,4 @@
--- The key that is sorted by is the general.
+-- The letters are sorted by their generals.
 use Rattle.std.proofs.Common.{rules}
 use Rattle.std.proofs.lemmas.List.Sorted.{answers_always}
 use Rattle.round.specs.Letters.{Letter}

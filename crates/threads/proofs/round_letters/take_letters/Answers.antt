@@ -1,4 +1,4 @@
--- What the post claims of each letter that is taken.
+-- The post's claim holds for each letter that is taken.
 use Rattle.std.proofs.Common.{rules, ◌≡◌, [], ◌∷◌, ◌++◌, List, Option, append_assoc, sym, ap, ◌∙◌, subst}
 use Rattle.std.specs.Prelude.{IfSome, MatchOption}
 use Rattle.std.proofs.lemmas.List.Sorted.{All-permutation}

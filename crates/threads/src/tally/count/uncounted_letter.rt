@@ -1,4 +1,4 @@
-//! Posts a letter, and keeps its poster until the letter is counted.
+//! Posts a letter, and withholds its poster until the letter is counted.
 ghost use Rattle.std.specs.Prelude.{◌≡◌, ◌++◌, ◌∷◌, [], IfOk, IfErr};
 
 use crate::claim::Claim;
@@ -8,14 +8,15 @@ use crate::tally::returned_letter::{Returned, posted};
 use round::Letter;
 use std::sync::Wait;
 
-/// A poster with which a letter was posted that is not counted yet. Only `send` creates one, and only `Count::add`
-/// returns the poster.
+/// A poster whose last letter was posted but is not counted yet. Only `send` creates one, and only `Count::add` returns
+/// the poster.
 #[derive(Drop)]
 pub(crate) struct Uncounted {
     pub(super) poster: Poster,
 }
 
-/// Posts a letter, which must then be counted.
+/// Posts `letter` with its general's poster. Returns the poster as `Uncounted`, so that the letter must be counted
+/// before another is posted. The claim `C` must hold for the letter.
 ///
 /// # Errors
 ///

@@ -1,4 +1,4 @@
--- One general more.
+-- One more general is considered.
 use Rattle.std.proofs.Common.{◌<◌, arith, sym, ◌∙◌}
 use Rattle.trace.proofs.DecisionLemmas.{told_commander, told_more, told_none}
 use Rattle.trace.proofs.letters.put_decisions.Goals as goal

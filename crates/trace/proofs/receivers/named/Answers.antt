@@ -1,4 +1,4 @@
--- One general more.
+-- One more general is considered.
 use Rattle.std.proofs.Common.{◌∷◌, ◌++◌, [], List, ℕ, length, length-append, sym, ap, ◌∙◌, arith}
 use Rattle.trace.proofs.ChainLemmas.{named_else, named_then}
 use Rattle.trace.proofs.receivers.named.Goals as goal

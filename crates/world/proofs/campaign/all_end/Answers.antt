@@ -1,4 +1,4 @@
--- One general more.
+-- One more general is considered.
 use Rattle.std.proofs.Common.{◌∙◌, ap}
 use Rattle.round.specs.Scenario.{Scenario, program_of}
 use Rattle.world.specs.Kind.{each}

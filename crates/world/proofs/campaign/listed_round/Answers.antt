@@ -1,4 +1,4 @@
--- The line, and the end.
+-- The line is played, and then the round is finished.
 use Rattle.world.specs.Schedules.{entries_of}
 use Rattle.world.specs.Playing.{line_events}
 use Rattle.world.proofs.Listed.{then_ok}

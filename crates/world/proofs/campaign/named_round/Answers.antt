@@ -1,4 +1,4 @@
--- The names, and the end.
+-- The names make their accesses, and then the round is finished.
 use Rattle.world.specs.KindLists.{names_events}
 use Rattle.world.proofs.Listed.{then_ok}
 use Rattle.world.proofs.campaign.named_round.Goals as goal

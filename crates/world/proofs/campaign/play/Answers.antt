@@ -1,4 +1,4 @@
--- The chronicle of the world that was played.
+-- The chronicle is that of the world that was played.
 use Rattle.std.proofs.Common.{ap, subst, ◌∙◌}
 use Rattle.world.specs.World.{World, oral_kind}
 use Rattle.world.specs.Agreement.{IsFinished}

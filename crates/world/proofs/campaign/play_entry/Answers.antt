@@ -1,4 +1,4 @@
--- A general's events, or none.
+-- The entry names a general, or nobody.
 use Rattle.std.proofs.Common.{◌≡◌, ◌≤◌, ◌∙◌, sym, ap, List, arith}
 use Rattle.round.specs.Scenario.{Scenario}
 use Rattle.world.specs.declared.event.Event.{Event}

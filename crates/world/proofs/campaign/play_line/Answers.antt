@@ -1,4 +1,4 @@
--- One entry more.
+-- One more entry is played.
 use Rattle.std.proofs.Common.{get_or}
 use Rattle.world.proofs.Listed.{line_more}
 use Rattle.world.proofs.campaign.play_line.Goals as goal

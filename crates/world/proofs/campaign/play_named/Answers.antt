@@ -1,4 +1,4 @@
--- One round more.
+-- One more round is played.
 use Rattle.std.proofs.Common.{◌≡◌, ◌+◌, ◌∙◌, suc, ap, arith, drop}
 use Rattle.round.specs.Scenario.{Scenario}
 use Rattle.world.specs.Kind.{run}

@@ -1,4 +1,4 @@
--- One name more.
+-- One more named general makes his access.
 use Rattle.std.proofs.Common.{get_or}
 use Rattle.world.proofs.Listed.{names_more}
 use Rattle.world.proofs.campaign.play_names.Goals as goal

@@ -1,4 +1,4 @@
--- From the opening to the end.
+-- The world is played from its opening to its end.
 use Rattle.world.specs.World.{oral_kind}
 use Rattle.world.specs.Schedules.{lines_by}
 use Rattle.world.proofs.Campaigns.{oral_campaigns}

@@ -1,4 +1,4 @@
--- One post.
+-- Repeated posts are one post.
 use Rattle.std.proofs.Common.{◌≡◌, ◌-◌, ◌∙◌, ℕ, suc, sym, ap, arith}
 use Rattle.std.specs.Prelude.{replicate}
 use Rattle.world.specs.declared.event.Event.TheVariants.{Post}

@@ -1,4 +1,4 @@
--- A stretch, and a tick.
+-- Turns up to an access are taken, and then one more tick.
 use Rattle.std.proofs.Common.{◌≡◌, ◌-◌, ◌∙◌, sym, subst, List, arith}
 use Rattle.std.specs.Prelude.{slice_get, replicate}
 use Rattle.world.specs.declared.event.Event.TheVariants.{Tick}

@@ -1,4 +1,4 @@
--- Ahead to the next request or the end, and one more tick.
+-- Turns up to the next request or the end are taken, and then one more tick.
 use Rattle.std.proofs.Common.{◌∙◌, sym}
 use Rattle.world.proofs.Ticking.{named_turn}
 use Rattle.world.proofs.campaign.tick_to_access.Goals as goal

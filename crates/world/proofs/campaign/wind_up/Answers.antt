@@ -1,4 +1,4 @@
--- One behind the other.
+-- Posts, ends and the close come one after another.
 use Rattle.world.proofs.Listed.{wound_ok}
 use Rattle.world.proofs.campaign.wind_up.Goals as goal
 

@@ -1,4 +1,4 @@
--- One general more.
+-- One more general is considered.
 use Rattle.std.proofs.Common.{◌<◌, arith, sym, ◌∙◌}
 use Rattle.world.proofs.Counted.{gathered_commander, gathered_more}
 use Rattle.world.proofs.judgement.loyal_decisions.Goals as goal

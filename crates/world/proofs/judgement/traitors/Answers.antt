@@ -1,4 +1,4 @@
--- One general more.
+-- One more general is considered.
 use Rattle.std.proofs.Common.{◌<◌, arith, sym, ◌∙◌}
 use Rattle.world.proofs.Counted.{counted_yes, counted_no}
 use Rattle.world.proofs.judgement.traitors.Goals as goal

@@ -1,4 +1,4 @@
--- One letter more.
+-- One more letter is made.
 use Rattle.std.proofs.Common.{◌∙◌, sym, arith}
 use Rattle.world.proofs.letters.letters.Goals as goal
 

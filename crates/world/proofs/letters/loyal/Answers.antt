@@ -1,4 +1,4 @@
--- A loyal general's letter follows from what he was told.
+-- A loyal general's letter follows from his context.
 use Rattle.std.proofs.Common.{◌+◌, length, ap, ◌∙◌, arith}
 use Rattle.round.proofs.Contexts.{context_is}
 use Rattle.world.proofs.Hearing.{told_shape, told_own, told_ok}

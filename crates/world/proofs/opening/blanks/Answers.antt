@@ -1,4 +1,4 @@
--- One part more.
+-- One more part is made.
 use Rattle.std.proofs.Common.{[], ◌∷◌, refl, arith}
 use Rattle.round.specs.Scenario.{program_of}
 use Rattle.world.specs.Closing.{blank}

@@ -1,4 +1,4 @@
--- One by one.
+-- Contexts are written one by one.
 use Rattle.std.proofs.Common.{◌≡◌, ◌<◌, ◌≤◌, length, arith}
 use Rattle.world.proofs.Briefed.{blank_at, brief_more, brief_all}
 use Rattle.world.proofs.opening.brief.Goals as goal

@@ -1,4 +1,4 @@
--- As many zeros.
+-- The context has 4,096 zeros.
 use Rattle.std.proofs.Common.{◌-◌, ◌++◌, ◌∙◌, take}
 use Rattle.std.specs.Prelude.{replicate}
 use Rattle.world.specs.Closing.{zeros}

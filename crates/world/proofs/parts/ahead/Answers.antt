@@ -1,4 +1,4 @@
--- As many ticks as steps.
+-- As many ticks are taken as steps.
 use Rattle.std.proofs.Common.{◌-◌, inl, inr, refl, arith, [], rules}
 use Rattle.std.proofs.lemmas.Option.{slice_get_read}
 use Rattle.round.proofs.Stepping.{runs_steps}

@@ -1,4 +1,4 @@
--- Who does not act stays.
+-- A general without an activation keeps his part.
 use Rattle.std.proofs.Common.{inl, inr, refl, rules}
 use Rattle.std.proofs.lemmas.Option.{slice_get_read}
 use Rattle.world.proofs.Holding.{idle_turn}

@@ -1,4 +1,4 @@
--- Joined with one with an alike world, or behind all.
+-- The state is merged with one whose world is alike, or appended.
 use Rattle.std.proofs.Common.{◌≡◌, List, ap, get_or, set, subst}
 use Rattle.campaign_orders.specs.Layers.{State}
 use Rattle.campaign_orders.proofs.Stating.{enters_behind}

@@ -1,4 +1,4 @@
--- The place where it was found.
+-- The state at the index that was found.
 use Rattle.std.proofs.Common.{◌≡◌, ◌∙◌, List, subst}
 use Rattle.campaign_orders.specs.Layers.{State, IsAlikeAt}
 use Rattle.campaign_orders.proofs.Stating.{alike_at}

@@ -1,4 +1,4 @@
--- Of an activation, or none.
+-- The part has an activation, or none.
 use Rattle.std.proofs.Common.{◌∙◌, Some, None, sym, subst}
 use Rattle.std.specs.Prelude.{IfOk}
 use Rattle.world.specs.declared.part.Progress.{Progress}

@@ -1,4 +1,4 @@
--- The part after it in place of that before it.
+-- The general's part is replaced by the one after the access.
 use Rattle.std.proofs.Common.{◌∙◌, ap, map}
 use Rattle.std.specs.Arc.{arc_value}
 use Rattle.std.specs.Prelude.{slice_set}

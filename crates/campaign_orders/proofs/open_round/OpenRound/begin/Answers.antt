@@ -1,4 +1,4 @@
--- The world, its words, and copies of its parts.
+-- The round has the world, its words, and copies of its parts.
 use Rattle.std.proofs.Common.{◌∙◌}
 use Rattle.campaign_orders.proofs.open_round.OpenRound.begin.Goals as goal
 

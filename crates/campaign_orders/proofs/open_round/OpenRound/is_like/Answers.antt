@@ -1,4 +1,4 @@
--- Words, parts, and what was sent.
+-- The words, the parts and the orders sent are the same.
 use Rattle.std.proofs.Common.{List, ◌∙◌, ap, map, sym, subst}
 use Rattle.round.specs.Letters.{Letter}
 use Rattle.campaign_orders.specs.Merging.{RoundsAlike}

@@ -1,4 +1,4 @@
--- In the round that is open, or in one that is played again.
+-- The access is made in the round that is open, or in one that is played again.
 use Rattle.std.proofs.Common.{◌∙◌, ap}
 use Rattle.world.specs.Playing.{lists_in}
 use Rattle.campaign_orders.specs.Layers.{State}

@@ -1,4 +1,4 @@
--- An access more, or none.
+-- There is one more access, or none.
 use Rattle.std.proofs.Common.{◌∙◌, ◌∷◌, [], ◌++◌, ap, ℕ, List}
 use Rattle.world.specs.Playing.{lists_in}
 use Rattle.campaign_orders.specs.Layers.{State}

@@ -1,4 +1,4 @@
--- No accesses in the open round.
+-- The open round has no accesses yet.
 use Rattle.world.specs.Playing.{lists_in}
 use Rattle.campaign_orders.proofs.Stating.{begun_same}
 use Rattle.campaign_orders.proofs.state.State.begun.Goals as goal

@@ -1,4 +1,4 @@
--- The accesses of the round behind those of the rounds before.
+-- The accesses of the round follow those of the earlier rounds.
 use Rattle.std.proofs.Common.{ap}
 use Rattle.world.specs.Playing.{lists_in}
 use Rattle.campaign_orders.specs.Layers.{State}

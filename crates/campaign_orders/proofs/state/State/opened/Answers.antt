@@ -1,4 +1,4 @@
--- The same world in another stage.
+-- The world is the same in another stage.
 use Rattle.std.proofs.Common.{ap}
 use Rattle.world.specs.Playing.{lists_in}
 use Rattle.campaign_orders.proofs.Stating.{opened_is}

@@ -1,4 +1,4 @@
--- From the start of the open round, or played again.
+-- The outcome is that of the open round, or the campaign is played again.
 use Rattle.std.proofs.Common.{◌∙◌, ap}
 use Rattle.world.specs.Playing.{lists_in}
 use Rattle.campaign_orders.specs.Outcomes.{oral_outcome}

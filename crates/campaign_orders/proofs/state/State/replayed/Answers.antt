@@ -1,4 +1,4 @@
--- From the numbers that the state holds.
+-- The campaign is played again from the state's contents.
 use Rattle.std.proofs.Common.{◌∙◌, ap}
 use Rattle.world.specs.Playing.{lists_in}
 use Rattle.campaign_orders.specs.Layers.{State}

@@ -1,4 +1,4 @@
--- With their order, or with none.
+-- The mixed row has the uniform row's order for all receivers, or no order.
 use Rattle.std.proofs.Common.{ap, ◌∙◌}
 use Rattle.outbox.specs.Rows.{empty_row}
 use Rattle.outbox.proofs.AlikeRows.{apart_none, apart_some}

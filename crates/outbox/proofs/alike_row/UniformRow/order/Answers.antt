@@ -1,4 +1,4 @@
--- Of those who hear of it.
+-- Only a receiver of the label has the order.
 use Rattle.std.proofs.Common.{sym, ◌∙◌, true, false}
 use Rattle.outbox.proofs.AlikeRows.{order_seen}
 use Rattle.outbox.proofs.alike_row.UniformRow.order.Goals as goal

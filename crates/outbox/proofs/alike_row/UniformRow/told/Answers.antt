@@ -1,4 +1,4 @@
--- One order more.
+-- One more order is appended.
 use Rattle.std.proofs.Common.{ℕ, ◌≡◌, List, Option, [], ◌∷◌, ◌++◌, length, length-append, ap, ◌∙◌, arith}
 use Rattle.outbox.proofs.AlikeRows.{one_more, told_seen}
 use Rattle.outbox.proofs.alike_row.UniformRow.told.Goals as goal

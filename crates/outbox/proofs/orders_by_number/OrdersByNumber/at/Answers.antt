@@ -1,4 +1,4 @@
--- A place with an order, one without, and none.
+-- The number has an order, has none, or is not below 13.
 use Rattle.std.proofs.Common.{◌<◌, ◌≤◌, ◌∙◌, sym, length, arith}
 use Rattle.outbox.proofs.Masking.{at_some, at_none, at_past}
 use Rattle.outbox.proofs.orders_by_number.OrdersByNumber.at.Goals as goal

@@ -1,4 +1,4 @@
--- All rows.
+-- All rows are written.
 use Rattle.std.proofs.Common.{◌≡◌, ◌≤◌, refl, length, arith, rules}
 use Rattle.semantics.specs.Outbox.{as_taken, taken_value}
 use Rattle.outbox.specs.Contents.{entries_of, relay_of}

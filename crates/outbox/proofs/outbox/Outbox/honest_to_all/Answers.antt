@@ -1,4 +1,4 @@
--- One row more, and all rows.
+-- One more row is written, and in the end all rows.
 use Rattle.std.proofs.Common.{ℕ, ◌≡◌, ◌<◌, ◌≤◌, [], refl, ap, ◌∙◌, length, get_or, set, arith}
 use Rattle.semantics.specs.Outbox.{taken_value}
 use Rattle.outbox.specs.Rows.{RowOrders, all_put}

@@ -1,4 +1,4 @@
--- The rows are those of the labels.
+-- The rows are those of the labels that the general relays.
 use Rattle.std.proofs.Common.{map, ap, ◌∙◌}
 use Rattle.semantics.specs.Relay.{oral, relayed}
 use Rattle.outbox.specs.Rows.{receivers_in, orders_in}

@@ -1,4 +1,4 @@
--- The label's row, or none.
+-- There is a row of the label, or no such label.
 use Rattle.std.proofs.Common.{◌<◌, ◌≤◌, [], ap, length, get_or, arith}
 use Rattle.outbox.specs.Contents.{entries_of, relay_of}
 use Rattle.outbox.specs.Orders.{orders_seen}

@@ -1,4 +1,4 @@
--- The label's row, or none.
+-- There is a row of the label, or no such label.
 use Rattle.std.proofs.Common.{List, ◌<◌, ◌≤◌, [], map, refl, sym, ap, subst, ◌∙◌, length, get_or, arith}
 use Rattle.semantics.specs.Outbox.{along_row}
 use Rattle.semantics.specs.Relay.{Relay}

@@ -1,4 +1,4 @@
--- All rows.
+-- All rows are written.
 use Rattle.std.proofs.Common.{refl, length, rules}
 use Rattle.semantics.specs.Outbox.{at_receiver}
 use Rattle.outbox.specs.Contents.{entries_of, relay_of}

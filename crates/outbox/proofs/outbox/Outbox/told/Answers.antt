@@ -1,4 +1,4 @@
--- The label's row, or none.
+-- There is a row of the label, or no such label.
 use Rattle.std.proofs.Common.{◌≡◌, ◌≤◌, [], map, sym, ap, ◌∙◌, length, get_or, arith}
 use Rattle.std.proofs.lemmas.List.{length-map, get_or_past}
 use Rattle.outbox.specs.Contents.{Contents}

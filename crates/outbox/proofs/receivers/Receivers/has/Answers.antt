@@ -1,4 +1,4 @@
--- One below 13, and one that no set has.
+-- A general below 13 may be in the set, and any other is not.
 use Rattle.std.proofs.Common.{ℕ, Bool, List, ◌≡◌, ◌&&◌, false, sym, ap, ◌∙◌}
 use Rattle.std.specs.Prelude.{nat_lt}
 use Rattle.std.proofs.lemmas.Bool.{le-ltb}

@@ -1,4 +1,4 @@
--- One general more.
+-- One more general is considered.
 use Rattle.std.proofs.Common.{◌≡◌, ◌∷◌, ◌++◌, [], List, ℕ, length, length-append, sym, ap, ◌∙◌, arith}
 use Rattle.outbox.specs.Masks.{has_bit}
 use Rattle.outbox.proofs.Members.{all_picked, next_no, next_yes}

@@ -1,4 +1,4 @@
--- The bits are those of the others.
+-- The bits are set for exactly the other generals.
 use Rattle.std.proofs.Common.{ℕ, ◌≡◌, ◌∷◌, [], not, ◌&&◌, List, ap, ◌∙◌, arith}
 use Rattle.std.specs.Prelude.{nat_lt}
 use Rattle.label.specs.Labels.{on}

@@ -1,4 +1,4 @@
--- The order of one receiver, by his number.
+-- The order is stored by the receiver's number.
 use Rattle.std.proofs.Common.{ap, ◌∙◌}
 use Rattle.outbox.specs.Rows.{order_in}
 use Rattle.outbox.proofs.Keeping.{order_kept}

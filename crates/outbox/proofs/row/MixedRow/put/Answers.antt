@@ -1,4 +1,4 @@
--- One order in place of an earlier one.
+-- An order is put in place of an earlier one.
 use Rattle.std.proofs.Common.{◌≡◌, ◌<◌, List, Option, ℕ, sym, ap, ◌∙◌, length, arith}
 use Rattle.label.specs.Labels.{on}
 use Rattle.outbox.specs.Rows.{receivers_in, put_in_row, row_of}

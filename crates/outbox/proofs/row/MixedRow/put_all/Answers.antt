@@ -1,4 +1,4 @@
--- One order for all of them.
+-- One order is put for all receivers.
 use Rattle.std.proofs.Common.{ap, ◌∙◌}
 use Rattle.outbox.specs.Rows.{all_put}
 use Rattle.outbox.proofs.Throughout.{put_to_all, row_to_all}

@@ -1,4 +1,4 @@
--- One row of those that are set apart.
+-- One of the mixed rows is written.
 use Rattle.std.proofs.Common.{◌≡◌, ap, ◌∙◌, length, min, arith, length-set}
 use Rattle.outbox.specs.Rows.{filled}
 use Rattle.outbox.proofs.AlikeRows.{apart_all, one_apart, one_at}

@@ -1,4 +1,4 @@
--- The same rows, each at its rank.
+-- The rows of each rank have the same orders.
 use Rattle.std.proofs.Common.{◌∙◌, [], List, Option, ℕ, get_or, arith, sym, ap, refl, below_more}
 use Rattle.std.proofs.lemmas.Bool.{false≢true}
 use Rattle.outbox.specs.Rows.{orders_in}

@@ -1,4 +1,4 @@
--- One row of those that are set apart.
+-- One of the mixed rows is written.
 use Rattle.std.proofs.Common.{◌≡◌, ap, ◌∙◌, length, arith, length-set}
 use Rattle.label.specs.Labels.{on}
 use Rattle.outbox.specs.Rows.{receivers_in, put_in_row}

@@ -1,4 +1,4 @@
--- All rows, which are set apart.
+-- All rows are written, as mixed rows.
 use Rattle.std.proofs.Common.{◌≡◌, List, sym, ap, ◌∙◌, length, arith}
 use Rattle.outbox.specs.Rows.{RowOrders, put_first, found_first, rows_seen}
 use Rattle.outbox.proofs.AlikeRows.{apart_all, seen_all}

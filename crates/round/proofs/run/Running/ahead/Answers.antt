@@ -1,4 +1,4 @@
--- As far as the limit and the patience reach.
+-- The run goes as far as the limit and the patience allow.
 use Rattle.std.proofs.Common.{◌≡◌, ◌∙◌, ap, sym}
 use Rattle.std.specs.Arc.{arc_value}
 use Rattle.machine.specs.Standing.{Standing}

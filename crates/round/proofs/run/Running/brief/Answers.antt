@@ -1,4 +1,4 @@
--- At its start it stands in a run whatever it is told.
+-- At its start an activation is in a run with any context.
 use Rattle.std.proofs.Common.{◌≡◌, ◌∙◌, ℕ, Ok, List, ap, sym, subst, arith, length}
 use Rattle.semantics.specs.Relay.{IsContext}
 use Rattle.round.specs.Activation.{started}

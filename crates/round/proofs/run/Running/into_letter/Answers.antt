@@ -1,4 +1,4 @@
--- What is left is a letter.
+-- The contents of the activation are those of a letter.
 use Rattle.std.proofs.Common.{◌∙◌, ap, sym, subst}
 use Rattle.round.specs.Activation.{Activation}
 use Rattle.machine.specs.Standing.{Standing}

@@ -1,4 +1,4 @@
--- It is within its limits.
+-- The scenario's numbers are within their limits.
 use Rattle.std.proofs.Common.{◌∙◌, ap, List, Option}
 use Rattle.std.specs.Prelude.{slice_get}
 use Rattle.insn.specs.declared.insn.Insn.{Insn}

@@ -1,4 +1,4 @@
--- After all rounds that were told.
+-- The context after all rounds that were delivered.
 use Rattle.std.proofs.Common.{ap}
 use Rattle.round.specs.Told.{ToldSeen}
 use Rattle.round.proofs.Values.{all_told, all_words}

@@ -1,4 +1,4 @@
--- All trees along one walk.
+-- All trees are filled in one walk of the labels.
 use Rattle.std.proofs.Common.{◌+◌, ◌++◌, ◌∷◌, [], ◌∙◌, ℕ, List, suc, arith, sym, ap, subst}
 use Rattle.std.proofs.lemmas.List.{with_items_is}
 use Rattle.tree.specs.LieutenantTree.{LieutenantTree}

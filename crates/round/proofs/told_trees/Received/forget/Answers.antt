@@ -1,4 +1,4 @@
--- Tree by tree.
+-- One more tree is cleared.
 use Rattle.std.proofs.Common.{◌≡◌, ◌-◌, ◌++◌, ◌∷◌, [], ℕ, suc, length, arith, sym, subst}
 use Rattle.label.specs.Oral.{Messages}
 use Rattle.tree.specs.LieutenantTree.{IsFilled, blank}

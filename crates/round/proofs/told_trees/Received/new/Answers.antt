@@ -1,4 +1,4 @@
--- A tree for each lieutenant.
+-- One more lieutenant gets a tree.
 use Rattle.std.proofs.Common.{◌≡◌, ◌<◌, ◌+◌, ◌∙◌, ℕ, List, arith, sym, ap, subst, refl}
 use Rattle.tree.specs.LieutenantTree.{LieutenantTree}
 use Rattle.round.specs.Told.{lieutenant_at}

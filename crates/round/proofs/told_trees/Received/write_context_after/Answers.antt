@@ -1,4 +1,4 @@
--- A lieutenant's values are a level of his tree.
+-- The orders that a lieutenant took are a level of his tree.
 use Rattle.std.proofs.Common.{◌≡◌, ◌≤◌, ℕ, List, Ok, length, take, ap, ◌∙◌, arith, sym, subst, inl, inr}
 use Rattle.round.specs.Letters.{Letter}
 use Rattle.round.specs.Contexts.{context_of, AreWords}

@@ -1,4 +1,4 @@
--- What is kept of a signed world.
+-- What the type of a signed world guarantees.
 use Rattle.signed.proofs.Worlds.{signed_campaigns}
 use Rattle.signed.proofs.plays.SignedWorldPlayableWorld.campaign.Goals as goal
 

@@ -1,4 +1,4 @@
--- Silent turns are ticks.
+-- Turns without an access are ticks.
 use Rattle.std.proofs.Common.{refl, sym, ap, ◌∙◌}
 use Rattle.std.specs.Prelude.{slice_get, replicate}
 use Rattle.world.specs.declared.event.Event.TheVariants.{Tick}

@@ -1,4 +1,4 @@
--- Where nothing is left to come.
+-- The world is finished exactly if there is a chronicle.
 use Rattle.std.proofs.Common.{◌≡◌, length, refl, ◌∙◌, arith}
 use Rattle.signed.proofs.Closed.{is_finished}
 use Rattle.signed.proofs.signed_world.SignedWorld.chronicle.Goals as goal

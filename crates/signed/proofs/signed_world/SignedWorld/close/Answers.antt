@@ -1,4 +1,4 @@
--- The close is the event.
+-- The code's close is the event.
 use Rattle.std.proofs.Common.{◌≡◌, ◌≤◌, ◌∷◌, ◌++◌, [], List, suc, length, drop, ap, sym, subst, ◌∙◌, arith}
 use Rattle.std.specs.Prelude.{◌&&◌}
 use Rattle.std.specs.List.{list_all}
@@ -50,7 +50,7 @@ letters-letters-requires-clause-runs c =
     drafts_of s.scenario s.closed.items s.board s.opened s.parts.items s.full s.sent.items s.signers.items c.self.invariant c.in_ok-drafts.drafts.items drafted c.round-round.result c.recall.ensures
     (c.round-round.ensures ∙ ap (λ (w : World). suc (length w.closed)) (sym c.self.view_is))
 
--- what the drafts were made of
+-- From what the drafts were made.
 drafted : (c : goal.After-drop-self-inside) → c.in_ok-drafts.drafts.items ≡ drafts_behind c.self.inside.scenario c.self.inside.sent.items (drop c.self.inside.opened c.self.inside.board.ledger) c.self.inside.parts.items
 drafted c =
     let s = c.self.inside in

@@ -1,4 +1,4 @@
--- Lieutenant by lieutenant.
+-- One more lieutenant decides.
 use Rattle.std.proofs.Common.{◌≡◌, ◌≢◌, ◌<◌, ◌≤◌, length, sym, ap, subst, ◌∙◌, arith, lit<}
 use Rattle.round.specs.Scenario.{IsScenario}
 use Rattle.world.specs.Kind.{World}

@@ -1,4 +1,4 @@
--- By the chains that were sent.
+-- The chains held follow from the chains sent.
 use Rattle.std.proofs.Common.{◌≡◌, subst, ◌∙◌}
 use Rattle.std.specs.Prelude.{IfOk}
 use Rattle.std.proofs.lemmas.Result.{IfOk-weaker}

@@ -1,4 +1,4 @@
--- A post is the event.
+-- The code's post is the event.
 use Rattle.signed.proofs.Closed.{posted_kept}
 use Rattle.signed.proofs.signed_world.SignedWorld.post.Goals as goal
 

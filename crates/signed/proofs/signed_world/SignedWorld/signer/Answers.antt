@@ -1,4 +1,4 @@
--- Each general's signer is at his number.
+-- Each general's signer is at the index that is his number.
 use Rattle.std.proofs.Common.{◌<◌, sym, ap, subst, ◌∙◌, arith}
 use Rattle.world.specs.Kind.{World}
 use Rattle.signed.specs.Signers.{Signature}

@@ -1,4 +1,4 @@
--- A tick is the event.
+-- The code's tick is the event.
 use Rattle.std.proofs.Common.{suc, length, ap, ◌∙◌, sym}
 use Rattle.world.specs.Kind.{World}
 use Rattle.signed.specs.Kind.{signed_kind}

@@ -1,4 +1,5 @@
--- Just the accesses that were served to him, each behind the gate, are entered, and stand among those that he has met.
+-- Exactly the accesses that were served to the general are entered. Each has passed the gate, and all are among those
+-- of the history that he has seen.
 use Rattle.std.proofs.Common.{[], ◌==◌, ◌++◌, List, sym, subst}
 use Rattle.std.specs.Prelude.{count_by}
 use Rattle.board.specs.Board.{Access}

@@ -1,4 +1,4 @@
--- What was served for the task is what the letter tells.
+-- The accesses that were served for the task are those in the letter.
 use Rattle.std.proofs.Common.{◌≡◌, [], ◌++◌, List, sym, ap, ◌∙◌, subst}
 use Rattle.std.proofs.lemmas.List.{append_cancel_left}
 use Rattle.board.specs.Board.{Access}

@@ -1,4 +1,4 @@
--- What is kept of a world.
+-- What the type of a world guarantees.
 use Rattle.std.proofs.Common.{subst}
 use Rattle.world.specs.World.{oral_kind, World}
 use Rattle.world.specs.KindHeld.{IsReached}

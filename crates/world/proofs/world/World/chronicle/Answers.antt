@@ -1,4 +1,4 @@
--- Where nothing is left to come.
+-- The world is finished exactly if there is a chronicle.
 use Rattle.std.proofs.Common.{◌≡◌, length, refl, ◌∙◌, arith}
 use Rattle.world.proofs.Outcomes.{is_done}
 use Rattle.world.proofs.world.World.chronicle.Goals as goal

@@ -1,4 +1,4 @@
--- Tree by tree.
+-- One more tree is resolved.
 use Rattle.std.proofs.Common.{◌≡◌, ◌∷◌, [], ℕ, ap, lit<}
 use Rattle.round.specs.Letters.{messages}
 use Rattle.round.specs.Told.{lieutenant_at}

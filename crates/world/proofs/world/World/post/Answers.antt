@@ -1,4 +1,4 @@
--- A post is the event.
+-- The code's post is the event.
 use Rattle.world.proofs.Holding.{post_held}
 use Rattle.world.specs.World.{oral_kind}
 use Rattle.world.proofs.world.World.post.Goals as goal

@@ -1,4 +1,4 @@
--- A tick is the event.
+-- The code's tick is the event.
 use Rattle.std.proofs.Common.{suc, length, ap, ◌∙◌, sym}
 use Rattle.world.specs.World.{oral_kind, World}
 use Rattle.world.proofs.Holding.{tick_held, tick_done}

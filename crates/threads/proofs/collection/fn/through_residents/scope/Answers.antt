@@ -1,4 +1,4 @@
--- Poster and witness of the highest general who has no thread yet, and those of the others.
+-- The poster and the witness for the highest general who has no thread yet, and those for the lower generals.
 use Rattle.std.proofs.Common.{rules, ◌≡◌, [], ◌∷◌, length, length-append, ap, sym, ◌∙◌, arith}
 use Rattle.threads.specs.Seen.{PosterSeen, poster_seen}
 use Rattle.shared_board.specs.Witnessed.{Witnessed}
