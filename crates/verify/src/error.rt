@@ -46,6 +46,6 @@ impl From<AllocError> for VerifyError {
 pub struct Refused {
     /// The program that was rejected.
     pub program: Program,
-    /// The error for which it was rejected.
+    /// Why the program was not accepted.
     pub fault: VerifyError,
 }
