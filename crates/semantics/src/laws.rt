@@ -26,14 +26,14 @@ pub fn reached_is_run()
     ensures { ReachedIsRun }
 {}
 
-/// States that a program is sound exactly if its entry state is safe. A state is safe if no trap can follow from it,
-/// and the exit or a request follows in time.
+/// States that a program is sound exactly if its entry state is safe: from there it never traps, and it exits within as
+/// many steps as it has instructions, whatever the board answers.
 pub fn sound_is_safe_at_entry()
     ensures { SoundIsSafeAtEntry }
 {}
 
-/// States that every state that a sound program reaches is safe, so that no trap can follow, and has taken fewer steps
-/// than the program has instructions.
+/// States that every state that a sound program reaches is safe: from there it never traps, and it exits within the
+/// remaining steps. The state has taken fewer steps than the program has instructions.
 pub fn reached_is_safe()
     ensures { ReachedIsSafe }
 {}
