@@ -21,7 +21,7 @@ use Rattle.insn.specs.declared.insn.Size.TheVariants as size
 use Rattle.insn.specs.Insn.{part_bytes}
 use Rattle.codec.specs.declared.fields.Fields.{Fields}
 
--- Returns the fields of one unit, as unsigned numbers (section 3.1).
+-- Returns a unit with these fields, as unsigned numbers (section 3.1).
 abbrev pub fields : ℕ → ℕ → ℕ → ℕ → ℕ → Fields
 fields opcode dst src offset imm = record { opcode = opcode; dst = dst; src = src; offset = offset; imm = imm }
 
@@ -55,7 +55,7 @@ operation_code op.Xor = 0xa0
 operation_code op.Move = 0xb0
 operation_code op.ArithmeticShiftRight = 0xc0
 
--- Returns the offset of an operation: 1 for signed division and modulo, else 0 (section 4.1).
+-- Returns the offset of an operation: 1 for signed division and remainder, and otherwise 0 (section 4.1).
 abbrev pub operation_offset : Operation → ℕ
 operation_offset op.SignedDiv = 1
 operation_offset op.SignedMod = 1
@@ -128,7 +128,7 @@ spelling (Store bytes base offset (Register src)) =
 spelling (Call helper) = fields 0x85 0 0 0 (cast_unsigned w32 helper) ∷ []
 spelling Exit = fields 0x95 0 0 0 0 ∷ []
 
--- Returns a pair of a unit and an optional second one, as a list.
+-- Returns a list of one or two units.
 abbrev pub units_list : Fields × Option Fields → List Fields
 units_list (first, None) = first ∷ []
 units_list (first, Some second) = first ∷ second ∷ []

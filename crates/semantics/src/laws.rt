@@ -9,8 +9,8 @@ pub fn steps_are_counted()
 {}
 
 /// States that every state of a run has eleven registers, 512 stack cells, and r10 at the end of the stack. If the
-/// instructions are well-formed and context, labels and board are those of a campaign, every number in a state has at
-/// most 64 bits, and every byte at most 8.
+/// instructions are well-formed and the run is one of a campaign, every number in a state has at most 64 bits, and
+/// every byte at most 8.
 pub fn states_stay_whole()
     ensures { StatesStayWhole }
 {}

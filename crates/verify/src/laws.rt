@@ -15,7 +15,7 @@ pub fn plain_is_accepted()
 {}
 
 /// States that an accepted program is sound: it never traps, and it exits or waits within as many steps as it has
-/// instructions. This holds in any context, for all relayed labels, and for all answers of the board.
+/// instructions. This holds in any context, for any general and round, and for all answers of the board.
 pub fn accepted_is_sound()
     ensures { AcceptedIsSound }
 {}
