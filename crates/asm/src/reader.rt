@@ -17,7 +17,7 @@ use std::collections::BTreeMap;
 /// The greatest number of units of a program. Further instructions are counted, but not stored.
 pub const MOST_UNITS: u64 = Program::MOST_UNITS as u64;
 
-/// What the lines of a text have contained so far.
+/// What the assembler has read of a text so far.
 #[derive(Drop)]
 pub struct Reading<'a> {
     /// For each name, the unit that follows it.

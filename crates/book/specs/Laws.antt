@@ -7,7 +7,7 @@ use Rattle.book.specs.declared.message.Message.{Message}
 use Rattle.book.specs.Table.{MessageTable, AreNumbersWithin, is_about}
 use Rattle.book.specs.Grammar.{table_told}
 
--- States that a message is one of a campaign: its label is a label of the campaign with at most `m + 1` generals, its
+-- States that a message is one of a campaign. Its label is a label of the campaign with at most `m + 1` generals, its
 -- receiver is a general who is not on the label, and its order has at most 32 bits.
 pub record IsMessage (n m c : ℕ) (message : Message) : Type 0 where
   pub label : IsLabel n c message.label

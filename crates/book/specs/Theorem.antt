@@ -7,8 +7,8 @@ use Rattle.book.specs.Decisions.{decision_of}
 use Rattle.book.specs.Explained.{decided, list_of}
 use Rattle.book.specs.Table.{MessageTable}
 
--- States the agreement theorem. It assumes that the rule returns the order of a majority, that the number of generals
--- is more than three times the bound, that at most `m` of them are traitors, and that each loyal general sends on the
+-- States the agreement theorem. It assumes that the rule returns the order of a majority, and that the number of
+-- generals is more than three times the bound. At most `m` of them are traitors, and each loyal general sends on the
 -- order that he took. Then the loyal lieutenants decide alike and, if the commander is loyal, on his order, whatever
 -- the traitors send.
 abbrev pub AgreementHolds : Type 0

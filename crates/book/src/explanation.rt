@@ -202,7 +202,7 @@ fn few_words(is_so: bool) -> &'static str
     if is_so { "at most " } else { "more than " }
 }
 
-/// Returns the line of IC1: whether the loyal lieutenants decide alike.
+/// Returns the line that says whether IC1 holds: whether the loyal lieutenants decide alike.
 fn alike_line(alike: bool) -> &'static str
     ensures { result.now ≡ alike_line alike }
 {
@@ -213,7 +213,7 @@ fn alike_line(alike: bool) -> &'static str
     }
 }
 
-/// Returns the line of IC2: whether the loyal lieutenants obey the commander.
+/// Returns the line that says whether IC2 holds: whether the loyal lieutenants obey the commander.
 fn obedience_line(alloc: Global, obedience: Obedience) -> Result<String, AllocError>
     ensures { IfOk result (λ text. string_bytes text ≡ obedience_line obedience) }
 {

@@ -43,7 +43,8 @@ run_text first end held = cells_text (pos first -ℤ pos 512) (pos end -ℤ pos 
 abbrev pub sourced_text : ℕ → ℕ → Holding → List ℕ
 sourced_text first end held = run_text first end held.0 ++ from_text held.1
 
--- Writes the same and a comma, as more cells follow.
+-- Writes the stack cells from number `first` up to and excluding `end`, what they hold, which units set them, and a
+-- comma.
 abbrev pub ended_text : ℕ → ℕ → Holding → List ℕ
 ended_text first end held = sourced_text first end held ++ codes ", "
 

@@ -9,8 +9,8 @@ use absmem::AbsStack;
 use absval::{AbsVal, Window, window_of};
 use semantics::Region;
 
-/// Returns the reason that an access may touch bytes outside its region, or `None` if `value` is not a pointer. `value`
-/// is what is known of the base register.
+/// Returns the sentence that says that an access may touch bytes outside its region, or `None` if `value` is not a
+/// pointer. `value` is what is known of the base register.
 pub(crate) fn outside(reach: Reach, value: AbsVal) -> Option<Sentence>
     requires { reach.size ≤ 512 }
     ensures { result ≡ outside reach value }
@@ -48,8 +48,9 @@ fn empty_in(stack: &AbsStack, window: Option<Window>) -> Option<usize>
     first_empty(stack, place, size)
 }
 
-/// Returns the reason that an access reads a stack cell that may hold no byte. Returns `None` if `value`, which is what
-/// is known of the base register, is not a pointer into the stack, or if all cells that may be read hold bytes.
+/// Returns the sentence that says that an access reads a stack cell that may hold no byte. Returns `None` if `value`,
+/// which is what is known of the base register, is not a pointer into the stack, or if all cells that may be read hold
+/// bytes.
 pub(crate) fn empty_cell(stack: &AbsStack, reach: Reach, value: AbsVal) -> Option<Sentence>
     requires { reach.size ≤ 512 }
     ensures { result ≡ empty_cell stack.now reach value }
@@ -66,8 +67,8 @@ pub(crate) fn empty_cell(stack: &AbsStack, reach: Reach, value: AbsVal) -> Optio
     Some(Sentence::Memory(AccessMisuse::Empty(reach.base, span, cell as u16)))
 }
 
-/// Returns the reason that an access stores to the context, which is read-only. `value` is what is known of the base
-/// register.
+/// Returns the sentence that says that an access stores to the context, which is read-only. `value` is what is known of
+/// the base register.
 pub(crate) fn context_written(reach: Reach, value: AbsVal) -> Option<Sentence>
     ensures { result ≡ context_written reach value }
 {

@@ -320,8 +320,8 @@ fn put_about(
     put_help(alloc, out, program, unit, choice)
 }
 
-/// Appends a line with the rejected instruction and why it is rejected, and then the notes and the help. Appends
-/// nothing if there is no sentence.
+/// Appends a line with the rejected instruction and why it is rejected, then notes on where the values at fault came
+/// from, and an edit that helps, if one is found. Appends nothing if there is no sentence.
 fn put_told(
     alloc: Global,
     out: &mut String,

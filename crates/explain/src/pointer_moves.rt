@@ -64,8 +64,8 @@ fn moved(down: bool, offsets: Offsets, least: i64, greatest: i64) -> NumberSpan
     }
 }
 
-/// Returns the reason that a pointer cannot be moved by a number that may be above or below 0. Returns `None` if the
-/// number is not in a register.
+/// Returns the sentence that says that a pointer cannot be moved by a number that may be above or below 0. Returns
+/// `None` if the number is not in a register.
 fn either_sign(register: Option<Reg>, numbers: NumberSet) -> Option<Sentence>
     ensures { result ≡ either_sign register numbers }
 {
@@ -82,8 +82,8 @@ struct Start {
     offsets: Offsets,
 }
 
-/// Returns the reason that a pointer cannot be moved by a number: the number may be above or below 0, or the pointer
-/// would point too far.
+/// Returns the sentence that says that a pointer cannot be moved by a number: the number may be above or below 0, or
+/// the pointer would point too far.
 fn far(pointer: Start, operand: Operand, numbers: NumberSet) -> Option<Sentence>
     ensures { result ≡ far pointer.down pointer.dst pointer.region pointer.offsets operand numbers
         (in_a_row numbers.range) }
@@ -95,8 +95,8 @@ fn far(pointer: Start, operand: Operand, numbers: NumberSet) -> Option<Sentence>
     Some(Sentence::Register(RegisterMisuse::Far(pointer.dst, pointer.region, span)))
 }
 
-/// Returns the reason that a sum or difference of a pointer and a number is rejected. Returns `None` if the operation
-/// is not one, or its operands are not a pointer and then a number.
+/// Returns the sentence that says that a sum or difference of a pointer and a number is rejected. Returns `None` if the
+/// operation is not one, or its operands are not a pointer and then a number.
 pub(crate) fn sum_misuse(
     how: (Width, Operation),
     dst: Reg,

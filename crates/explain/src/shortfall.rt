@@ -11,8 +11,8 @@ use helper::reads::{numbered, read_by};
 use insn::Insn;
 use verify::{AbsState, Reason};
 
-/// Returns the reason that an instruction accesses bytes outside a region, or `None` if it makes no access by a
-/// pointer.
+/// Returns the sentence that says that an instruction accesses bytes outside a region, or `None` if it makes no access
+/// by a pointer.
 fn outside_of(insn: &Insn, state: &AbsState) -> Option<Sentence>
     ensures { result ≡ reached outside insn.now state.now.registers }
 {
@@ -20,7 +20,8 @@ fn outside_of(insn: &Insn, state: &AbsState) -> Option<Sentence>
     outside(reach, state.known(reach.base))
 }
 
-/// Returns the reason that an instruction reads a stack cell that may hold no byte, or `None` if it does not.
+/// Returns the sentence that says that an instruction reads a stack cell that may hold no byte, or `None` if it does
+/// not.
 fn empty_of(insn: &Insn, state: &AbsState) -> Option<Sentence>
     ensures { result ≡ reached (empty_cell state.now.stack) insn.now state.now.registers }
 {
@@ -28,7 +29,7 @@ fn empty_of(insn: &Insn, state: &AbsState) -> Option<Sentence>
     empty_cell(&state.stack, reach, state.known(reach.base))
 }
 
-/// Returns the reason that an instruction stores to the context, or `None` if it makes no access.
+/// Returns the sentence that says that an instruction stores to the context, or `None` if it makes no access.
 fn written_of(insn: &Insn, state: &AbsState) -> Option<Sentence>
     ensures { result ≡ reached context_written insn.now state.now.registers }
 {

@@ -25,8 +25,8 @@ abbrev pub is_symbol_whole : List ℕ → List ℕ → Symbol → Bool
 is_symbol_whole table strings symbol =
     nat_lt symbol.name (length strings) && nat_le (symbol.value + symbol.size) (section_at symbol.section table).size
 
--- Returns the damage of the symbol with this index, if it is a function whose name or code is not within its table or
--- section.
+-- Returns the damage of the symbol with this index, if it is a function whose name is not within the string table, or
+-- whose code is not within its section.
 abbrev pub symbol_damage : List ℕ → List ℕ → List ℕ → ℕ → Option Damage
 symbol_damage table symbols strings index =
     if is_function table (symbol_at index symbols) && not (is_symbol_whole table strings (symbol_at index symbols))

@@ -83,7 +83,7 @@ abbrev pub HasRows : Header → List ℕ → Origins → List LineRow → Type 0
 HasRows header bytes origins rows =
     (m : Machine) × Comes header bytes origins m × (length bytes ≡ m.place) × (m.rows ≡ rows)
 
--- States that the machine comes to an instruction that is not complete, before the end of the bytes.
+-- States that the machine reaches an instruction that is not complete, before the end of the bytes.
 abbrev pub BreaksOff : Header → List ℕ → Origins → Type 0
 BreaksOff header bytes origins =
     (m : Machine) × Comes header bytes origins m × (m.place < length bytes) × (step_at header m.place bytes ≡ None)

@@ -45,7 +45,8 @@ fn widened(byte: u8) -> u64
     }
 }
 
-/// Reads a header of this version. `fields` is the byte index of its field minimum_instruction_length.
+/// Reads the header of a line number program, in this version of DWARF. `fields` is the byte index of its field
+/// minimum_instruction_length.
 fn header_from(bytes: &[u8], version: u16, fields: usize) -> Header
     requires low { 10 ≤ fields }
     requires high { fields ≤ 12 }

@@ -23,7 +23,7 @@ pub enum Step {
     Start(usize),
     /// Appends a row that ends the sequence, and resets the registers.
     End,
-    /// Changes none of these registers.
+    /// Changes neither the address, the file nor the line.
     Other,
 }
 

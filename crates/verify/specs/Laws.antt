@@ -36,8 +36,8 @@ abbrev pub AcceptedIsSound : Type 0
 AcceptedIsSound = (program : List Insn) → AllByRecursion IsInsn program → 0 < length (slots_of program) →
     judged program ≡ None → IsSound program
 
--- States for each such program without a fault: what is known at a unit describes every state of every run at that
--- unit.
+-- States that if `judged` finds no fault in a program of well-formed instructions, with at least one unit, what is
+-- known at each unit describes every state of every run at that unit.
 abbrev pub StatesAreAsKnown : Type 0
 StatesAreAsKnown = (program : List Insn) → AllByRecursion IsInsn program → 0 < length (slots_of program) →
     judged program ≡ None → (context : List ℕ) (relay : Relay) (answers : List (List ℕ)) (s : State) →
