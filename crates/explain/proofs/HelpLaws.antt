@@ -59,7 +59,7 @@ of_trial program place unit edit trial e good =
 
 -- ---- the best of two
 
--- If there is a help, it gets past the fault.
+-- If there is a help, its edit gets the verifier past the fault.
 abbrev Helps : List Insn → ℕ → ℕ → Option Help → Type 0
 Helps program place unit None = Unit {0}
 Helps program place unit (Some help) = Mends program place unit help.0 help.1
