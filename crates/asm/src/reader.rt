@@ -24,7 +24,7 @@ pub struct Reading<'a> {
     pub names: BTreeMap<&'a [u8], u64>,
     /// The number of units that all instructions take.
     pub units: u64,
-    /// The instructions with their lines, up to the one with which the units exceed 4,096.
+    /// The instructions with their lines, up to but not including the one with which the units exceed 4,096.
     pub sources: Vec<Kept<'a>>,
     /// The number of lines, set after the last one is read.
     pub lines: u64,

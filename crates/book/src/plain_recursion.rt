@@ -15,7 +15,7 @@ use label::Label;
 /// Returns the decision of a lieutenant. It is computed from the messages of the table by the recursion of OM(m)
 /// (TOPLAS 1982), with the table's rule. Each order is searched for in the list of messages, which is slow.
 ///
-/// [`crate::decision`] computes the same from the lieutenant's tree.
+/// `decision` computes the same from the lieutenant's tree.
 #[tactic(auto, unfolding(crate::specs::Decisions::decision_of))]
 pub fn plain_decision(table: &Table, general: u8) -> u32
     requires general { general < table.now.generals }

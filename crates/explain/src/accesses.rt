@@ -68,7 +68,7 @@ pub(crate) fn empty_cell(stack: &AbsStack, reach: Reach, value: AbsVal) -> Optio
 }
 
 /// Returns the sentence that says that an access stores to the context, which is read-only. `value` is what is known of
-/// the base register.
+/// the base register. The result is never `None`.
 pub(crate) fn context_written(reach: Reach, value: AbsVal) -> Option<Sentence>
     ensures { result ≡ context_written reach value }
 {

@@ -120,7 +120,7 @@ fn last_copy(program: &Program, marks: &[UnitMark], r: Reg, unit: usize) -> Opti
 
 /// Chooses edits for a sum or difference of a pointer and the number in `r`, which may have either sign. If `copy` is a
 /// register with a copy of the number, the edits are to use it or to mask the number. Otherwise the edit is to mask the
-/// number. Returns the unit and the choice.
+/// number. Returns the unit and the choice, never `None`.
 fn by_copy(unit: usize, insn: &Insn, r: Reg, copy: Option<Reg>) -> Option<(usize, Choice)>
     ensures wanted { result ≡ by_copy unit insn.now r copy }
     ensures below { IfSome result (λ want. want.0 ≤ unit) }

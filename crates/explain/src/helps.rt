@@ -47,7 +47,8 @@ fn accepted_or(edit: Edit, rest: Option<Help>) -> Option<Help>
 }
 
 /// Returns the better of `edit`, which had this trial, and the later edit in `rest`. One with which the program is
-/// accepted is better than one with which the verifier only gets past the fault. Of equals the first is better.
+/// accepted is better than one with which the verifier only gets past the fault. Of equals the first is better. Returns
+/// `None` if the verifier gets past the fault with neither.
 fn better(edit: Edit, trial: Trial, rest: Option<Help>) -> Option<Help>
     ensures { result ≡ better edit trial rest }
 {

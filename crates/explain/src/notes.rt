@@ -34,7 +34,7 @@ fn of_misuse(misuse: RegisterMisuse) -> Option<Subject>
     }
 }
 
-/// Returns the register or stack cell that a misuse of memory is about.
+/// Returns the register or stack cell that a misuse of memory is about. The result is never `None`.
 fn of_access(access: AccessMisuse) -> Option<Subject>
     ensures { result ≡ of_access access }
 {

@@ -83,7 +83,7 @@ struct Start {
 }
 
 /// Returns the sentence that says that a pointer cannot be moved by a number: the number may be above or below 0, or
-/// the pointer would point too far.
+/// the pointer would point too far. Returns `None` if the number may be above or below 0 and is not in a register.
 fn far(pointer: Start, operand: Operand, numbers: NumberSet) -> Option<Sentence>
     ensures { result ≡ far pointer.down pointer.dst pointer.region pointer.offsets operand numbers
         (in_a_row numbers.range) }

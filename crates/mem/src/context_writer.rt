@@ -9,9 +9,9 @@ use byteorder::{ByteOrder, LittleEndian};
 use label::Shape;
 use std::alloc::{AllocError, Global};
 
-/// Replaces `bytes` by the context of a general in one round of a campaign with this bound. `shape` has the numbers of
-/// the general and the round. `values` are the orders that he took for the labels that he relays, in the order of their
-/// ranks.
+/// Replaces `bytes` by the context of a general in one round of a campaign with this bound. `shape` has the general,
+/// the round and the other numbers of the campaign. `values` are the orders that he took for the labels that he relays,
+/// in the order of their ranks.
 ///
 /// The vector must have room for 4,096 bytes, so that nothing is allocated. A general relays at most 990 labels, with
 /// 13 generals in round 5 (11 * 10 * 9), and there is room for 1,016 orders.

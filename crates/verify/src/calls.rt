@@ -58,7 +58,8 @@ fn check_taken(argument: Option<Argument>, value: AbsVal) -> Result<(), Reason>
     }
 }
 
-/// Checks the arguments of a call in r1, r2 and r3, in this order. An argument that is `None` is not checked.
+/// Checks the arguments of a call in r1, r2 and r3, in this order. An argument that is `None` is not checked. Fails
+/// with `Unset` or `Argument`.
 fn check_arguments(
     registers: &[AbsVal; 11],
     first: Option<Argument>,
@@ -122,7 +123,8 @@ fn write_words(stack: &mut AbsStack, offsets: Offsets, counts: NumberSet) -> Res
 }
 
 /// Checks `board_copy`, which copies words of the board to the stack, and records what it writes. `slots` is what is
-/// known of the first word's slot, `target` of the pointer, and `counts` of the number of words.
+/// known of the first word's slot, `target` of the pointer, and `counts` of the number of words. Fails with `Argument`,
+/// `ContextWrite` or `Bounds`.
 fn copy(stack: &mut AbsStack, slots: AbsVal, target: AbsVal, counts: AbsVal) -> Result<(), Reason>
     requires slots { IsBelow board_words slots }
     requires target { IsPointer target }
@@ -142,7 +144,7 @@ fn copy(stack: &mut AbsStack, slots: AbsVal, target: AbsVal, counts: AbsVal) -> 
 }
 
 /// Checks that `send_row` can read orders of 4 bytes each at the pointer `source`. `counts` is what is known of the
-/// number of orders.
+/// number of orders. Fails with `Bounds` or `StackUnset`.
 fn check_row(stack: &AbsStack, source: AbsVal, counts: AbsVal) -> Result<(), Reason>
     requires source { IsPointer source }
     requires counts { IsBelow (most_generals + 1) counts }
@@ -157,7 +159,7 @@ fn check_row(stack: &AbsStack, source: AbsVal, counts: AbsVal) -> Result<(), Rea
 }
 
 /// Checks the memory that a call reads or writes at its pointer, and records what it writes. Most helpers access no
-/// memory.
+/// memory. Fails with the reason for which the memory is rejected.
 fn pass_window(state: &mut AbsState, helper: Helper) -> Result<(), Reason>
     requires { arguments_reason (arguments_of helper) 1 state.old.registers ≡ None }
     ensures { outcome result state.new ≡ unless (window_reason helper state.old) (record state.old {

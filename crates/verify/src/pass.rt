@@ -24,7 +24,8 @@ use insn::{Insn, Program};
 use std::alloc::{AllocError, Global};
 
 /// Checks an instruction that always continues with the next one, and returns what is known at the next unit. The
-/// result of a wide instruction, which has two units, is kept in `pending` for the unit after both.
+/// result of a wide instruction, which has two units, is kept in `pending` for the unit after both. Fails with the
+/// instruction's fault.
 fn pass_straight(
     unit: usize,
     insn: &Insn,
@@ -70,7 +71,7 @@ fn pass_edge(unit: usize, followed: bool, state: Box<AbsState>, pending: &mut Pe
 }
 
 /// Checks a conditional jump, and records in `pending` the narrowed states with which it may lead to its target and to
-/// the next unit.
+/// the next unit. Fails with `Unset` or `PointerUse` at the unit, or with `Memory`.
 fn pass_branch(
     alloc: Global,
     unit: usize,
@@ -173,7 +174,7 @@ fn pass_state(
 
 /// Checks the instruction at `unit`, writes its ready code (the form for the machine), and returns what is known at the
 /// next unit. `hand` is what is known at this one. If it is `None`, no path leads here, and nothing is checked. The
-/// second unit of a wide instruction is not checked either.
+/// second unit of a wide instruction is not checked either. Fails with the instruction's fault, or with `Memory`.
 #[inline(always)]
 fn pass_unit(
     alloc: Global,

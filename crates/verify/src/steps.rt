@@ -75,7 +75,8 @@ fn put_made(
     Ok(())
 }
 
-/// Checks an operation on register `dst` and an operand, and replaces what is known of `dst` by its result.
+/// Checks an operation, which may be a move, on register `dst` and an operand, and replaces what is known of `dst` by
+/// its result. Fails with `Unset`, `FrameWrite` or `PointerUse`.
 fn arithmetic(
     state: &mut AbsState,
     width: Width,
@@ -91,7 +92,8 @@ fn arithmetic(
     combine(state, width, operation, dst, operand)
 }
 
-/// Checks a move of an operand to register `dst`, and replaces what is known of `dst`.
+/// Checks a move of an operand to register `dst`, and replaces what is known of `dst`. Fails with `Unset`, `FrameWrite`
+/// or `PointerUse`.
 fn move_operand(
     state: &mut AbsState,
     width: Width,
@@ -109,7 +111,8 @@ fn move_operand(
     }
 }
 
-/// Checks a move of `value` to register `dst`, and replaces what is known of `dst`.
+/// Checks a move of `value` to register `dst`, and replaces what is known of `dst`. Fails with `Unset`, `FrameWrite` or
+/// `PointerUse`.
 #[inline(always)]
 fn move_value(state: &mut AbsState, width: Width, dst: Reg, value: AbsVal) -> Result<(), Reason>
     ensures { outcome result state.new ≡
@@ -120,7 +123,7 @@ fn move_value(state: &mut AbsState, width: Width, dst: Reg, value: AbsVal) -> Re
 }
 
 /// Checks an operation on register `dst` and an operand, and replaces what is known of `dst` by its result. The
-/// operation must not be a move.
+/// operation must not be a move. Fails with `Unset`, `FrameWrite` or `PointerUse`.
 fn combine(
     state: &mut AbsState,
     width: Width,
@@ -195,7 +198,8 @@ fn combine_into(
     Ok(())
 }
 
-/// Checks a negation of register `dst`, and replaces what is known of it by the result.
+/// Checks a negation of register `dst`, and replaces what is known of it by the result. Fails with `Unset`,
+/// `FrameWrite` or `PointerUse`.
 fn negate(state: &mut AbsState, width: Width, dst: Reg) -> Result<(), Reason>
     ensures { outcome result state.new ≡ stepped (Insn.Negate width dst) state.old }
 {
@@ -205,7 +209,7 @@ fn negate(state: &mut AbsState, width: Width, dst: Reg) -> Result<(), Reason>
 }
 
 /// Checks a sign extension of the low bytes of register `src`, and replaces what is known of register `dst` by the
-/// result.
+/// result. Fails with `Unset`, `FrameWrite` or `PointerUse`.
 fn sign_extend(
     state: &mut AbsState,
     width: Width,
@@ -220,7 +224,8 @@ fn sign_extend(
     put_made(state, dst, &value, made)
 }
 
-/// Checks a change of the byte order of register `dst`, and replaces what is known of it by the result.
+/// Checks a change of the byte order of register `dst`, and replaces what is known of it by the result. Fails with
+/// `Unset`, `FrameWrite` or `PointerUse`.
 fn swap(state: &mut AbsState, order: ByteOrder, size: SwapSize, dst: Reg) -> Result<(), Reason>
     ensures { outcome result state.new ≡ stepped (Insn.Swap order size dst) state.old }
 {
@@ -229,7 +234,7 @@ fn swap(state: &mut AbsState, order: ByteOrder, size: SwapSize, dst: Reg) -> Res
     put_made(state, dst, &value, made)
 }
 
-/// Checks a move of a 64-bit number to register `dst`, and replaces what is known of `dst`.
+/// Checks a move of a 64-bit number to register `dst`, and replaces what is known of `dst`. Fails with `FrameWrite`.
 fn load_immediate(state: &mut AbsState, dst: Reg, number: u64) -> Result<(), Reason>
     ensures { outcome result state.new ≡ stepped (Insn.LoadImmediate dst number) state.old }
 {
@@ -239,7 +244,7 @@ fn load_immediate(state: &mut AbsState, dst: Reg, number: u64) -> Result<(), Rea
 }
 
 /// Checks a load into register `dst`, and replaces what is known of `dst` by the result: a number, or a pointer that
-/// was stored on the stack.
+/// was stored on the stack. Fails with `Unset`, `FrameWrite`, `PointerUse`, `Bounds` or `StackUnset`.
 fn load(state: &mut AbsState, size: Size, dst: Reg, base: Reg, offset: i16) -> Result<(), Reason>
     ensures { outcome result state.new ≡ stepped (Insn.Load size dst base offset) state.old }
 {
@@ -251,7 +256,8 @@ fn load(state: &mut AbsState, size: Size, dst: Reg, base: Reg, offset: i16) -> R
     memory::load_into(register, &state.stack, size, region, offsets, offset)
 }
 
-/// Checks a sign-extended load into register `dst`, and replaces what is known of `dst` by the result.
+/// Checks a sign-extended load into register `dst`, and replaces what is known of `dst` by the result. Fails with
+/// `Unset`, `FrameWrite`, `PointerUse`, `Bounds` or `StackUnset`.
 fn load_signed(
     state: &mut AbsState,
     part: Narrow,
@@ -270,7 +276,7 @@ fn load_signed(
 }
 
 /// Checks a store of `value` at `base` plus `offset`, and records it on the stack. Both are passed by reference,
-/// because few need to be copied.
+/// because few need to be copied. Fails with `Unset`, `PointerUse`, `ContextWrite` or `Bounds`.
 #[inline(always)]
 fn store_value(
     stack: &mut AbsStack,
@@ -288,7 +294,8 @@ fn store_value(
     memory::store(stack, size, base, offset, value)
 }
 
-/// Checks a store of a number or a pointer at `base` plus `offset`, and records it on the stack.
+/// Checks a store of a number or a pointer at `base` plus `offset`, and records it on the stack. Fails with `Unset`,
+/// `PointerUse`, `ContextWrite` or `Bounds`.
 fn store(
     state: &mut AbsState,
     size: Size,
