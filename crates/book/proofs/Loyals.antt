@@ -46,7 +46,7 @@ decided_alike f rule n v p l (suc k) w off =
     (λ j i. entry (j == p) v (om f n (always v) k (w ++ j ∷ []) p) (λ apart. decided_alike f rule n v p l k (w ++ j ∷ []) (on-push w j p ∙ or_from (on w p) (j == p) off apart))))
     ∙ one_order f rule v (others n w) (some_there (others n w) p (among n w p l off))
 
--- The law, as specs/Laws states it.
+-- The law, as specs/WrittenLaws states it.
 pub proved_loyal_tables_decide : LoyalTablesDecide
 proved_loyal_tables_decide v bits n m c inside =
     let read = proved_tables_are_read (always v) (λ w p order e. let same : v ≡ order = cc in omega arith) n m c Majority inside in

@@ -46,6 +46,6 @@ decided_whole : (t : MessageTable) (p : ℕ) → decided t t.bound (t.commander 
 unfolding decision_of
 decided_whole t p = refl
 
--- The law, as specs/Lists states it.
+-- The law, as specs/Theorem states it.
 pub proved_lists_mean : ListsMean
 proved_lists_mean = record { decides = list_decides; whole = decided_whole; majority = majority_means; none = none_means }

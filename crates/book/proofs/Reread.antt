@@ -239,7 +239,7 @@ read_again M orders n m c rule inside =
 pub collected_tells : (M : Messages) (n m c : ℕ) (w : List ℕ) (p : ℕ) → is_place_of n m c w p ≡ true → told (messages_at M (places n m c)) w p ≡ M w p
 collected_tells M n m c w p e = found M w p (places n m c) ∙ cond-true (is_in w p (places n m c)) (M w p) None (all_found n m c w p e)
 
--- The law, as specs/Laws states it.
+-- The law, as specs/WrittenLaws states it.
 pub proved_tables_are_read : TablesAreRead
 unfolding decision_of
 proved_tables_are_read M orders n m c rule inside = (

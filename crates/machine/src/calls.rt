@@ -12,7 +12,8 @@ use mem::{Context, load_row};
 use semantics::{Helper, Request, Slot, Span};
 
 impl Machine {
-    /// Calls the helper with this number. Returns that the program continues, or the request whose answer it waits for.
+    /// Calls the helper with this number. Returns `Flow::Onward` if the program continues, or the request whose answer
+    /// it waits for.
     #[inline(never)]
     pub(crate) fn call(&mut self, context: &Context, number: i32) -> Flow
         requires free { IsFree (called context.now self.old.relay self.old.state (helper_of number)) }
@@ -118,8 +119,7 @@ impl Machine {
         }
     }
 
-    /// Returns the request that a call of `board_copy` makes: to read the number of slots in r3, from the slot in r1
-    /// on.
+    /// Returns the request that a call of `board_copy` makes: to read as many slots as r3 says, from the slot in r1 on.
     fn copy(&self) -> Request
         requires { IsOk (copy_in self.now.state) }
         ensures { copy_in self.now.state ≡ Ok result }
@@ -144,8 +144,8 @@ impl Machine {
         slot
     }
 
-    /// Executes `send`: sets the order of one label to one receiver. r0 becomes 0, or 1 if the outbox has no such
-    /// order.
+    /// Executes `send`: sets the order for one label and one receiver. r0 becomes 0, or 1 if the outbox has no such
+    /// place.
     fn send(&mut self) -> Flow
         requires free { IsOk (send_in self.old.state) }
         requires inside { self.old.state.unit < 4096 }
@@ -163,8 +163,8 @@ impl Machine {
         self.go_on(if there { 0 } else { 1 })
     }
 
-    /// Executes `send_row`: sets the orders of one label to its receivers, which it reads from memory. r0 becomes the
-    /// number of orders set.
+    /// Executes `send_row`: reads orders from memory, and sets them for one label and its first receivers. r0 becomes
+    /// the number of orders set.
     fn send_row(&mut self, context: &Context) -> Flow
         requires free { IsOk (send_row_in context.now self.old.state) }
         requires inside { self.old.state.unit < 4096 }
@@ -184,7 +184,7 @@ impl Machine {
         self.go_on(u64::from(set))
     }
 
-    /// Executes `sway`: sets the orders of all labels to one receiver to the same value. r0 becomes the number of
+    /// Executes `sway`: sets the order for each label and one receiver to the same value. r0 becomes the number of
     /// orders set.
     fn sway(&mut self) -> Flow
         requires free { IsOk (sway_in self.old.state) }
@@ -200,8 +200,8 @@ impl Machine {
         self.go_on(u64::from(set))
     }
 
-    /// Executes `honest`: sets the orders of all labels to one receiver to the values that the general took, as a loyal
-    /// general does. r0 becomes the number of orders set.
+    /// Executes `honest`: sets the order for each label and one receiver to the value that the general took for the
+    /// label, as a loyal general does. r0 becomes the number of orders set.
     fn honest(&mut self, context: &Context) -> Flow
         requires free { IsOk (honest_in context.now self.old.state) }
         requires inside { self.old.state.unit < 4096 }
@@ -216,7 +216,7 @@ impl Machine {
         self.go_on(u64::from(set))
     }
 
-    /// Executes `sign_order`: enters an order, signed by the general, in the outbox. r0 becomes 0, or 1 if it is not
+    /// Executes `sign_order`: enters in the outbox an order, signed by the general. r0 becomes 0, or 1 if it is not
     /// entered.
     fn sign_order(&mut self) -> Flow
         requires free { IsOk (sign_in self.old.state) }
@@ -232,8 +232,8 @@ impl Machine {
         self.go_on(if taken { 0 } else { 1 })
     }
 
-    /// Executes `pass_on`: enters a chain of signatures that the general holds in the outbox, with his own signature
-    /// added. r0 becomes 0, or 1 if it is not entered.
+    /// Executes `pass_on`: enters in the outbox a chain that the general holds, with his signature added. r0 becomes 0,
+    /// or 1 if it is not entered.
     fn pass_on(&mut self) -> Flow
         requires free { IsOk (pass_in self.old.state) }
         requires inside { self.old.state.unit < 4096 }
