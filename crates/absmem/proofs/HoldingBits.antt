@@ -1,4 +1,4 @@
--- The word that tells which blocks hold a pointer.
+-- The word that says in which blocks a pointer is known to begin.
 use Rattle.std.proofs.Common.{◌≡◌, ℕ, ◌*◌, ◌%◌, ◌^◌, ◌<◌, List, length, length-set, Bool, true, false, if◌then◌else◌, refl, sym, ap, ◌∙◌, inl, inr, arith, get_or, set, get_or-set_same, get_or-set_other}
 use Rattle.std.specs.Prelude.{◌==◌}
 use Rattle.std.specs.Int.{bit_at}
@@ -19,17 +19,17 @@ no_bit : (spill : Spill) → bit_for spill ≡ 0 → spill ≡ Free
 no_bit Free none = refl
 no_bit (Whole shift region offset) none = absurd (omega (arith, none))
 
--- a word without bits: no block holds one
+-- If the word has no bits, no block has a pointer.
 pub free_where_zero : (word : ℕ) (spills : List Spill) → IsHolding word spills → word ≡ 0 → (b : ℕ) → b < 64 → spill_at spills b ≡ Free
 free_where_zero word spills held zero b lt = no_bit (spill_at spills b) (sym (held.each b lt) ∙ (ap (λ (n : ℕ). bit_at n b) zero ∙ bit_at-zero b))
 
--- and back
+-- If no block has a pointer, the word has no bits.
 pub zero_where_free : (word : ℕ) (spills : List Spill) → IsHolding word spills → ((b : ℕ) → b < 64 → spill_at spills b ≡ Free) → word ≡ 0
 zero_where_free word spills held free =
     let few : 0 < 2 ^ 64 = omega arith in
     same_from_bits_below 64 word 0 held.small few (λ b lt. held.each b lt ∙ (ap bit_for (free b lt) ∙ sym (bit_at-zero b)))
 
--- two words without bits: the same blocks
+-- If two words have no bits, the blocks are the same.
 pub same_where_zero : (word other : ℕ) (spills others : List Spill) → IsHolding word spills → IsHolding other others → word ≡ 0 → other ≡ 0 → spills ≡ others
 same_where_zero word other spills others held also zero none =
     ext_get_or Free spills others (held.blocks ∙ sym also.blocks)
@@ -37,7 +37,7 @@ same_where_zero word other spills others held also zero none =
     let inside : b < 64 = omega (arith, held.blocks) in
     free_where_zero word spills held zero b inside ∙ sym (free_where_zero other others also none b inside))
 
--- the bit of a block, as the code writes it
+-- The bit of a block, as the code computes it.
 pub bit_of_block : (b : ℕ) → b < 64 → 1 * 2 ^ b % 18446744073709551616 ≡ 2 ^ b
 bit_of_block b lt =
     let below : 2 ^ b < 2 ^ 64 = pow-lt lt in
@@ -52,7 +52,7 @@ bit_left : (test : Bool) (word new b : ℕ) (spill : Spill) → bit_at new b ≡
 bit_left true word new b spill is no_ = absurd (cc)
 bit_left false word new b spill is no_ = is
 
--- a block is set, and its bit with it
+-- A block is set, and its bit with it.
 pub holding_set : (word new mask b : ℕ) (spills : List Spill) (spill : Spill) → IsHolding word spills → new < 2 ^ 64 → b < 64 → mask ≡ 2 ^ b →
     ((i : ℕ) → i < 64 → bit_at new i ≡ (if bit_at mask i == 1 then (if holds_pointer spill then 1 else 0) else bit_at word i)) → IsHolding new (set spills b spill)
 holding_set word new mask b spills spill held small lt is bits = record {

@@ -1,4 +1,4 @@
--- What is known stays right when the stack is written.
+-- What is known stays true when the stack is written.
 use Rattle.std.proofs.Common.{◌≡◌, ◌≢◌, ℕ, zero, suc, ℤ, ◌+◌, ◌-◌, ◌*◌, ◌/◌, ◌%◌, ◌<◌, ◌≤◌, List, length, Bool, true, false, ◌&&◌, refl, sym, ap, subst, ◌∙◌, inl, inr, arith, get_or, set, get_or-set_same, get_or-set_other, replicate, [], ◌∷◌, ◌++◌, take, drop, append-nil}
 use Rattle.std.proofs.lemmas.List.{take-append-drop}
 use Rattle.std.specs.Prelude.{slice_range, nat_lt, if◌then◌else◌}
@@ -19,7 +19,7 @@ is_byte_if false c h = tt
 
 -- ---- cells that are bytes
 
--- bytes written where they are noted
+-- Bytes are stored where this is recorded.
 pub bytes_put : (old new : List Bool) (cells bytes : List Cell) (place : ℕ) → IsSetTo true old new place (place + length bytes) → place + length bytes ≤ length cells →
     AreBytes bytes → ((k : ℕ) → IsByteIf (byte_at old k) (cell_at cells k)) → (k : ℕ) → IsByteIf (byte_at new k) (cell_at (overwritten cells place bytes) k)
 bytes_put old new cells bytes place s fits are before k =
@@ -33,7 +33,7 @@ bytes_put old new cells bytes place s fits are before k =
       ]
     ]
 
--- bytes written anywhere
+-- Bytes are stored somewhere.
 pub bytes_spread : (flags : List Bool) (cells bytes : List Cell) (at : ℕ) → at + length bytes ≤ length cells →
     AreBytes bytes → ((k : ℕ) → IsByteIf (byte_at flags k) (cell_at cells k)) → (k : ℕ) → IsByteIf (byte_at flags k) (cell_at (overwritten cells at bytes) k)
 bytes_spread flags cells bytes at fits are before k =
@@ -47,7 +47,7 @@ bytes_spread flags cells bytes at fits are before k =
       ]
     ]
 
--- anything written where nothing is noted
+-- Something is stored where nothing is recorded.
 pub bytes_hidden : (old new : List Bool) (cells written : List Cell) (place : ℕ) → IsSetTo false old new place (place + length written) → place + length written ≤ length cells →
     ((k : ℕ) → IsByteIf (byte_at old k) (cell_at cells k)) → (k : ℕ) → IsByteIf (byte_at new k) (cell_at (overwritten cells place written) k)
 bytes_hidden old new cells written place s fits before k =
@@ -61,13 +61,13 @@ bytes_hidden old new cells written place s fits before k =
 
 -- ---- pointers
 
--- where nothing is written all is as before
+-- If nothing is stored, all is as before.
 nothing_written : (cells : List Cell) (place : ℕ) → cells ≡ overwritten cells place []
 nothing_written cells place =
     let e : place ≡ place + 0 = omega arith in
     sym (ap (λ (l : List Cell). l ++ drop (place + 0) cells) (append-nil (take place cells)) ∙ (ap (λ (n : ℕ). take place cells ++ drop n cells) (sym e) ∙ take-append-drop place cells))
 
--- a pointer that the window does not touch still stands
+-- A pointer outside the window is still stored.
 pub stands_left : (cells new : List Cell) (place end at b : ℕ) (spill : Spill) → place ≤ at → at + length new ≤ end → end ≤ length cells →
     StandsAt cells b spill → StandsAt (overwritten cells at new) b (left_of place end b spill)
 stands_left cells new place end at b Free low high fits stands = tt
@@ -134,7 +134,7 @@ stands_put spills cells place region offset fits long size stands b lt =
 
 -- ---- joins
 
--- one more block is joined
+-- One more block is joined.
 pub joined_more : (old other new : List Spill) (b j : ℕ) (x : Spill) → b < 64 → length new ≡ 64 → x ≡ joined_spill (spill_at new b) (spill_at other b) → spill_at new b ≡ spill_at old b →
     ((i : ℕ) → i < b → spill_at new i ≡ joined_spill (spill_at old i) (spill_at other i)) → j < b + 1 →
     spill_at (set new b x) j ≡ joined_spill (spill_at old j) (spill_at other j)
@@ -164,7 +164,7 @@ pub is_byte_and_right : (s t : Bool) (c : Cell) → IsByteIf t c → IsByteIf (s
 is_byte_and_right true t c h = h
 is_byte_and_right false t c h = tt
 
--- what is described is described still, once less is known
+-- What is described is still described if less is known.
 stands_joined : (cells : List Cell) (b : ℕ) (one other : Spill) → StandsAt cells b one → StandsAt cells b (joined_spill one other)
 stands_joined cells b Free other stands = tt
 stands_joined cells b (Whole shift region offset) Free stands = tt
@@ -225,7 +225,7 @@ described_pointer old new cleared cells place region offset s size spills put fi
 
 -- ---- nothing known
 
--- of one value everywhere, the default too, each place has it
+-- If all items and the default are the same, so is each item.
 same_everywhere : {A : Type 0} (n : ℕ) (a : A) (i : ℕ) → get_or (replicate n a) i a ≡ a
 same_everywhere zero a i = refl
 same_everywhere (suc n) a zero = refl

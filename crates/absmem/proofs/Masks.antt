@@ -1,4 +1,4 @@
--- Words, and bits of them that stand beside one another.
+-- Words with consecutive bits set.
 use Rattle.std.proofs.Common.{◌≡◌, ℕ, zero, suc, ◌+◌, ◌-◌, ◌*◌, ◌%◌, ◌^◌, ◌<◌, ◌≤◌, ◌&&◌, refl, ap, ◌∙◌, arith, bit_and, bit_or, w64}
 use Rattle.std.specs.Prelude.{◌==◌, ◌↔◌, IsTrue, min, max, if◌then◌else◌}
 use Rattle.std.specs.Int.{bit_at, bit_not}
@@ -64,7 +64,7 @@ module _ (number place end i : ℕ) (inner : i < 64) where
   pub window_behind : end ≤ 64 * number + i → bit_at (window number place end) i ≡ 0
   window_behind le = bit_at_mask_above (place - 64 * number) (min (end - 64 * number) 64) i (omega arith)
 
--- the same of fewer than 64 cells, as the code makes it: so many low bits, so far up
+-- The same for fewer than 64 cells, as the code computes it.
 pub window_moved : (size up : ℕ) → size < 64 → size + up ≤ 64 →
     (1 * 2 ^ size % 18446744073709551616 - 1) * 2 ^ up % 18446744073709551616 ≡ 2 ^ (size + up) - 2 ^ up
 window_moved size up few fits =

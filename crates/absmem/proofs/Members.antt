@@ -64,7 +64,7 @@ as_told : (value : Bool) → ((if value then 1 else 0) == 1) ≡ value
 as_told true = refl
 as_told false = refl
 
--- the word has the bits of the mask as told, and its other bits
+-- The word has the bits of the mask set or cleared, and its other bits unchanged.
 abbrev pub IsPut : Bool → ℕ → ℕ → ℕ → Type 0
 IsPut value mask word x = (i : ℕ) → i < 64 → bit_at x i ≡ (if bit_at mask i == 1 then (if value then 1 else 0) else bit_at word i)
 
@@ -99,7 +99,7 @@ module _ (value : Bool) (old words : List ℕ) (number place end x : ℕ) (lt : 
         | inr ne ↦ member_set_other words number x k ne
       ]
 
-  -- one more word
+  -- One more word.
   pub window_more : IsSetTo value (members old) (members words) place (min end (64 * number)) → IsSetTo value (members old) (members (set words number x)) place (min end (64 * (number + 1)))
   window_more s = record {
     inside = λ k le less. elim (cases_eq (k / 64) number) [
@@ -120,7 +120,7 @@ window_none value flags place end = record {
 -- ---- what belongs to both
 
 module _ (old other words : List ℕ) (number : ℕ) (lt : number < 8) (long : length words ≡ 8) where
-  -- one more word
+  -- One more word.
   pub both_more : (x : ℕ) → x ≡ bit_and (word_at words number) (word_at other number) →
       ((k : ℕ) → k / 64 < number → byte_at (members words) k ≡ (byte_at (members old) k && byte_at (members other) k)) →
       ((k : ℕ) → number ≤ k / 64 → byte_at (members words) k ≡ byte_at (members old) k) →
@@ -154,7 +154,7 @@ both_done flags others old other words seen_old seen_other done k =
           | inr le ↦ member_past words k le ∙ ap (λ b. b && byte_at (members other) k) (sym (member_past old k le))
         ]
 
--- ---- a window whose cells all belong to the set
+-- ---- a window whose cells are all in the set
 
 abbrev pub HasCells : List Bool → ℕ → ℕ → Type 0
 HasCells flags place end = (k : ℕ) → place ≤ k → k < end → byte_at flags k ≡ true
@@ -163,7 +163,7 @@ pub has_none : (words : List ℕ) (place end : ℕ) → HasCells (members words)
 has_none words place end k le less = absurd (omega arith)
 
 module _ (words : List ℕ) (number place end : ℕ) (lt : number < 8) where
-  -- one more word
+  -- One more word.
   pub has_more : ((i : ℕ) → i < 64 → bit_at (window number place end) i ≡ 1 → bit_at (word_at words number) i ≡ 1) → HasCells (members words) place (min end (64 * number)) →
       HasCells (members words) place (min end (64 * (number + 1)))
   has_more here before k le less =
@@ -174,7 +174,7 @@ module _ (words : List ℕ) (number place end : ℕ) (lt : number < 8) where
         | inr ne ↦ before k le (omega arith)
       ]
 
-  -- what the word has, if the window has all
+  -- The bits of the word, if the set has all cells of the window.
   pub has_here : HasCells (members words) place end → (i : ℕ) → i < 64 → bit_at (window number place end) i ≡ 1 → bit_at (word_at words number) i ≡ 1
   has_here all i inner one =
       elim (cases_lt (64 * number + i) place) [

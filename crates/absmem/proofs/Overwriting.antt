@@ -1,4 +1,4 @@
--- Lists of which a part is overwritten.
+-- Lists in which a part is replaced.
 use Rattle.std.proofs.Common.{◌≡◌, ℕ, ◌+◌, ◌-◌, ◌<◌, ◌≤◌, List, ◌++◌, length, take, drop, get_or, sym, ap, ◌∙◌, arith}
 use Rattle.std.specs.Prelude.{slice_range}
 use Rattle.std.proofs.lemmas.List.{length-append, length-take-le, length-drop, get_or_append_left, get_or-append_right, get_or-take, get_or-drop, take-append-le, take-take, drop-append-le, drop-take}
@@ -17,14 +17,14 @@ module _ (cells new : List Cell) (p : ℕ) (fits : p + length new ≤ length cel
   length-overwritten =
       length-append (take p cells ++ new) (drop (p + length new) cells) ∙ omega (arith, front_length, length-drop (p + length new) cells)
 
-  -- a cell of the part
+  -- A cell in the part.
   pub cell-inside : (k : ℕ) (d : Cell) → p ≤ k → k < p + length new → get_or (overwritten cells p new) k d ≡ get_or new (k - p) d
   cell-inside k d le lt =
       let room : k < length (take p cells ++ new) = omega (arith, front_length) in
       let front : length (take p cells) ≡ p = length-take-le p cells (omega arith) in
       get_or_append_left (take p cells ++ new) (drop (p + length new) cells) d k room ∙ get_or-append_right (take p cells) new p k d front le
 
-  -- a cell before it
+  -- A cell before it.
   pub cell-before : (k : ℕ) (d : Cell) → k < p → get_or (overwritten cells p new) k d ≡ get_or cells k d
   cell-before k d lt =
       let room : k < length (take p cells ++ new) = omega (arith, front_length) in
@@ -33,14 +33,14 @@ module _ (cells new : List Cell) (p : ℕ) (fits : p + length new ≤ length cel
       get_or_append_left (take p cells ++ new) (drop (p + length new) cells) d k room
       ∙ (get_or_append_left (take p cells) new d k inner ∙ get_or-take p cells k d lt)
 
-  -- a cell behind it
+  -- A cell after it.
   pub cell-behind : (k : ℕ) (d : Cell) → p + length new ≤ k → get_or (overwritten cells p new) k d ≡ get_or cells k d
   cell-behind k d le =
       let n : p + length new + (k - (p + length new)) ≡ k = omega arith in
       get_or-append_right (take p cells ++ new) (drop (p + length new) cells) (p + length new) k d front_length le
       ∙ (get_or-drop (p + length new) cells (k - (p + length new)) d ∙ ap (λ i. get_or cells i d) n)
 
-  -- the part itself
+  -- The part itself.
   pub range-inside : slice_range (overwritten cells p new) p (p + length new) ≡ new
   range-inside =
       let front : length (take p cells) ≡ p = length-take-le p cells (omega arith) in
@@ -51,7 +51,7 @@ module _ (cells new : List Cell) (p : ℕ) (fits : p + length new ≤ length cel
       ∙ (ap (λ l. take (length new) (l ++ drop (p + length new) cells)) (ap (λ n. drop n (take p cells ++ new)) (sym front) ∙ drop-append_seam (take p cells) new)
       ∙ take-append_seam new (drop (p + length new) cells)))
 
-  -- a part before it
+  -- A part before it.
   pub range-before : (a b : ℕ) → a ≤ b → b ≤ p → slice_range (overwritten cells p new) a b ≡ slice_range cells a b
   range-before a b ab bp =
       let e : a + (b - a) ≡ b = omega arith in
@@ -63,11 +63,11 @@ module _ (cells new : List Cell) (p : ℕ) (fits : p + length new ≤ length cel
       sym (drop-take a (b - a) (overwritten cells p new))
       ∙ (ap (λ n. drop a (take n (overwritten cells p new))) e ∙ (ap (drop a) same ∙ (ap (λ n. drop a (take n cells)) (sym e) ∙ drop-take a (b - a) cells)))
 
-  -- a part behind it
+  -- A part after it.
   pub range-behind : (a b : ℕ) → p + length new ≤ a → slice_range (overwritten cells p new) a b ≡ slice_range cells a b
   range-behind a b le = ap (take (b - a)) (drop-append-drop (p + length new) cells (take p cells ++ new) a le front_length)
 
--- an element of a part
+-- An item of a part.
 pub cell-of_range : (cells : List Cell) (a b k : ℕ) (d : Cell) → a + k < b → get_or (slice_range cells a b) k d ≡ get_or cells (a + k) d
 cell-of_range cells a b k d lt =
     let n : k < b - a = omega arith in

@@ -1,4 +1,4 @@
--- What is left of a stack of which one window is written.
+-- What is known of a stack after a window is written.
 use Rattle.std.proofs.Common.{◌≡◌, ◌∙◌, ◌≢◌, ℕ, ℤ, ◌+◌, ◌/◌, ◌%◌, ◌<◌, ◌≤◌, List, length, set, get_or, Bool, true, false, refl, sym, ap, arith, ⊎_elim, length-set, get_or-set_same, get_or-set_other}
 use Rattle.std.specs.Prelude.{◌==◌, ◌&&◌, nat_le, nat_lt, if◌then◌else◌}
 use Rattle.std.proofs.lemmas.Bool.{le-leb, lt-ltb, le-ltb, lt-leb, eqb-true, eq-eqb, cases_lt, cases_eq, and_from}

@@ -1,4 +1,4 @@
--- What is said of a stack cell by cell and block by block determines it.
+-- What is known of a stack is determined cell by cell and block by block.
 use Rattle.std.proofs.Common.{◌≡◌, ◌∙◌, ℕ, ℤ, ◌+◌, ◌/◌, ◌%◌, ◌<◌, ◌≤◌, List, length, arith, refl, sym, ap, ap₂, Bool, true, false, eqb-true, eq-eqb, set, get_or-set_same, get_or-set_other, replicate}
 use Rattle.std.specs.Prelude.{◌==◌, ◌&&◌, nat_le, nat_lt, if◌then◌else◌}
 use Rattle.std.proofs.lemmas.List.{get_or-replicate, length-replicate}
@@ -15,7 +15,7 @@ stack_is new byte spill cells blocks each at =
     ap₂ (λ (bytes : List Bool) (spills : List Spill). record { bytes = bytes; spills = spills })
     (table_is 512 byte new.bytes false cells each) (table_is 64 spill new.spills Free blocks at)
 
--- cells that are set
+-- Cells that are set.
 byte_set : (value : Bool) (old new : Known) (place end k : ℕ) → IsSetTo value old.bytes new.bytes place end → byte_at new.bytes k ≡ byte_behind value place end old k
 byte_set value old new place end k s = by_tests (nat_le place k) (nat_lt k end) refl refl
   where
@@ -56,7 +56,7 @@ module _ (old new : Known) (cells : length new.bytes ≡ 512) (blocks : length n
       by_test b lt false e =
           get_or-set_other cleared (place / 8) b (Whole (place % 8) region offset) Free (λ same. let test = eq-eqb b (place / 8) same in cc) ∙ left b lt
 
--- nothing is known
+-- Nothing is known.
 pub no_bytes : replicate 512 false ≡ unknown_stack.bytes
 no_bytes = table_is 512 (λ k. false) (replicate 512 false) false (length-replicate 512 false) (λ k lt. get_or-replicate 512 k false false lt)
 

@@ -1,4 +1,4 @@
-//! Blocks of eight cells of the stack, each with the stored pointer that is known to begin in it.
+//! The 64 blocks of eight stack cells, with the stored pointer that is known to begin in each.
 ghost use Rattle.std.specs.Prelude.{◌≡◌, ◌<◌, ◌↔◌, ℕ, IsTrue, length, replicate, slice_set};
 ghost use Rattle.absmem.specs.Known.{spill_at};
 ghost use Rattle.absmem.specs.Holding.{holds_pointer};
@@ -7,7 +7,8 @@ use crate::mask;
 use crate::spill::Spill;
 use std::marker::Model;
 
-/// The stored pointers that are known, by blocks of eight cells. A word says which of the 64 blocks hold one.
+/// For each of the 64 blocks of eight stack cells, the stored pointer that is known to begin there. The bits of
+/// `holding` say which blocks have one.
 #[derive(Drop)]
 pub(crate) struct Blocks {
     holding: u64,
@@ -27,7 +28,7 @@ impl Model for Blocks {
 }
 
 impl Blocks {
-    /// Returns blocks that hold no pointer.
+    /// Returns blocks in which no pointer is known to begin.
     pub(crate) fn free() -> Blocks
         ensures { result ≡ replicate 64 Spill.Free }
     {
@@ -37,7 +38,7 @@ impl Blocks {
         }
     }
 
-    /// Checks whether no block holds a pointer.
+    /// Checks whether no pointer is known to begin in any block.
     pub(crate) fn is_free(&self) -> bool
         ensures free { IsTrue result ↔ ((b : ℕ) → b < 64 → spill_at self.now b ≡ Spill.Free) }
         ensures size { length self.now ≡ 64 }
@@ -45,7 +46,7 @@ impl Blocks {
         self.holding == 0
     }
 
-    /// Returns what is known of a block.
+    /// Returns what is known of the block with index `b`.
     pub(crate) fn at(&self, b: usize) -> Spill
         requires { b < 64 }
         ensures known { result ≡ spill_at self.now b }
@@ -54,7 +55,7 @@ impl Blocks {
         self.spills[b]
     }
 
-    /// Replaces what is known of a block.
+    /// Replaces what is known of the block with index `b`.
     pub(crate) fn set(&mut self, b: usize, spill: Spill)
         requires { b < 64 }
         ensures { self.new ≡ slice_set self.old b spill }
@@ -73,7 +74,7 @@ impl Blocks {
         }
     }
 
-    /// Makes the blocks equal to `other`. If neither holds a pointer, nothing is copied.
+    /// Copies `other` into these blocks. For speed, nothing is copied if neither has a known pointer.
     pub(crate) fn assign(&mut self, other: &Blocks)
         ensures { self.new ≡ other.now }
     {
@@ -84,7 +85,7 @@ impl Blocks {
     }
 }
 
-/// Checks whether a block holds a pointer.
+/// Checks whether a pointer is known to begin in a block.
 fn holds(spill: Spill) -> bool
     ensures { result ≡ holds_pointer spill }
 {

@@ -1,11 +1,11 @@
-//! Sets of cells of the stack, one bit for each cell.
+//! Sets of the 512 stack cells, with one bit for each cell.
 ghost use Rattle.std.specs.Prelude.{◌≡◌, ◌<◌, ◌≤◌, ◌&&◌, ◌↔◌, ℕ, IsTrue, true, false, length, replicate};
 ghost use Rattle.absmem.specs.Known.{byte_at, IsSetTo};
 
 use crate::mask;
 use std::marker::Model;
 
-/// A set of cells of the stack: a bit for each of the 512.
+/// A set of the 512 stack cells, with one bit for each cell.
 #[derive(Clone, Copy)]
 pub(crate) struct CellSet {
     words: [u64; 8],
@@ -35,8 +35,8 @@ impl CellSet {
         CellSet { words: [0; 8] }
     }
 
-    /// Adds the cells from `place` up to but not including `end`, or removes them if `value` is false. Most windows lie
-    /// in one word.
+    /// Adds the cells from index `place` up to but not including `end` to the set, or removes them if `value` is false.
+    /// This is fastest if all their bits are in one word.
     pub(crate) fn set(&mut self, place: usize, end: usize, value: bool)
         requires ordered { place ≤ end }
         requires within { end ≤ 512 }
@@ -52,7 +52,8 @@ impl CellSet {
         self.set_across(place, end, value);
     }
 
-    /// Adds or removes the cells of a window word by word. The window may cross words.
+    /// Adds the cells from index `place` up to but not including `end` to the set, or removes them if `value` is false,
+    /// word by word.
     #[inline(never)]
     fn set_across(&mut self, place: usize, end: usize, value: bool)
         requires ordered { place ≤ end }
@@ -66,8 +67,8 @@ impl CellSet {
         }
     }
 
-    /// Checks whether each cell from `place` up to but not including `end` belongs to the set. Most windows lie in one
-    /// word.
+    /// Checks whether all cells from index `place` up to but not including `end` are in the set. This is fastest if all
+    /// their bits are in one word.
     pub(crate) fn has(&self, place: usize, end: usize) -> bool
         requires ordered { place ≤ end }
         requires within { end ≤ 512 }
@@ -79,7 +80,7 @@ impl CellSet {
         self.has_across(place, end)
     }
 
-    /// Checks word by word whether each cell of a window belongs to the set. The window may cross words.
+    /// Checks, word by word, whether all cells from index `place` up to but not including `end` are in the set.
     #[inline(never)]
     fn has_across(&self, place: usize, end: usize) -> bool
         requires ordered { place ≤ end }
@@ -94,7 +95,7 @@ impl CellSet {
         true
     }
 
-    /// Keeps the cells that belong to both sets.
+    /// Removes the cells that are not in `other`.
     pub(crate) fn intersect(&mut self, other: &CellSet)
         ensures size { length self.new ≡ 512 }
         ensures both { (k : ℕ) → byte_at self.new k ≡ (byte_at self.old k && byte_at other.now k) }

@@ -1,4 +1,4 @@
-//! Abstract stacks, which say what the verifier knows of a stack: which cells are bytes, and where whole pointers are
+//! Abstract stacks. They say what the verifier knows of the stack: which cells are bytes, and where whole pointers are
 //! stored.
 #![tactic(auto)]
 

@@ -1,8 +1,8 @@
-//! Masks of consecutive bits of a word.
+//! Masks: 64-bit words with consecutive bits set, one bit for each stack cell.
 ghost use Rattle.std.specs.Prelude.{◌≡◌, ◌+◌, ◌-◌, ◌*◌, ◌^◌, ◌/◌, ◌<◌, ◌≤◌, ◌↔◌, ◌==◌, ℕ, IsTrue, min, if◌then◌else◌};
 ghost use Rattle.std.specs.Int.{bit_at};
 
-/// Returns a word with the lowest `count` bits set.
+/// Returns a word whose lowest `count` bits are set.
 fn lowest(count: usize) -> u64
     requires { count ≤ 64 }
     ensures { result ≡ 2 ^ count - 1 }
@@ -13,7 +13,8 @@ fn lowest(count: usize) -> u64
     (1 << count) - 1
 }
 
-/// Returns the bits of word `number` that belong to the cells from `place` up to but not including `end`.
+/// Returns a word with the bits of the cells from index `place` up to but not including `end`, as far as they are in
+/// word `number`. Word n has the bits of the cells from 64n on.
 pub(crate) fn window(number: usize, place: usize, end: usize) -> u64
     requires ordered { place ≤ end }
     requires within { end ≤ 512 }
@@ -27,7 +28,8 @@ pub(crate) fn window(number: usize, place: usize, end: usize) -> u64
     lowest(to) - lowest(from)
 }
 
-/// Checks whether a window has 1 to 63 cells and all of them lie in one word.
+/// Checks whether there are 1 to 63 cells from index `place` up to but not including `end`, and all their bits are in
+/// one word.
 pub(crate) fn is_in_word(place: usize, end: usize) -> bool
     requires { place ≤ end }
     ensures { IsTrue result ↔ ((place < end) × (end < place + 64) × (end ≤ 64 * (place / 64) + 64)) }
@@ -36,8 +38,8 @@ pub(crate) fn is_in_word(place: usize, end: usize) -> bool
     0 < size && size < 64 && place % 64 + size <= 64
 }
 
-/// Returns the bits of a window's cells in their word. The window has fewer than 64 cells, and all lie in the word of
-/// the first.
+/// Returns a word with the bits of the cells from index `place` up to but not including `end`. There must be fewer than
+/// 64 cells, with all their bits in one word.
 pub(crate) fn in_word(place: usize, end: usize) -> u64
     requires ordered { place ≤ end }
     requires few { end < place + 64 }
@@ -47,7 +49,7 @@ pub(crate) fn in_word(place: usize, end: usize) -> u64
     ((1 << (end - place)) - 1) << (place % 64)
 }
 
-/// Returns the word with the bits of the mask set, or cleared if `value` is false. Its other bits stay.
+/// Returns `word` with the bits of `mask` set, or cleared if `value` is false. The other bits are unchanged.
 pub(crate) fn put(word: u64, mask: u64, value: bool) -> u64
     ensures { (i : ℕ) → i < 64 →
         bit_at result i ≡ (if bit_at mask i == 1 then (if value then 1 else 0) else bit_at word i) }
@@ -55,7 +57,7 @@ pub(crate) fn put(word: u64, mask: u64, value: bool) -> u64
     if value { word | mask } else { word & !mask }
 }
 
-/// Checks whether each bit of the mask is set in the word.
+/// Checks whether all bits of `mask` are set in `word`.
 pub(crate) fn has(word: u64, mask: u64) -> bool
     ensures { IsTrue result ↔ ((i : ℕ) → i < 64 → bit_at mask i ≡ 1 → bit_at word i ≡ 1) }
 {

@@ -1,4 +1,5 @@
-//! Pointers stored whole on the stack: which of them stores overwrite, and which remain where two paths meet.
+//! Whole pointers that are known to be stored on the stack: which of them a store overwrites, and which remain where
+//! two paths meet.
 ghost use Rattle.std.specs.Prelude.{◌≡◌, ◌+◌, ◌/◌, ◌%◌, ◌<◌, ◌≤◌, ℕ, length, slice_set, if◌then◌else◌};
 ghost use Rattle.semantics.specs.Memory.{is_same_region};
 ghost use Rattle.absmem.specs.Known.{IsFiled, spill_at, left_of, joined_spill};
@@ -7,7 +8,7 @@ use crate::blocks::Blocks;
 use crate::spill::Spill;
 use semantics::Region;
 
-/// Forgets each pointer that has a cell in the window.
+/// Forgets each stored pointer that has a piece in the cells from index `place` up to but not including `end`.
 pub(crate) fn clear(spills: &mut Blocks, place: usize, end: usize)
     requires ordered { place ≤ end }
     requires within { end ≤ 512 }
@@ -21,7 +22,8 @@ pub(crate) fn clear(spills: &mut Blocks, place: usize, end: usize)
     clear_each(spills, place, end);
 }
 
-/// Forgets each pointer that has a cell in the window, block by block.
+/// Forgets, block by block, each stored pointer that has a piece in the cells from index `place` up to but not
+/// including `end`.
 #[inline(never)]
 fn clear_each(spills: &mut Blocks, place: usize, end: usize)
     requires long { length spills.old ≡ 64 }
@@ -38,7 +40,7 @@ fn clear_each(spills: &mut Blocks, place: usize, end: usize)
     }
 }
 
-/// Records the pointer that is stored at the place.
+/// Records that a pointer is stored in the 8 cells from index `place` on.
 pub(crate) fn put(spills: &mut Blocks, place: usize, region: Region, offset: i32)
     requires { place + 8 ≤ 512 }
     ensures { spills.new ≡ slice_set spills.old (place / 8) (Spill.Whole (place % 8) region offset) }
@@ -46,7 +48,7 @@ pub(crate) fn put(spills: &mut Blocks, place: usize, region: Region, offset: i32
     spills.set(place / 8, whole(place, region, offset));
 }
 
-/// Returns the record of a pointer stored at the place.
+/// Returns the record that a pointer is stored in the 8 cells from index `place` on.
 fn whole(place: usize, region: Region, offset: i32) -> Spill
     ensures { result ≡ Spill.Whole (place % 8) region offset }
 {
@@ -58,8 +60,8 @@ fn whole(place: usize, region: Region, offset: i32) -> Spill
     }
 }
 
-/// Returns what is known of a block after the cells of the window are written. A pointer that has a cell in the window
-/// is forgotten.
+/// Returns what is known of block `b` after the cells from index `place` up to but not including `end` are written: a
+/// pointer with a piece in these cells is forgotten.
 fn left(spill: Spill, b: usize, place: usize, end: usize) -> Spill
     requires { b < 64 }
     ensures { result ≡ left_of place end b spill }
@@ -74,8 +76,8 @@ fn left(spill: Spill, b: usize, place: usize, end: usize) -> Spill
     spill
 }
 
-/// Joins the spilled pointers of two abstract stacks, where two paths meet. Each of the 64 eight-byte blocks of
-/// `spills` is joined with the block of `other` at the same place.
+/// Joins what is known of stored pointers on two paths: keeps in each of the 64 blocks of eight cells a pointer that is
+/// stored there on both.
 pub(crate) fn join(spills: &mut Blocks, other: &Blocks)
     ensures size { length spills.new ≡ 64 }
     ensures each { (b : ℕ) → b < 64 →
@@ -89,8 +91,8 @@ pub(crate) fn join(spills: &mut Blocks, other: &Blocks)
     }
 }
 
-/// Joins a block with another: keeps its pointer only if both have the same one. Most blocks stay as they are and are
-/// not written.
+/// Joins what is known of block `b` on two paths: keeps its pointer if it is stored there on both. For speed, the block
+/// is written only if it changes.
 fn settle(spills: &mut Blocks, b: usize, other: Spill)
     requires { b < 64 }
     ensures { spills.new ≡ slice_set spills.old b (joined_spill (spill_at spills.old b) other) }
@@ -100,7 +102,7 @@ fn settle(spills: &mut Blocks, b: usize, other: Spill)
     }
 }
 
-/// Checks whether a block stays as it is when it is joined with another.
+/// Checks whether block `a` is unchanged by a join with `b`: it has no pointer, or both have the same one.
 fn stays(a: Spill, b: Spill) -> bool
     ensures { joined_spill a b ≡ (if result then a else Spill.Free) }
 {

@@ -1,4 +1,4 @@
-//! Abstract stacks: what stores, loads and joins of paths do to what is known of a stack.
+//! Abstract stacks: how stores, and joins of two paths, change what is known of the stack.
 ghost use Rattle.std.specs.Prelude.{◌≡◌, ◌+◌, ◌/◌, ◌%◌, ◌<◌, ◌≤◌, ◌↔◌, ℕ, true, List, IsTrue, IfSome, length, slice_range};
 ghost use Rattle.semantics.specs.declared.value.Cell.{Cell};
 ghost use Rattle.semantics.specs.Memory.{overwritten, pieces_of};
@@ -14,7 +14,7 @@ use absval::Offset;
 use semantics::Region;
 use std::marker::Model;
 
-/// An abstract stack: what is known of a stack of 512 cells.
+/// An abstract stack: what the verifier knows of the 512 stack cells.
 #[derive(Drop)]
 pub struct AbsStack {
     bytes: CellSet,
@@ -32,7 +32,7 @@ impl Model for AbsStack {
 }
 
 impl AbsStack {
-    /// Returns the abstract stack of which nothing is known.
+    /// Returns the abstract stack with which nothing is known.
     pub fn unknown() -> AbsStack
         ensures exact { result ≡ unknown_stack }
         ensures holds { (cells : List Cell) → Describes result cells }
@@ -53,7 +53,7 @@ impl AbsStack {
         }
     }
 
-    /// Makes the abstract stack equal to `other`.
+    /// Copies `other` into this abstract stack.
     pub fn assign(&mut self, other: &AbsStack)
         ensures { self.new ≡ other.now }
     {
@@ -61,7 +61,7 @@ impl AbsStack {
         self.spills.assign(&other.spills);
     }
 
-    /// Records a store of `size` bytes at the place.
+    /// Records that bytes are stored in the `size` cells from index `place` on.
     pub fn put_bytes(&mut self, place: usize, size: usize)
         requires within { place + size ≤ 512 }
         ensures exact { self.new ≡ put_bytes place size self.old }
@@ -74,8 +74,8 @@ impl AbsStack {
         self.bytes.set(place, end, true);
     }
 
-    /// Records a store of bytes somewhere among the `size` cells from the place on. No further cell becomes known to be
-    /// a byte.
+    /// Records that bytes are stored in some of the `size` cells from index `place` on, when it is not known in which.
+    /// Stored pointers there are forgotten, and no further cell becomes known to be a byte.
     pub fn spread_bytes(&mut self, place: usize, size: usize)
         requires within { place + size ≤ 512 }
         ensures exact { self.new ≡ spread_bytes place size self.old }
@@ -86,7 +86,7 @@ impl AbsStack {
         pointers::clear(&mut self.spills, place, place + size);
     }
 
-    /// Records a store of a pointer at the place.
+    /// Records that a pointer is stored in the 8 cells from index `place` on.
     pub fn put_pointer(&mut self, place: usize, region: Region, offset: Offset)
         requires within { place + 8 ≤ 512 }
         ensures exact { self.new ≡ put_pointer place region offset self.old }
@@ -98,7 +98,7 @@ impl AbsStack {
         pointers::put(&mut self.spills, place, region, offset.at);
     }
 
-    /// Checks whether each of the `size` cells from the place on is known to be a byte.
+    /// Checks whether the `size` cells from index `place` on are all known to be bytes.
     pub fn has_bytes(&self, place: usize, size: usize) -> bool
         requires within { place + size ≤ 512 }
         ensures known { IsTrue result ↔ ((k : ℕ) → place ≤ k → k < place + size → byte_at self.now.bytes k ≡ true) }
@@ -109,7 +109,8 @@ impl AbsStack {
         self.bytes.has(place, place + size)
     }
 
-    /// Returns the whole pointer that is known to be stored at the place, if there is one.
+    /// Returns the region and the offset of the whole pointer that is known to be stored in the 8 cells from index
+    /// `place` on. Returns `None` if no pointer is known there.
     pub fn pointer_at(&self, place: usize) -> Option<(Region, Offset)>
         requires within { place + 8 ≤ 512 }
         ensures known { result ≡ pointer_of (place % 8) (spill_at self.now.spills (place / 8)) }
@@ -131,7 +132,7 @@ impl AbsStack {
         None
     }
 
-    /// Joins two abstract stacks: keeps the facts that hold in both.
+    /// Joins what is known of the stack on two paths: keeps what is true on both.
     pub fn join(&mut self, other: &AbsStack)
         ensures exact { self.new ≡ joined_stack self.old other.now }
         ensures left { (cells : List Cell) → Describes self.old cells → Describes self.new cells }

@@ -1,4 +1,4 @@
--- Windows between two places.
+-- Windows between two indexes.
 use Rattle.std.proofs.Common.{◌≡◌, ℕ, ℤ, pos, negsuc, ◌+◌, ◌-◌, ◌≤◌, Bool, sym, subst, arith}
 use Rattle.std.specs.Prelude.{◌+ℤ◌, ◌≤ℤ◌, Ok, Err, if◌then◌else◌}
 use Rattle.std.proofs.lemmas.Int.{ints}
@@ -9,7 +9,7 @@ use Rattle.semantics.specs.State.{OutOfBounds}
 use Rattle.semantics.specs.Memory.{inside, window, room_of}
 use Rattle.absval.specs.Windows.{base_of, LiesIn}
 
--- from the first place to the last, a window of the size lies in the room
+-- A window of the size at each index from the first to the last is in the region.
 pub inside_lies : (room size first last : ℕ) (z : ℤ) → pos first ≤ℤ z → z ≤ℤ pos last → last + size ≤ room → LiesIn first ((last - first) + size) size (inside room size z)
 inside_lies room size first last (pos place) low high fits =
     let le : place ≤ last = omega (arith, ints) in

@@ -1,4 +1,4 @@
--- Offsets that stay within the limit, and numbers that are moved.
+-- Offsets that stay within the limit, and pointers that are moved.
 use Rattle.std.proofs.Common.{◌≡◌, ℤ, Bool, true, false, Option, Some, None, refl, sym, ap, cond, arith}
 use Rattle.std.specs.Prelude.{◌&&◌, ◌+ℤ◌, ◌-ℤ◌, ◌≤ℤ◌, if◌then◌else◌}
 use Rattle.std.specs.Int.{int_min, int_max}
@@ -23,7 +23,7 @@ both_near a b x y c d v w low high e f g h = rw (e, f, g, h) (sym (both_cases (i
 pub second_far : (a b d : ℤ) → None ≡ (if is_near b then Some b else None) → d ≡ b → near (a, d) ≡ None
 second_far a b d far e = rw e (none_cases (is_near a) (is_near b) a b far)
 
--- what is within the limit stays as it is
+-- Offsets within the limit are returned unchanged.
 near_same : (o r : ℤ × ℤ) → Some r ≡ near o → r ≡ o
 near_same o r e = by_test (is_near o.0 && is_near o.1) e
   where
@@ -45,7 +45,7 @@ lowered_holds o by r e x z a b c d =
     let high : r.1 ≡ o.1 -ℤ by.0 = ap (λ (v : ℤ × ℤ). v.1) same in
     (omega (arith, ints), omega (arith, ints))
 
--- offsets that are joined are within the limit
+-- Joined offsets are within the limit.
 pub join_near : (a b c d x y : ℤ) → AreOffsets a b → AreOffsets c d → x ≡ int_min a c → y ≡ int_max b d → AreOffsets x y
 join_near a b c d x y m n e f = record {
   low = omega (arith, ints, clamps, m.low, n.low);

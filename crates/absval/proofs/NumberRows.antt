@@ -13,7 +13,7 @@ abbrev pub AreNumbers : Option AbsVal → Type 0
 AreNumbers None = ⊥
 AreNumbers (Some e) = is_number e ≡ true
 
--- a join of numbers is of numbers
+-- A join is known to be a number if both values are.
 pub joined_numbers : (a b : AbsVal) → is_number (joined a b) ≡ false → (is_number a ≡ false) ⊎ (is_number b ≡ false)
 joined_numbers Unset b h = inl refl
 joined_numbers (Number m) Unset h = inr refl

@@ -1,4 +1,4 @@
--- The rows of the table of sets of numbers: what an operation leaves has each result, and is itself well formed.
+-- The set for an operation contains each result, and is well-formed.
 use Rattle.std.proofs.Common.{◌≡◌, ℕ, ◌-◌, ◌^◌, ◌<◌, ◌≤◌, min, max, Bool, true, false, refl, Option, Some, None, IfSome, subst, arith}
 use Rattle.std.specs.Prelude.{◌==◌, nat_le, bit_or, IsSomeAnd}
 use Rattle.std.proofs.lemmas.Bool.{eqb-true, eq-eqb, ne_eqb, leb-true, leb-false, le-leb}
@@ -27,7 +27,7 @@ use Rattle.bits.proofs.Laws.{unknown_has}
 use Rattle.bits.proofs.BitRows.{AreBits, single_bits, single_has, unknown_bits, used_bits, used_has, joined_bits, left_has, right_has, table_bits, table_has}
 use Rattle.std.proofs.lemmas.Bool.{and_parts}
 
--- an interval of words, and known bits
+-- A range of 64-bit numbers, and known bits.
 pub record IsSet (n : NumberSet) : Type 0 where
   pub ordered : n.range.0 ≤ n.range.1
   pub words : n.range.1 < 2 ^ 64
@@ -66,7 +66,7 @@ left_of a b x h k p = record { range = (omega (arith, p.range.0), omega (arith, 
 pub right_of : (a b : NumberSet) (x : ℕ) → IsSet a → IsSet b → Has b x → Has (joined a b) x
 right_of a b x h k p = record { range = (omega (arith, p.range.0), omega (arith, p.range.1)); bits = right_has a.bits b.bits x h.bits k.bits p.bits }
 
--- ---- an interval and bits that tell of each other
+-- ---- a range and known bits that narrow each other
 
 abbrev SomeHas : Option NumberSet → ℕ → Type 0
 SomeHas o x = IsSomeAnd o (λ n. Has n x)
@@ -111,7 +111,8 @@ settled_set p b bits le h = by_answer (reduced p b) (reduced_set p b bits le h)
 
 -- ---- operations
 
--- an interval of a width and the unknown bits of the width do not contradict each other: one number has all its bits known
+-- A range of a width and the unknown bits of this width do not contradict each other: if it has one number, all bits
+-- are known.
 one_number : (w : Width) (n : ℕ) → n < 2 ^ bits_of w → settled (n, n) (unknown w) ≡ single n
 unfolding settled
 one_number w n h =
@@ -126,7 +127,7 @@ greatest_unknown : (w : Width) → bit_or 0 (2 ^ bits_of w - 1) ≡ 2 ^ bits_of 
 greatest_unknown W32 = refl
 greatest_unknown W64 = refl
 
--- and several keep their ends
+-- If it has several numbers, its ends are unchanged.
 pub ends_settled : (w : Width) (p : ℕ × ℕ) → (p.0 ≡ p.1 → ⊥) → p.0 ≤ p.1 → p.1 < 2 ^ bits_of w → settled p (unknown w) ≡ record { range = p; bits = unknown w }
 unfolding settled
 ends_settled w p ne le h =
@@ -141,7 +142,7 @@ word_of : (w : Width) (n : ℕ) → n < 2 ^ bits_of w → n < 2 ^ 64
 word_of W32 n h = omega arith
 word_of W64 n h = h
 
--- an interval that holds something is one of words
+-- A range with at least one number is one of 64-bit numbers.
 held_set : (w : Width) (p b : ℕ × ℕ) (z : ℕ) → AreBits b → Holds (2 ^ bits_of w) p z → IsSet (settled p b)
 held_set w p b z bits h = settled_set p b bits (omega (arith, h.0.0, h.0.1)) (word_of w p.1 h.1)
 
@@ -174,7 +175,7 @@ copies_of w a x h p =
     settled_has (range.low w a.range.0 a.range.1) (known.used w a.bits) (taken w x) (used_bits w a.bits h.bits)
     (low_holds w a.range.0 a.range.1 x h.words p.range).0 (used_has w a.bits x p.bits)
 
--- whatever bits a result of the width has
+-- The same whatever bits a result of the width has.
 free_has : (w : Width) (p : ℕ × ℕ) (z : ℕ) → Holds (2 ^ bits_of w) p z → Has (settled p (unknown w)) z
 free_has w p z h = settled_has p (unknown w) z (unknown_bits w) h.0 (unknown_has w z (below_of (2 ^ bits_of w) p z h))
 
@@ -201,7 +202,7 @@ swaps_set order size a h =
 pub swaps_of : (order : ByteOrder) (size : SwapSize) (a : NumberSet) (x : ℕ) → IsSet a → Has a x → Has (swaps order size a) (swapped order size x)
 swaps_of order size a x h p = free_has W64 (range.swaps order size a.range.0 a.range.1) (swapped order size x) (swaps_hold order size a.range.0 a.range.1 x p.range)
 
--- ---- edges
+-- ---- conditional jumps
 
 abbrev pub AreSets : Option (NumberSet × NumberSet) → Type 0
 AreSets None = Unit {0}

@@ -1,4 +1,4 @@
--- The rows of the table of values: what is known of a result holds of it, and there is one.
+-- What is known of a result is true of it, and there is a result.
 use Rattle.std.proofs.Common.{◌≡◌, ◌∙◌, ℕ, ℤ, pos, negsuc, ◌^◌, ◌<◌, ◌≤◌, Bool, true, false, Option, Some, None, Result, Ok, Err, IfSome, refl, sym, subst, arith}
 use Rattle.std.specs.Prelude.{◌+ℤ◌, ◌-ℤ◌, ◌≤ℤ◌, ◌&&◌, int_le, nat_lt, nat_le, if◌then◌else◌, option_map, option_and_then}
 use Rattle.std.specs.Int.{w64, cast_signed, int_min, int_max}
@@ -32,13 +32,13 @@ use Rattle.absval.proofs.Sets.{all_numbers}
 use Rattle.absval.specs.declared.value.AbsVal.TheVariants.{Unset, Number, Pointer}
 use Rattle.absval.specs.declared.value.AbsVal.{AbsVal}
 
--- its numbers are a set
+-- The numbers of the abstract value are a set.
 abbrev pub IsWell : AbsVal → Type 0
 IsWell Unset = Unit {0}
 IsWell (Number numbers) = IsSet numbers
 IsWell (Pointer region offsets) = Unit {0}
 
--- what is known of a result, if it is admitted: it is well formed, and there is a result that it holds of
+-- What is known of a result, if the operation is allowed: it is well-formed, and there is a result of which it is true.
 abbrev pub Makes : Option AbsVal → Result Value Cause → Type 0
 Makes o r = IfSome o (λ e. Gives e r)
 
@@ -47,7 +47,7 @@ MeantIf o = IfSome o IsWell
 
 -- ---- pointers and numbers
 
--- numbers in a row, read as signed
+-- Numbers of a range, read as signed.
 row_low : (l h m : ℕ) → l ≤ m → m ≤ h → h < 2 ^ 63 → (pos l ≤ℤ cast_signed w64 m) × (cast_signed w64 m ≤ℤ pos h)
 row_low l h m p q k = (grind (arith, ints), grind (arith, ints))
 
@@ -83,7 +83,7 @@ if_true : (t : Bool) (a b : Result Value Cause) → t ≡ true → (if t then a 
 if_true true a b e = refl
 if_true false a b e = cc
 
--- a pointer between two offsets that are near is near
+-- A pointer between two offsets within the limit is within the limit.
 near_gives : (region other : Region) (o : ℤ × ℤ) (z : ℤ) → other ≡ region → Between o z → IfSome (near o) (λ n. Gives (Pointer region n) (pointed other z))
 near_gives region other o z same p =
     by_test (λ (s : Option (ℤ × ℤ)). IfSome s (λ n. Gives (Pointer region n) (pointed other z))) (is_near o.0 && is_near o.1) _ _
@@ -104,7 +104,7 @@ sum_between a b c d y z p q r s = (omega (arith, ints), omega (arith, ints))
 difference_between : (a b c d y z : ℤ) → a ≤ℤ y → y ≤ℤ b → c ≤ℤ z → z ≤ℤ d → ((a -ℤ d) ≤ℤ (y -ℤ z)) × ((y -ℤ z) ≤ℤ (b -ℤ c))
 difference_between a b c d y z p q r s = (omega (arith, ints), omega (arith, ints))
 
--- where the pointer may go, if it may
+-- Where the pointer may lead, if it may be moved.
 abbrev Goes : Width → Operation → Region → ℤ × ℤ → ℤ × ℤ → Region → ℤ → ℕ → Type 0
 Goes w operation region o by other z m = IfSome (displaced w operation o by) (λ n. Gives (Pointer region n) (moved w operation other z m))
 

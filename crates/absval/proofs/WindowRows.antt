@@ -1,4 +1,4 @@
--- Windows that are known.
+-- Windows of accesses.
 use Rattle.std.proofs.Common.{◌≡◌, ◌∙◌, ℕ, ℤ, pos, negsuc, ◌+◌, ◌-◌, ◌≤◌, Option, IfSome, refl, sym, ap, arith}
 use Rattle.std.specs.Prelude.{◌+ℤ◌, ◌≤ℤ◌, ◌&&◌, nat_le}
 use Rattle.std.proofs.lemmas.Int.{ints}
@@ -10,11 +10,12 @@ use Rattle.absval.specs.declared.windows.Window.{Window}
 use Rattle.absval.specs.Windows.{base_of, LiesIn, between, window_known}
 use Rattle.absval.proofs.Inside.{window_lies}
 
--- each access at these offsets lies in the window
+-- Each access at these offsets is in the window.
 abbrev pub Lies : Region → ℤ → ℤ → ℤ → ℕ → ℕ → ℕ → Type 0
 Lies region low high distance first total size = (o : ℤ) → low ≤ℤ o → o ≤ℤ high → LiesIn first total size (window region (o +ℤ distance) size)
 
--- the window lies in its region, each access at these offsets in the window, and it begins and ends where the first and the last of them do
+-- The window is in its region and contains each access at these offsets, and it begins and ends where the first and the
+-- last of them do.
 pub record IsWindow (region : Region) (low high distance : ℤ) (size : ℕ) (w : Window) : Type 0 where
   pub fits : w.place + w.size ≤ room_of region
   pub lies : Lies region low high distance w.place w.size size
@@ -42,7 +43,7 @@ between_is region low high distance size (negsuc m) (negsuc n) e f = tt
 pub window_is : (region : Region) (low high distance : ℤ) (size : ℕ) → IfSome (window_known region low high distance size) (IsWindow region low high distance size)
 window_is region low high distance size = between_is region low high distance size _ _ refl refl
 
--- one offset leaves the window as wide as the access
+-- If there is only one offset, the window is as wide as the access.
 pub one_wide : (region : Region) (low high distance : ℤ) (size : ℕ) (w : Window) → IsWindow region low high distance size w → low ≡ high → w.size ≡ size
 one_wide region low high distance size w h same =
     let e = h.least in

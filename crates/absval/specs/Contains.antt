@@ -9,7 +9,7 @@ use Rattle.absval.specs.NumberSets.{Has}
 use Rattle.absval.specs.declared.value.AbsVal.{AbsVal}
 use Rattle.absval.specs.declared.value.AbsVal.TheVariants.{Unset, Number, Pointer}
 
--- States that the value is a number of the set.
+-- States that the value is a number in the set.
 abbrev pub IsNumberOf : NumberSet → Value → Type 0
 IsNumberOf numbers value.Unset = ⊥
 IsNumberOf numbers (value.Number n) = Has numbers n
@@ -21,13 +21,13 @@ IsPointerIn region low high value.Unset = ⊥
 IsPointerIn region low high (value.Number n) = ⊥
 IsPointerIn region low high (value.Pointer other offset) = (other ≡ region) × (low ≤ℤ offset) × (offset ≤ℤ high)
 
--- States that the value is one that the abstract value contains.
+-- States that the abstract value contains the value. `Unset` contains every value.
 abbrev pub Contains : AbsVal → Value → Type 0
 Contains Unset v = Unit {0}
 Contains (Number numbers) v = IsNumberOf numbers v
 Contains (Pointer region offsets) v = IsPointerIn region offsets.0 offsets.1 v
 
--- States that there is a result, and the abstract value contains it.
+-- States that a step has a result, and that the abstract value contains it.
 abbrev pub Gives : AbsVal → Result Value Cause → Type 0
 Gives a (Ok v) = Contains a v
 Gives a (Err cause) = ⊥

@@ -10,7 +10,7 @@ pub record IsOffset (offset : ℤ) : Type 0 where
   pub low : negsuc 65535 ≤ℤ offset
   pub high : offset ≤ℤ pos 65536
 
--- States that the least offset is at most the greatest one, and that both are from -65,536 to 65,536.
+-- States that the least offset is at most the greatest, and that both are from -65,536 to 65,536.
 pub record AreOffsets (least greatest : ℤ) : Type 0 where
   pub low : negsuc 65535 ≤ℤ least
   pub ordered : least ≤ℤ greatest

@@ -1,4 +1,4 @@
-//! Abstract values of immediate numbers and of loads, and joins of abstract values.
+//! Returns what is known of immediate numbers and of loaded numbers, and joins what is known on two paths.
 ghost use Rattle.std.specs.Prelude.{◌≡◌, ◌≤◌, ◌<◌, ◌^◌, ◌-◌, ◌≤ℤ◌, ℕ};
 ghost use Rattle.std.specs.Int.{w64, cast_unsigned};
 ghost use Rattle.insn.specs.Insn.{bytes_of};
@@ -12,7 +12,7 @@ use insn::Size;
 use range::Range;
 use semantics::Region;
 
-/// Returns the abstract value of an immediate number, which is sign-extended to 64 bits.
+/// Returns what is known of an immediate number, sign-extended to 64 bits: it is exactly one number.
 pub fn immediate(n: i32) -> AbsVal
     ensures holds { Contains result (Value.Number (cast_unsigned w64 n)) }
     ensures exact { result ≡ immediate_known n }
@@ -20,7 +20,7 @@ pub fn immediate(n: i32) -> AbsVal
     AbsVal::Number(NumberSet::exactly(i64::from(n).cast_unsigned()))
 }
 
-/// Returns the abstract value of a number loaded from 1, 2, 4 or 8 bytes: any number of that size.
+/// Returns what is known of a number loaded from 1, 2, 4 or 8 bytes: it is any number of this size.
 pub fn loaded(size: Size) -> AbsVal
     ensures holds { (n : ℕ) → n < 256 ^ bytes_of size → Contains result (Value.Number n) }
     ensures exact { result ≡ loaded_known size }
@@ -28,7 +28,7 @@ pub fn loaded(size: Size) -> AbsVal
     AbsVal::Number(NumberSet::within(numbers_of(size)))
 }
 
-/// Returns the range of the numbers of 1, 2, 4 or 8 bytes.
+/// Returns the range of the unsigned numbers of 1, 2, 4 or 8 bytes, such as 0 to 255.
 fn numbers_of(size: Size) -> Range
     ensures high { (n : ℕ) → n < 256 ^ bytes_of size → n ≤ result.1 }
     ensures low { result.0 ≡ 0 }
@@ -43,7 +43,7 @@ fn numbers_of(size: Size) -> Range
     Range { lo: 0, hi }
 }
 
-/// Joins two abstract values: the result contains every value that one of them contains.
+/// Joins what is known of a value on two paths: the result contains every value that `a` or `b` contains.
 pub fn join(a: AbsVal, b: AbsVal) -> AbsVal
     ensures left { (v : Value) → Contains a v → Contains result v }
     ensures right { (v : Value) → Contains b v → Contains result v }
@@ -56,7 +56,7 @@ pub fn join(a: AbsVal, b: AbsVal) -> AbsVal
     }
 }
 
-/// Joins a set of numbers with an abstract value. The result is unset if the other is not a set of numbers.
+/// Joins a set of numbers with an abstract value. Returns `Unset`, which says nothing, if `b` is not a set of numbers.
 fn join_number(m: NumberSet, b: AbsVal) -> AbsVal
     ensures left { (v : Value) → IsNumberOf m v → Contains result v }
     ensures right { (v : Value) → Contains b v → Contains result v }
@@ -68,8 +68,8 @@ fn join_number(m: NumberSet, b: AbsVal) -> AbsVal
     }
 }
 
-/// Joins pointers into a region with an abstract value. The result is unset if the other is not a pointer into the same
-/// region.
+/// Joins a pointer into a region with an abstract value. Returns `Unset`, which says nothing, if `b` is not a pointer
+/// into the same region.
 fn join_pointer(region: Region, m: Offsets, b: AbsVal) -> AbsVal
     ensures left { (v : Value) → IsPointerIn region m.0 m.1 v → Contains result v }
     ensures right { (v : Value) → Contains b v → Contains result v }
@@ -85,7 +85,7 @@ fn join_pointer(region: Region, m: Offsets, b: AbsVal) -> AbsVal
     }
 }
 
-/// Returns the offsets from the least of both to the greatest of both.
+/// Returns the offsets from the least in both ranges to the greatest in both.
 fn joined(m: Offsets, n: Offsets) -> Offsets
     ensures low_left { result.0 ≤ℤ m.0 }
     ensures low_right { result.0 ≤ℤ n.0 }

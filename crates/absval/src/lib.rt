@@ -1,5 +1,5 @@
-//! Abstract values, which say what the verifier knows of a value: nothing, a number in a range with known bits, or a
-//! pointer with its offsets in a range.
+//! Abstract values. They say what the verifier knows of a value: nothing, that it is a number in a range and with
+//! certain bits, or that it is a pointer with an offset in a range.
 #![tactic(auto)]
 
 mod joins;

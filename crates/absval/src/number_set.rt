@@ -1,4 +1,4 @@
-//! Sets of numbers, which say what is known of a number: a range that it lies in, and known bits.
+//! Sets of numbers, which say what is known of a number: the range that contains it, and some of its bits.
 ghost use Rattle.std.specs.Prelude.{◌≡◌, ◌≤◌, ◌<◌, ◌^◌, ℕ, IsTrue, IsSomeAnd, false};
 ghost use Rattle.word.specs.Arithmetic.{arithmetic, bits_of, taken, negated, sign_extended, swapped, compared};
 ghost use Rattle.range.specs.Interval.{IsIn};
@@ -12,7 +12,7 @@ use range::{Range, edges, operations as ranges, unary_operations, width as width
 use std::marker::Model;
 use word::{ByteOrder, Condition, Narrow, Operation, SwapSize, Width};
 
-/// The numbers of a range that have certain known bits.
+/// A set of numbers: those in a range that have certain known bits.
 #[derive(Clone, Copy)]
 pub struct NumberSet {
     range: Range,
@@ -30,7 +30,7 @@ impl Model for NumberSet {
 }
 
 impl NumberSet {
-    /// Returns the number set that contains only `n`.
+    /// Returns the set that contains only `n`.
     pub fn exactly(n: u64) -> NumberSet
         ensures exact { result ≡ single n }
         ensures holds { Has result n }
@@ -41,7 +41,7 @@ impl NumberSet {
         }
     }
 
-    /// Returns the number set that contains all numbers of `range`. None of their bits is known.
+    /// Returns the set that contains all numbers of `range`. None of their bits is known.
     pub fn within(range: Range) -> NumberSet
         ensures exact { result ≡ within range }
         ensures holds { (x : ℕ) → IsIn range.0 range.1 x → Has result x }
@@ -53,7 +53,7 @@ impl NumberSet {
         }
     }
 
-    /// Returns the set of all words.
+    /// Returns the set of all 64-bit numbers.
     pub fn any() -> NumberSet
         ensures exact { result ≡ any }
         ensures holds { (x : ℕ) → x < 2 ^ 64 → Has result x }
@@ -64,7 +64,7 @@ impl NumberSet {
         }
     }
 
-    /// Returns the range that the numbers lie in.
+    /// Returns the range of the set, which contains all its numbers.
     pub fn range(self) -> Range
         ensures exact { result ≡ self.range }
         ensures holds { (x : ℕ) → Has self x → IsIn result.0 result.1 x }
@@ -72,7 +72,7 @@ impl NumberSet {
         self.range
     }
 
-    /// Returns the known bits of the numbers.
+    /// Returns the bits that are known of all numbers in the set.
     pub fn bits(self) -> Bits
         ensures exact { result ≡ self.bits }
         ensures holds { (x : ℕ) → Has self x → HasBits result x }
@@ -88,7 +88,7 @@ impl NumberSet {
         self.range.hi
     }
 
-    /// Checks whether the range has only one number.
+    /// Checks whether the set's range has only one number.
     pub fn is_one(self) -> bool
         ensures exact { result ≡ is_one self }
         ensures holds { (x : ℕ) → IsTrue result → Has self x → x ≡ greatest self }
@@ -96,8 +96,8 @@ impl NumberSet {
         self.range.is_single()
     }
 
-    /// Returns the ends of the range as signed numbers, if all its numbers are below 2^63 or none is. Otherwise returns
-    /// `None`.
+    /// Returns the ends of the set's range as signed numbers. Returns `None` if the range contains both 2^63 - 1 and
+    /// 2^63, at which the sign changes.
     pub fn as_signed(self) -> Option<(i64, i64)>
         ensures { result ≡ in_a_row self.range }
     {
@@ -105,8 +105,8 @@ impl NumberSet {
         Some((row.low, row.high))
     }
 
-    /// Returns a number set that contains every number of both sets. The ranges and the known bits are joined
-    /// separately, so the result may contain further numbers.
+    /// Joins two sets: returns one that contains all numbers of both. Range and known bits are joined separately, so
+    /// the result may contain other numbers too.
     pub fn join(self, other: NumberSet) -> NumberSet
         ensures exact { result ≡ joined self other }
         ensures left { (x : ℕ) → Has self x → Has result x }
@@ -118,7 +118,7 @@ impl NumberSet {
         }
     }
 
-    /// Returns the set of an operation's results for a number of `a` and one of `b`.
+    /// Returns a set that contains all results of an operation on a number of `a` and a number of `b`.
     #[inline(always)]
     pub fn operate(width: Width, operation: Operation, a: NumberSet, b: NumberSet) -> NumberSet
         ensures exact { result ≡ table width operation a b }
@@ -132,7 +132,7 @@ impl NumberSet {
         settle(range, bits)
     }
 
-    /// Returns the set of the low bits that operations of a width use.
+    /// Returns a set that contains the low bits of all numbers of this set: 32 or 64, as the width says.
     pub fn low_bits(self, width: Width) -> NumberSet
         ensures exact { result ≡ copies width self }
         ensures holds { (x : ℕ) → Has self x → Has result (taken width x) }
@@ -143,7 +143,7 @@ impl NumberSet {
         )
     }
 
-    /// Returns the set of the negated numbers.
+    /// Returns a set that contains the negations of all numbers of this set.
     pub fn negate(self, width: Width) -> NumberSet
         ensures exact { result ≡ negations width self }
         ensures holds { (x : ℕ) → Has self x → Has result (negated width x) }
@@ -152,7 +152,8 @@ impl NumberSet {
         whatever_bits(width, range)
     }
 
-    /// Returns the set of the numbers after their low 8, 16 or 32 bits are sign-extended.
+    /// Returns a set that contains all numbers of this set after their low 8, 16 or 32 bits are sign-extended to the
+    /// width.
     pub fn sign_extend(self, width: Width, part: Narrow) -> NumberSet
         ensures exact { result ≡ extensions width part self }
         ensures holds { (x : ℕ) → Has self x → Has result (sign_extended width part x) }
@@ -161,7 +162,7 @@ impl NumberSet {
         whatever_bits(width, range)
     }
 
-    /// Returns the set of the numbers after their low 2, 4 or 8 bytes are put in an order.
+    /// Returns a set that contains all numbers of this set after their low 2, 4 or 8 bytes are put in this order.
     pub fn swap(self, order: ByteOrder, size: SwapSize) -> NumberSet
         ensures exact { result ≡ swaps order size self }
         ensures holds { (x : ℕ) → Has self x → Has result (swapped order size x) }
@@ -170,8 +171,8 @@ impl NumberSet {
         whatever_bits(Width::W64, range)
     }
 
-    /// Returns what remains of two sets if a jump on a condition is taken, or is not taken. Returns `None` if no pair
-    /// of their numbers takes that edge.
+    /// Narrows two sets of compared numbers to the case that the condition holds (`taken`) or does not hold. Returns
+    /// the sets that remain, or `None` if no pair of the numbers makes this case possible.
     #[inline(always)]
     pub fn refine(
         width: Width,
@@ -193,9 +194,9 @@ impl NumberSet {
     }
 }
 
-/// Returns the numbers of a range that have certain known bits, with each refined once by the other. If the range has
-/// one number, all bits are known. Otherwise the ends are cut to the least and the greatest number that the bits allow.
-/// Returns `None` if there is no such number.
+/// Returns the set of the numbers in `range` with the known bits `bits`, with one narrowed by the other. If the range
+/// has one number, all its bits are known. Otherwise the range is cut to the least and the greatest number with these
+/// bits. Returns `None` if the two contradict each other.
 #[inline(always)]
 fn reduce(range: Range, bits: Bits) -> Option<NumberSet>
     ensures exact { result ≡ reduced range bits }
@@ -215,7 +216,7 @@ fn reduce(range: Range, bits: Bits) -> Option<NumberSet>
     })
 }
 
-/// Returns the only number of a range, if it has the known bits.
+/// Returns the set of the only number in `range`, or `None` if it does not have the known bits `bits`.
 #[inline(always)]
 fn single_with(range: Range, bits: Bits) -> Option<NumberSet>
     requires { range.0 ≡ range.1 }
@@ -231,8 +232,8 @@ fn single_with(range: Range, bits: Bits) -> Option<NumberSet>
     })
 }
 
-/// Checks whether an operation computes known bits of its results from those of its operands. For the others, all bits
-/// of the width are unknown.
+/// Checks whether bits of an operation's result are computed from those of its operands. For other operations, no bit
+/// of the result is known.
 #[inline(always)]
 fn goes_bit_by_bit(operation: Operation) -> bool
     ensures { result ≡ false → (w : Width) (a b : ℕ × ℕ) → row w operation a b ≡ unknown w }
@@ -245,8 +246,7 @@ fn goes_bit_by_bit(operation: Operation) -> bool
     }
 }
 
-/// Returns the number set of an operation's results in `range`, of which no bit of the width is known. Such bits never
-/// contradict the range.
+/// Returns the set of the numbers in `range`, of which no bit within the width is known.
 #[inline(always)]
 fn whatever_bits(width: Width, range: Range) -> NumberSet
     requires { range.1 < 2 ^ bits_of width }
@@ -262,8 +262,8 @@ fn whatever_bits(width: Width, range: Range) -> NumberSet
     }
 }
 
-/// Returns the set of an operation's results from their range and known bits. If the two contradict each other, only
-/// the range is used.
+/// Returns the set of the numbers in `range` with the known bits `bits`. If the two contradict each other, only the
+/// range is used.
 fn settle(range: Range, bits: Bits) -> NumberSet
     ensures exact { result ≡ settled range bits }
     ensures holds { (x : ℕ) → IsIn range.0 range.1 x → HasBits bits x → Has result x }

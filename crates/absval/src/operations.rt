@@ -1,4 +1,5 @@
-//! Operations on abstract values: arithmetic on numbers and pointers, negation, sign extension and byte swaps.
+//! Operations on abstract values, which say what is known of a result: arithmetic on numbers and pointers, negation,
+//! sign extension and byte swaps.
 ghost use Rattle.std.specs.Prelude.{◌≡◌, ◌≢◌, ◌≤ℤ◌, ℕ, ℤ, IfSome};
 ghost use Rattle.word.specs.Arithmetic.{negated, sign_extended, swapped};
 ghost use Rattle.semantics.specs.declared.value.Value.{Value};
@@ -13,8 +14,8 @@ use crate::value::{AbsVal, Offsets};
 use semantics::Region;
 use word::{ByteOrder, Narrow, Operation, SwapSize, Width};
 
-/// Returns the abstract result of an operation on two abstract values. Returns `None` if an operand may be unset, or if
-/// the operation does not allow a pointer there.
+/// Returns what is known of an operation's result, from what is known of its operands. Returns `None` if an operand may
+/// be unset, or if the operation must not be used on a pointer.
 #[inline(always)]
 pub fn arithmetic(width: Width, operation: Operation, a: AbsVal, b: AbsVal) -> Option<AbsVal>
     ensures holds { IfSome result (λ r. (x y : Value) → Contains a x → Contains b y →
@@ -27,7 +28,8 @@ pub fn arithmetic(width: Width, operation: Operation, a: AbsVal, b: AbsVal) -> O
     combined(width, operation, a, b)
 }
 
-/// Returns the abstract result of a move, which reads only the second value.
+/// Returns what is known of a move's result, from what is known of the moved value. Returns `None` if the value may be
+/// unset, or is a pointer and the move has 32 bits.
 #[inline(always)]
 fn moved(width: Width, b: AbsVal) -> Option<AbsVal>
     ensures holds { IfSome result (λ r. (x y : Value) → Contains b y → Gives r (result_of width Operation.Move x y)) }
@@ -43,7 +45,8 @@ fn moved(width: Width, b: AbsVal) -> Option<AbsVal>
     }
 }
 
-/// Returns the abstract result of an operation that reads both values.
+/// Returns what is known of the result of an operation other than a move. Returns `None` if an operand may be unset, or
+/// if the operation must not be used on a pointer.
 #[inline(always)]
 fn combined(width: Width, operation: Operation, a: AbsVal, b: AbsVal) -> Option<AbsVal>
     requires { operation ≢ Operation.Move }
@@ -61,8 +64,8 @@ fn combined(width: Width, operation: Operation, a: AbsVal, b: AbsVal) -> Option<
     }
 }
 
-/// Returns the abstract pointer after a number is added to it or subtracted from it. No other operation allows a
-/// pointer as its first operand.
+/// Returns what is known of a pointer after a number is added or subtracted. Returns `None` for any other operation and
+/// for 32 bits, if the number may be above or below 0, or if the pointer may lead too far.
 fn shifted(
     width: Width,
     operation: Operation,
@@ -86,7 +89,7 @@ fn shifted(
     }
 }
 
-/// Returns the abstract result of negating a value, or `None` if the value may not be a number.
+/// Returns what is known of a value's negation, or `None` if the value may not be a number.
 pub fn negate(width: Width, a: AbsVal) -> Option<AbsVal>
     ensures holds { IfSome result (λ r. (x : Value) → Contains a x → Gives r (mapped (negated width) x)) }
     ensures exact { result ≡ negated_known width a }
@@ -97,7 +100,7 @@ pub fn negate(width: Width, a: AbsVal) -> Option<AbsVal>
     }
 }
 
-/// Returns the abstract result of sign-extending the low bits of a value, or `None` if the value may not be a number.
+/// Returns what is known of a value after its low bits are sign-extended, or `None` if the value may not be a number.
 pub fn sign_extend(width: Width, part: Narrow, a: AbsVal) -> Option<AbsVal>
     ensures holds { IfSome result (λ r. (x : Value) → Contains a x → Gives r (mapped (sign_extended width part) x)) }
     ensures exact { result ≡ extended_known width part a }
@@ -108,7 +111,7 @@ pub fn sign_extend(width: Width, part: Narrow, a: AbsVal) -> Option<AbsVal>
     }
 }
 
-/// Returns the abstract result of putting the low bytes of a value in an order, or `None` if the value may not be a
+/// Returns what is known of a value after its low bytes are put in this order, or `None` if the value may not be a
 /// number.
 pub fn swap(order: ByteOrder, size: SwapSize, a: AbsVal) -> Option<AbsVal>
     ensures holds { IfSome result (λ r. (x : Value) → Contains a x → Gives r (mapped (swapped order size) x)) }

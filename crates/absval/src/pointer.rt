@@ -1,4 +1,4 @@
-//! Pointer arithmetic: the offsets of a pointer after a range of numbers is added or subtracted.
+//! Pointer arithmetic: the offsets of a pointer after a number from a range is added or subtracted.
 ghost use Rattle.std.specs.Prelude.{pos, negsuc, ◌≡◌, ◌≤◌, ◌+ℤ◌, ◌-ℤ◌, ◌≤ℤ◌, ℕ, ℤ, IfSome, Some, None, if◌then◌else◌};
 ghost use Rattle.std.specs.Int.{w64, cast_signed};
 ghost use Rattle.absval.specs.Limits.{is_near, IsOffset};
@@ -8,7 +8,7 @@ use crate::value::{LIMIT, Offsets};
 use range::Range;
 use std::marker::Model;
 
-/// A range of numbers, read as signed.
+/// A range of signed numbers, both ends included.
 #[derive(Clone, Copy)]
 pub(crate) struct SignedRange {
     pub(crate) low: i64,
@@ -27,7 +27,8 @@ impl Model for SignedRange {
     ghost inverse = { λ v. record { low = v.0; high = v.1 } };
 }
 
-/// Returns the numbers of a range as signed, if they are consecutive as signed numbers too. Otherwise returns `None`.
+/// Returns a range with its numbers read as signed. Returns `None` if it contains both 2^63 - 1 and 2^63, at which the
+/// sign changes.
 pub(crate) fn as_signed(range: Range) -> Option<SignedRange>
     ensures holds { IfSome result (λ s. (n : ℕ) → range.0 ≤ n → n ≤ range.1 →
         (s.0 ≤ℤ cast_signed w64 n) × (cast_signed w64 n ≤ℤ s.1)) }
@@ -41,7 +42,7 @@ pub(crate) fn as_signed(range: Range) -> Option<SignedRange>
     Some(SignedRange { low, high })
 }
 
-/// Returns the offsets after the numbers are added to them, or `None` if a sum may not be from -65,536 to 65,536.
+/// Returns the offsets after numbers from `by` are added, or `None` if one may be below -65,536 or above 65,536.
 pub(crate) fn raised(offsets: Offsets, by: SignedRange) -> Option<Offsets>
     ensures holds { IfSome result (λ r. (o z : ℤ) → offsets.0 ≤ℤ o → o ≤ℤ offsets.1 → by.0 ≤ℤ z → z ≤ℤ by.1 →
         (r.0 ≤ℤ (o +ℤ z)) × ((o +ℤ z) ≤ℤ r.1)) }
@@ -52,8 +53,7 @@ pub(crate) fn raised(offsets: Offsets, by: SignedRange) -> Option<Offsets>
     Some(Offsets { low, high })
 }
 
-/// Returns the offsets after the numbers are subtracted from them, or `None` if a difference may not be from -65,536 to
-/// 65,536.
+/// Returns the offsets after numbers from `by` are subtracted, or `None` if one may be below -65,536 or above 65,536.
 pub(crate) fn lowered(offsets: Offsets, by: SignedRange) -> Option<Offsets>
     ensures holds { IfSome result (λ r. (o z : ℤ) → offsets.0 ≤ℤ o → o ≤ℤ offsets.1 → by.0 ≤ℤ z → z ≤ℤ by.1 →
         (r.0 ≤ℤ (o -ℤ z)) × ((o -ℤ z) ≤ℤ r.1)) }
@@ -64,7 +64,7 @@ pub(crate) fn lowered(offsets: Offsets, by: SignedRange) -> Option<Offsets>
     Some(Offsets { low, high })
 }
 
-/// Returns the sum of an offset and a number, or `None` if it is not from -65,536 to 65,536.
+/// Returns `offset` + `by`, or `None` if it is not from -65,536 to 65,536.
 fn sum(offset: i32, by: i64) -> Option<i32>
     ensures same { IfSome result (λ r. r ≡ offset +ℤ by) }
     ensures limits { IfSome result IsOffset }
@@ -73,7 +73,7 @@ fn sum(offset: i32, by: i64) -> Option<i32>
     within(i64::from(offset).checked_add(by)?)
 }
 
-/// Returns the difference of an offset and a number, or `None` if it is not from -65,536 to 65,536.
+/// Returns `offset` - `by`, or `None` if it is not from -65,536 to 65,536.
 fn difference(offset: i32, by: i64) -> Option<i32>
     ensures same { IfSome result (λ r. r ≡ offset -ℤ by) }
     ensures limits { IfSome result IsOffset }

@@ -1,4 +1,4 @@
-//! Abstract values, and the offsets that an abstract pointer may have.
+//! Abstract values, which say what the verifier knows of a value, and the offsets of pointers.
 ghost use Rattle.std.specs.Prelude.{◌≡◌};
 ghost use Rattle.std.specs.Ordering.{int_eq};
 
@@ -9,7 +9,7 @@ use std::marker::Model;
 /// The greatest distance of an offset from 0, in bytes.
 pub(crate) const LIMIT: i32 = 65_536;
 
-/// An offset that a pointer may have, from -65,536 to 65,536.
+/// A pointer's offset in bytes, from -65,536 to 65,536.
 #[derive(Clone, Copy)]
 pub struct Offset {
     pub at: i32,
@@ -28,7 +28,7 @@ impl Model for Offset {
     ghost inverse = { λ v. record { at = v } };
 }
 
-/// The offsets in bytes that a pointer may have, from `low` to `high`, both included. Both are from -65,536 to 65,536.
+/// A range of a pointer's possible offsets in bytes, both ends included. It is within -65,536 to 65,536.
 #[derive(Clone, Copy, PartialEq, Eq)]
 pub struct Offsets {
     pub low: i32,
@@ -49,7 +49,7 @@ impl Model for Offsets {
 }
 
 impl Offsets {
-    /// Returns the pair of bounds for a pointer whose offset is known exactly: both bounds are `offset`.
+    /// Returns the range that contains only `offset`.
     pub fn exactly(offset: Offset) -> Offsets
         ensures { result ≡ (offset, offset) }
     {
@@ -59,7 +59,7 @@ impl Offsets {
         }
     }
 
-    /// Returns the least of the offsets.
+    /// Returns the least offset in the range.
     pub fn least(self) -> Offset
         ensures { result ≡ self.0 }
     {
@@ -67,7 +67,7 @@ impl Offsets {
         Offset { at: self.low }
     }
 
-    /// Checks whether there is only one offset.
+    /// Checks whether the range has only one offset.
     pub fn is_one(self) -> bool
         ensures { result ≡ int_eq self.0 self.1 }
     {
@@ -78,10 +78,10 @@ impl Offsets {
 /// An abstract value: what the verifier knows of a value.
 #[derive(Clone, Copy)]
 pub enum AbsVal {
-    /// Nothing is known. The value may be unset, a number or a pointer.
+    /// Nothing is known: the value may be unset, a number or a pointer.
     Unset,
-    /// The value is a number of the set.
+    /// The value is a number in this set.
     Number(NumberSet),
-    /// The value is a pointer into the region, at one of the offsets.
+    /// The value is a pointer into this region, with one of these offsets.
     Pointer(Region, Offsets),
 }

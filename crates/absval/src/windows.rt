@@ -1,4 +1,4 @@
-//! Windows: the cells of the stack or context that an access by an abstract pointer may touch.
+//! Windows: the cells (bytes) of the stack or the context that an access may touch.
 ghost use Rattle.std.specs.Prelude.{pos, ◌≡◌, ◌≢◌, ◌+◌, ◌≤◌, ◌≤ℤ◌, ◌+ℤ◌, ℕ, ℤ, IfSome, IfNone};
 ghost use Rattle.semantics.specs.declared.value.Region.{Region};
 ghost use Rattle.semantics.specs.Memory.{window as window_at, room_of};
@@ -7,10 +7,10 @@ ghost use Rattle.absval.specs.Windows.{base_of, LiesIn, window_known};
 use crate::value::Offsets;
 use semantics::Region;
 
-/// A window: the consecutive cells that an access may touch.
+/// A window: consecutive cells (bytes) of a region that an access may touch.
 #[derive(Clone, Copy)]
 pub struct Window {
-    /// The place of the first cell.
+    /// The index of the first cell in its region.
     pub place: usize,
     /// The number of cells.
     pub size: usize,
@@ -27,15 +27,15 @@ fn room(region: Region) -> usize
     }
 }
 
-/// Returns the sum of an offset and a distance.
+/// Returns `offset` + `distance`.
 fn sum(offset: i32, distance: i16) -> i64
     ensures { result ≡ offset +ℤ distance }
 {
     i64::from(offset) + i64::from(distance)
 }
 
-/// Returns the place of the cell at an offset. The offset directly after the last cell has a place too. Returns `None`
-/// for any other offset outside the region.
+/// Returns the index of the cell at offset `at` of a region. The offset after the last cell has an index too. Returns
+/// `None` for other offsets outside the region.
 fn place_of(region: Region, at: i64) -> Option<usize>
     ensures place { IfSome result (λ n. pos n ≡ at +ℤ pos (base_of region)) }
     ensures none { IfNone result ((n : ℕ) → n ≤ room_of region → pos n ≢ at +ℤ pos (base_of region)) }
@@ -47,7 +47,8 @@ fn place_of(region: Region, at: i64) -> Option<usize>
     }
 }
 
-/// Returns the place at an offset of the stack, from -512 to 0.
+/// Returns the index of the stack cell at an offset from -512 to 0, or `None` for any other offset. The lowest cell has
+/// index 0.
 fn stack_place(at: i64) -> Option<usize>
     ensures place { IfSome result (λ n. pos n ≡ at +ℤ pos 512) }
     ensures none { IfNone result ((n : ℕ) → n ≤ 512 → pos n ≢ at +ℤ pos 512) }
@@ -59,7 +60,7 @@ fn stack_place(at: i64) -> Option<usize>
     Some((at + 512) as usize)
 }
 
-/// Returns the place at an offset of the context, from 0 to 4,096.
+/// Returns the index of the context byte at an offset from 0 to 4,096, or `None` for any other offset.
 fn context_place(at: i64) -> Option<usize>
     ensures place { IfSome result (λ n. pos n ≡ at +ℤ pos 0) }
     ensures none { IfNone result ((n : ℕ) → n ≤ 4096 → pos n ≢ at +ℤ pos 0) }
@@ -71,8 +72,8 @@ fn context_place(at: i64) -> Option<usize>
     Some(at as usize)
 }
 
-/// Returns the place of the cell at a distance from an offset. The offset directly after the last cell has a place too.
-/// Returns `None` for any other offset outside the region.
+/// Returns the index of the cell at `offset` + `distance` of a region. The offset after the last cell has an index too.
+/// Returns `None` for other offsets outside the region.
 fn place_at(region: Region, offset: i32, distance: i16) -> Option<usize>
     ensures place { IfSome result (λ n. pos n ≡ (offset +ℤ distance) +ℤ pos (base_of region)) }
     ensures none { IfNone result ((n : ℕ) → n ≤ room_of region → pos n ≢ (offset +ℤ distance) +ℤ pos (base_of region)) }
@@ -81,8 +82,8 @@ fn place_at(region: Region, offset: i32, distance: i16) -> Option<usize>
     place_of(region, sum(offset, distance))
 }
 
-/// Returns the window that an access of `size` bytes at a distance from a pointer may touch. Returns `None` if a cell
-/// of it may lie outside the region.
+/// Returns the window of an access of `size` bytes at `distance` from a pointer with these offsets: the cells that it
+/// may touch. Returns `None` if one of them may be outside the region.
 pub fn window_of(region: Region, offsets: Offsets, distance: i16, size: usize) -> Option<Window>
     requires { size ≤ 4096 }
     ensures exact { result ≡ window_known region offsets.0 offsets.1 distance size }
@@ -96,8 +97,8 @@ pub fn window_of(region: Region, offsets: Offsets, distance: i16, size: usize) -
     window_between(region, offsets.low, offsets.high, distance, size)
 }
 
-/// Returns the window that an access of `size` bytes at a distance from one offset touches. Returns `None` if a cell of
-/// it lies outside the region.
+/// Returns the window of an access of `size` bytes at `offset` + `distance`: the cells that it touches. Returns `None`
+/// if one of them is outside the region.
 fn window_at(region: Region, offset: i32, distance: i16, size: usize) -> Option<Window>
     requires { size ≤ 4096 }
     ensures exact { result ≡ window_known region offset offset distance size }
@@ -115,8 +116,8 @@ fn window_at(region: Region, offset: i32, distance: i16, size: usize) -> Option<
     Some(Window { place, size })
 }
 
-/// Returns the window that an access of `size` bytes at a distance from the offsets `low` to `high` may touch. Returns
-/// `None` if a cell of it may lie outside the region.
+/// Returns the window of an access of `size` bytes at `distance` from a pointer with an offset from `low` to `high`:
+/// the cells that it may touch. Returns `None` if one of them may be outside the region.
 fn window_between(region: Region, low: i32, high: i32, distance: i16, size: usize) -> Option<Window>
     requires { size ≤ 4096 }
     ensures exact { result ≡ window_known region low high distance size }

@@ -30,13 +30,13 @@ lands_at limit a b z e = by (nat_le a b) refl e
     by true le h = ahead a b limit z (nat_lt (b - a) limit) (grind (arith, nat_tests)) h
     by false gt h = behind a b limit z (nat_le (a - b) limit) (grind (arith, nat_tests)) h
 
--- a distance to a name, in its range
+-- The distance to a name is in its range.
 pub record Reaches (names : List (List ℕ × ℕ)) (unit : ℕ) (name : List ℕ) (distance : ℤ) : Type 0 where
   pub target : ℕ
   pub there : defined names name ≡ Some target
   pub lands : pos (unit + 1) +ℤ distance ≡ pos target
 
--- what was bound
+-- The value that was found before.
 given_name : (o : Option ℕ) (start : ℕ) (d : Number) → (o >>= λ target. Some (between start target)) ≡ Some d → (target : ℕ) × (o ≡ Some target) × (between start target ≡ d)
 given_name None start d h = absurd cc
 given_name (Some target) start d h = (target, refl, same_Some (between start target) d h)

@@ -14,7 +14,7 @@ use Rattle.asm.specs.Program.{Placed, Read, placed_units, units_in, line_read, r
 use Rattle.asm.specs.Laws.{IsFirstLine, IsMiscounted, IsFirstJump}
 use Rattle.asm.proofs.SaidLemmas.{held}
 
--- the first of these lines that has a fault, behind what was read
+-- The first of these lines that has a fault, after what was read.
 record FirstFrom (r : Read) (start : ℕ) (lines : List (List ℕ)) (e : AsmError) : Type 0 where
   front : List (List ℕ)
   line : List ℕ
@@ -28,7 +28,7 @@ record FirstFrom (r : Read) (start : ℕ) (lines : List (List ℕ)) (e : AsmErro
   own : line_read before number line ≡ Err fault
   is : e ≡ At fault number
 
--- one line more
+-- One more line.
 read_step : (r : Read) (start : ℕ) (line : List ℕ) (lines : List (List ℕ)) (e : AsmError) (o : Result Read AsmFault) → line_read r start line ≡ o
     → ((next : Read) → read_on next (start + 1) lines ≡ Err e → FirstFrom next (start + 1) lines e)
     → (at_line start o >>= λ next. read_on next (start + 1) lines) ≡ Err e → FirstFrom r start (line ∷ lines) e
@@ -76,7 +76,7 @@ read_stops_here line back r before start number fault same here own =
     let e : line_read r start line ≡ Err fault = subst Q here (subst P same own) in
     rw here (rw e refl)
 
--- a line with a fault, behind lines that have none
+-- A line with a fault, after lines without one.
 read_stops : (front : List (List ℕ)) (line : List ℕ) (back : List (List ℕ)) (r before : Read) (start number : ℕ) (fault : AsmFault)
     → read_on r start front ≡ Ok before → number ≡ start + length front → line_read before number line ≡ Err fault
     → read_on r start (front ++ line ∷ back) ≡ Err (At fault number)
@@ -87,7 +87,7 @@ read_stops (x ∷ xs) line back r before start number fault faultless counted ow
     let c : number ≡ start + 1 + length xs = omega (arith, counted) in
     rw next.1 (read_stops xs line back next.0 before (start + 1) number fault next.2 c own)
 
--- the first of these statements that has a fault, behind those that are done
+-- The first of these instructions that has a fault, after those that are finished.
 record JumpFrom (names : List (List ℕ × ℕ)) (unit : ℕ) (done : List Insn) (ps : List Placed) (e : AsmError) : Type 0 where
   front : List Placed
   jump : Placed
@@ -145,7 +145,7 @@ jump_stops_here names p back done unit place fault here own =
     let e : insn_of names unit p.source ≡ Err fault = subst P here own in
     rw e refl
 
--- a statement with a fault, behind those that have none
+-- An instruction with a fault, after some without one.
 jump_stops : (front : List Placed) (names : List (List ℕ × ℕ)) (p : Placed) (back : List Placed) (done before : List Insn) (unit place : ℕ) (fault : AsmFault)
     → insns_on names unit done front ≡ Ok before → place ≡ unit + sum_by placed_units front → insn_of names place p.source ≡ Err fault
     → insns_on names unit done (front ++ p ∷ back) ≡ Err (At fault p.line)
@@ -155,7 +155,7 @@ jump_stops (q ∷ qs) names p back done before unit place fault resolved counted
     let c : place ≡ unit + placed_units q + sum_by placed_units qs = omega (arith, counted, sum_by-cons placed_units q qs) in
     rw next.1 (jump_stops qs names p back (done ++ next.0 ∷ []) before (unit + placed_units q) place fault next.2 c own)
 
--- the first fault is that of a line, of the count, or of a jump
+-- The first fault is that of a line, of the number of units, or of a jump.
 by_line : (lines : List (List ℕ)) (fault : AsmFault) (number : ℕ) → FirstFrom nothing 1 lines (At fault number) → IsFirstLine lines fault number
 by_line lines fault number f = record {
   front = f.front;
@@ -211,7 +211,7 @@ pub said_only : (text : List ℕ) (fault : AsmFault) (number : ℕ) → said tex
 unfolding said
 said_only text fault number h = by_read (lines_of text) fault number (read_on nothing 1 (lines_of text)) refl h
 
--- each of them is said
+-- Each of these faults is reported.
 pub line_said : (text : List ℕ) (fault : AsmFault) (number : ℕ) → IsFirstLine (lines_of text) fault number → said text ≡ Err (At fault number)
 unfolding said
 line_said text fault number w =

@@ -8,7 +8,7 @@ use Rattle.text.specs.Options.{◌>>=◌}
 use Rattle.asm.specs.Helper.{helpers, place_in, helper_of}
 use Rattle.asm.specs.Laws.{HelpersAreNumbered}
 
--- the place of a word among names, counted from n
+-- The position of a word among names, counted from n.
 abbrev Stands : List ℕ → ℕ → List (List ℕ) → ℕ → Type 0
 Stands word n names m = (k : ℕ) × (slice_get names k ≡ Some word) × (m ≡ n + k)
 
@@ -39,7 +39,7 @@ some word = Some word
 is_word : (a b : List ℕ) → some a ≡ some b → a ≡ b
 is_word a b e = cc
 
--- no two of the names are the same
+-- No two of the names are the same.
 abbrev lack : List ℕ → List (List ℕ) → Bool
 lack word [] = true
 lack word (name ∷ names) = not (bytes_eq name word) && lack word names
@@ -57,7 +57,7 @@ other_at word (name ∷ names) (suc k) later l e =
     let parts = and_parts (not (bytes_eq name word)) (lack word names) l in
     other_at word names k later parts.1 e
 
--- so the first place of a name is where it stands
+-- So a name is found where it is.
 stands : (names : List (List ℕ)) (n k : ℕ) (word : List ℕ) → are_distinct names ≡ true → slice_get names k ≡ Some word → place_in word n names ≡ Some (n + k)
 stands [] n k word d e = absurd cc
 stands (name ∷ names) n zero word d e =

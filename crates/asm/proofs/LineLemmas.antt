@@ -11,13 +11,13 @@ closed_one : (text : List ℕ) → 0 < length text → closed (text ∷ []) ≡ 
 closed_one [] some = absurd (omega arith)
 closed_one (c ∷ cs) some = refl
 
--- no line feed stands in the text
+-- There is no line feed in the text.
 pub one_line : (text : List ℕ) → 0 < length text → IsSplitOnceResult 10 text None → lines_of text ≡ text ∷ []
 one_line text some split =
     let lacks = lacks_byte 10 text (split_parts 10 text None split (omega arith)) in
     ap closed (pieces-all feed text lacks) ∙ closed_one text some
 
--- the line before it, and the text behind it
+-- The line before it, and the text after it.
 pub cut_line : (text : List ℕ) (cut : Bor (List ℕ) × Bor (List ℕ)) → IsSplitOnceResult 10 text (Some cut) → lines_of text ≡ cut.0.now ∷ lines_of cut.1.now
 cut_line text cut split =
     let parts = split_parts 10 text (Some cut) split (omega arith) in

@@ -1,4 +1,4 @@
--- Each mnemonic's word is its own.
+-- No two mnemonics have the same text.
 use Rattle.std.proofs.Common.{◌≡◌, Some, refl}
 use Rattle.word.specs.declared.Width.TheVariants.{W32, W64}
 use Rattle.word.specs.declared.Operation.TheVariants as op

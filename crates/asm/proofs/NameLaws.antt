@@ -25,7 +25,7 @@ use Rattle.asm.proofs.DistanceLaws.{Reaches, reaches}
 use Rattle.asm.specs.Names.{name_in, goal_name, distance_in, IsDefinedAt, JumpsLeadToNames}
 use Rattle.asm.proofs.SaidLemmas.{bound, had, held, free}
 
--- ---- what gave a result
+-- ---- where a result comes from
 
 abbrev fine : {A E : Type 0} → A → Result A E
 fine a = Ok a
@@ -39,7 +39,7 @@ if_ok false r e a h = absurd cc
 
 -- ---- jumps
 
--- a statement that jumps to a name, with its distance
+-- A jump to a name, with its distance.
 pub record Jumps (names : List (List ℕ × ℕ)) (unit : ℕ) (name : List ℕ) (insn : Insn) : Type 0 where
   pub distance : ℤ
   pub far : distance_in insn ≡ Some distance
@@ -70,7 +70,7 @@ jumps_far names unit (Jump goal) name insn e h = ranged (2 ^ 15) names unit goal
 jumps_far names unit (LongJump goal) name insn e h = ranged (2 ^ 31) names unit goal name insns.LongJump insn e (λ z. refl) h
 jumps_far names unit (Branch width condition dst operand goal) name insn e h = ranged (2 ^ 15) names unit goal name (insns.Branch width condition dst operand) insn e (λ z. refl) h
 
--- an instruction takes the units of its statement
+-- An instruction takes the units of its statement.
 jump_units : (limit : ℕ) (names : List (List ℕ × ℕ)) (unit : ℕ) (goal : Goal) (make : ℤ → Insn) (insn : Insn) → ((z : ℤ) → units_of (make z) ≡ 1)
     → (ok_or (distance_of names unit goal) faults.Label >>= λ n. ok_or (signed_within limit n) faults.Range >>= λ distance. Ok (make distance)) ≡ Ok insn → units_of insn ≡ 1
 jump_units limit names unit goal make insn one h =
@@ -86,7 +86,7 @@ insn_units names unit (Branch width condition dst operand goal) insn h = jump_un
 
 -- ---- the instructions
 
--- what is done stays in front
+-- The finished instructions come first.
 done_first : (names : List (List ℕ × ℕ)) (ps : List Placed) (unit : ℕ) (done program : List Insn) → insns_on names unit done ps ≡ Ok program → (rest : List Insn) × (program ≡ done ++ rest)
 done_first names [] unit done program h = ([], sym (append-nil done ∙ same_ok done program h))
 done_first names (p ∷ ps) unit done program h =
@@ -94,7 +94,7 @@ done_first names (p ∷ ps) unit done program h =
     let more = done_first names ps (unit + placed_units p) (done ++ i.0 ∷ []) program i.2 in
     (i.0 ∷ more.0, more.1 ∙ append_assoc done (i.0 ∷ []) more.0)
 
--- a statement's instruction stands behind those of the statements before it
+-- An instruction comes after those before it.
 record Stands (names : List (List ℕ × ℕ)) (unit : ℕ) (done : List Insn) (front : List Placed) (p : Placed) (program : List Insn) : Type 0 where
   before : List Insn
   insn : Insn
@@ -142,7 +142,7 @@ found_there before insn rest unit e =
 
 -- ---- the names
 
--- a line that defines the name, behind what was read
+-- A line that defines the name, after what was read.
 record Found (r : Read) (start : ℕ) (lines : List (List ℕ)) (name : List ℕ) (unit : ℕ) : Type 0 where
   front : List (List ℕ)
   line : List ℕ
@@ -155,7 +155,7 @@ record Found (r : Read) (start : ℕ) (lines : List (List ℕ)) (name : List ℕ
   faultless : read_on r start front ≡ Ok before
   counted : unit ≡ units_in before
 
--- the line's own name, or one that was there
+-- The line's own name, or one that was defined before.
 record Own (r : Read) (line name : List ℕ) (unit : ℕ) : Type 0 where
   outline : Outline
   outlined : outline_of line ≡ Some outline

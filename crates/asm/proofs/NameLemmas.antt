@@ -1,4 +1,4 @@
--- A line of an instruction begins with a letter.
+-- The line of an instruction begins with a letter.
 use Rattle.std.proofs.Common.{◌≡◌, ◌<◌, ℕ, true, false, List, ◌∷◌, ◌++◌, length, refl, ap, ◌∙◌, arith}
 use Rattle.std.specs.Prelude.{◌==◌, codes}
 use Rattle.std.proofs.lemmas.Bool.Decides.{nat_tests}
@@ -17,7 +17,7 @@ use Rattle.asm.specs.Table.{operation_name, condition_name, order_name, width_na
 use Rattle.asm.specs.Printing.{word_of, operands_of, operands_text, insn_text}
 use Rattle.asm.specs.Reading.{is_dotted}
 
--- the text begins with a small letter
+-- The text begins with a small letter.
 pub record Begins (text : List ℕ) : Type 0 where
   pub first : ℕ
   pub rest : List ℕ
@@ -84,7 +84,7 @@ pub begins_insn : (insn : Insn) → Begins (insn_text insn)
 unfolding insn_text
 begins_insn insn = begins_more (name_of (word_of insn)) (operands_text (operands_of insn)) (begins_name (word_of insn))
 
--- a letter is no dot, and no white space
+-- A letter is not a dot, and not white space.
 letter_solid : (first : ℕ) → is_within 97 122 first ≡ true → is_stop Solid first ≡ true
 letter_solid first letter = grind (arith, nat_tests)
 

@@ -14,12 +14,12 @@ use Rattle.asm.specs.Number.{number_of, signed_within, bits_within}
 use Rattle.asm.specs.Operand.{signed_of}
 use Rattle.asm.specs.Printing.{signed_text}
 
--- a number as it is printed
+-- A number as it is printed.
 abbrev pub number_for : ℤ → Number
 number_for (pos n) = record { negative = false; magnitude = n }
 number_for (negsuc n) = record { negative = true; magnitude = suc n }
 
--- digits do not begin with a minus
+-- Digits do not begin with a minus.
 no_minus : (ds : List ℕ) → AreDigits ds → (get_or ds 0 0 == 45) ≡ false
 no_minus [] h = refl
 no_minus (c ∷ cs) h =
@@ -34,7 +34,7 @@ number_of-minus : (ds : List ℕ) (n : ℕ) → magnitude_of ds ≡ Some n → n
 unfolding number_of
 number_of-minus ds n h = rw h refl
 
--- the magnitude of a printed number is below 64 bits
+-- The magnitude of a printed number has fewer than 64 bits.
 abbrev pub IsSmall : ℤ → Type 0
 IsSmall (pos n) = n < 2 ^ 64
 IsSmall (negsuc n) = suc n < 2 ^ 64
@@ -55,7 +55,7 @@ pub bits_within-number : (n : ℕ) → n < 2 ^ 64 → bits_within (record { nega
 unfolding bits_within
 bits_within-number n lt = let e : nat_lt n (2 ^ 64) ≡ true = grind (arith, nat_tests) in rw e refl
 
--- what fits a signed type, by its magnitude
+-- What fits in a signed type, by its magnitude.
 abbrev pub FitsIn : ℕ → ℤ → Type 0
 FitsIn limit (pos n) = n < limit
 FitsIn limit (negsuc n) = suc n ≤ limit

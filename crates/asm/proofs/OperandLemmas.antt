@@ -39,17 +39,17 @@ register_of-text r le =
       | inr ge ↦ let ten : r ≡ 10 = omega arith in rw (ten, ten_text) register_ten
     ]
 
--- operands of arithmetic
+-- The operand of an arithmetic instruction, as it is read.
 raw_for : Operand → Raw
 raw_for (Register r) = raws.Register r
 raw_for (Immediate z) = raws.Number (number_for z)
 
--- digits do not begin with a greater byte
+-- Digits do not begin with a greater byte.
 first_is_not : (ds : List ℕ) (other : ℕ) → AreDigits ds → 57 < other → (0 == other) ≡ false → (get_or ds 0 0 == other) ≡ false
 first_is_not [] other h lt zero_is = zero_is
 first_is_not (c ∷ cs) other h lt zero_is = digit_is_not c other (and_parts (is_within 48 57 c) _ h).0 lt
 
--- a printed number does not begin with a register's letter
+-- A printed number does not begin with the letter of registers.
 no_register : (z : ℤ) → IsSmall z → (get_or (signed_decimal z) 0 0 == 114) ≡ false
 no_register (pos n) small = first_is_not (decimal n) 114 (digits-decimal n small) (omega arith) refl
 no_register (negsuc n) small = refl
@@ -60,7 +60,7 @@ letter_first (c ∷ cs) h =
     let first : is_within 48 57 c ≡ true = (and_parts (is_within 48 57 c) _ h).0 in
     grind (arith, nat_tests)
 
--- a printed number does not begin with a name's letter
+-- A printed number does not begin with a letter of names.
 pub no_letter : (z : ℤ) → IsSmall z → is_letter (get_or (signed_decimal z) 0 0) ≡ false
 no_letter (pos n) small = letter_first (decimal n) (digits-decimal n small)
 no_letter (negsuc n) small = refl
@@ -78,13 +78,13 @@ unfolding fitted
 operand_of-text (Register r) is = (raws.Register r, raw_of-register r is, refl)
 operand_of-text (Immediate z) is = (raws.Number (number_for z), raw_of-number z (small_32 z is), rw (within_32 z is) refl)
 
--- targets
+-- Jump targets.
 pub goal_of-text : (z : ℤ) → IsSmall z → goal_of (signed_text z) ≡ Some (Away (number_for z))
 unfolding goal_of
 goal_of-text (pos n) small = rw (signed_of-text (pos n) small) refl
 goal_of-text (negsuc n) small = rw (signed_of-text (negsuc n) small) refl
 
--- places
+-- Memory operands.
 inside_is : (whole text : List ℕ) (n : ℕ) → length whole ≡ n + 2 → get_or whole 0 0 ≡ 91 → get_or whole (n + 1) 0 ≡ 93 → take n (drop 1 whole) ≡ text → inside whole ≡ Some text
 inside_is whole text n len first last between =
     let long : nat_lt (length whole) 2 ≡ false = grind (arith, nat_tests) in

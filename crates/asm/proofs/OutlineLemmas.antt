@@ -1,4 +1,4 @@
--- A printed line has its outline, and says its instruction.
+-- A printed line is split correctly, and is read as its instruction.
 use Rattle.std.proofs.Common.{◌≡◌, ℕ, zero, suc, ◌-◌, Bool, true, false, List, [], ◌∷◌, ◌++◌, Option, Some, None, length, get_or, refl, ap, ◌∙◌, arith, append-nil}
 use Rattle.std.specs.Prelude.{Ok, not, ◌==◌, ◌&&◌, nat_lt, nat_le}
 use Rattle.std.specs.List.{list_all}
@@ -23,7 +23,7 @@ use Rattle.asm.proofs.TokenLemmas.{is_plain, IsPlain, ArePlain, plain_operands}
 use Rattle.asm.proofs.WordLemmas.{is_fine, is_fine-name}
 use Rattle.asm.proofs.WordsLemmas.{plain_blank, until_solid, line_words-text}
 
--- a byte of a line: visible or a space, no semicolon
+-- A byte of a line: visible or a space, and not a semicolon.
 abbrev pub in_line : ℕ → Bool
 in_line c = nat_le 32 c && nat_lt c 128 && not (c == 59)
 
@@ -53,7 +53,7 @@ line_operands (t ∷ ts) ps = all-append in_line t (more_text ts) (all-weaker is
 line_bytes : (w : List ℕ) (ts : List (List ℕ)) → IsPlain w → ArePlain ts → list_all in_line (w ++ operands_text ts) ≡ true
 line_bytes w ts p ps = all-append in_line w (operands_text ts) (all-weaker is_plain in_line plain_in_line w p.bytes) (line_operands ts ps)
 
--- no carriage return stands at the end
+-- There is no carriage return at the end.
 no_return : (xs : List ℕ) (k : ℕ) → list_all in_line xs ≡ true → (get_or xs k 0 == 13) ≡ false
 no_return [] k h = refl
 no_return (x ∷ xs) zero h = line_return x (and_parts (in_line x) _ h).0
@@ -62,7 +62,7 @@ no_return (x ∷ xs) (suc k) h = no_return xs k (and_parts (in_line x) _ h).1
 return_free : (line : List ℕ) → list_all in_line line ≡ true → without_return line ≡ line
 return_free line h = rw (no_return line (length line - 1) h) refl
 
--- the outline
+-- The parts of the line.
 not_less : (n : ℕ) → nat_lt n n ≡ false
 not_less n = grind (arith, nat_tests)
 
@@ -85,7 +85,7 @@ outline_of-text w ts word p ps =
     (until_solid w (operands_text ts) p.some p.bytes)
     (outlined-line line w ts (before_blank w ts p) (until-all colon w (all-weaker is_plain (λ c. not (is_stop colon c)) plain_colon w p.bytes)) (line_words-text w ts word p ps))
 
--- the word of an instruction
+-- The mnemonic of an instruction.
 fine_word : (w : List ℕ) → is_fine w ≡ true → is_word w ≡ true
 fine_word w h = (and_parts (nat_lt 0 (length w)) (is_word w) (and_parts (nat_lt 0 (length w) && is_word w) _ h).0).1
 

@@ -1,4 +1,4 @@
--- The text of bytes says those bytes.
+-- The text of bytes is assembled to these bytes.
 use Rattle.std.proofs.Common.{◌≡◌, ◌∙◌, ◌<◌, ◌+◌, ℕ, Bool, true, false, List, [], ◌∷◌, ◌++◌, length, refl, sym, ap, subst, append_assoc, append-nil, arith}
 use Rattle.std.specs.Prelude.{◌==◌, if◌then◌else◌, codes, Some, Result, Ok, Err, slice_index}
 use Rattle.std.specs.Result.{result_ok}
@@ -72,7 +72,7 @@ insn_says insn is =
 
 -- ---- a piece's line
 
--- what is said behind the semicolon has no line feed
+-- The comment has no line feed.
 left_lacks : (wide call small large : Bool) → Lacks feed
     (32 ∷ (codes "C6" ++ (if wide then codes " wide load" else if call then codes " call" else if small then codes " atomic32" else if large then codes " atomic64" else codes " packet")))
 left_lacks true call small large = refl
@@ -138,7 +138,7 @@ says_on (piece ∷ pieces) bytes done number small (rest, first, are) =
     ∙ (says_on pieces rest (done ++ own) (number + 1) both.1 are
     ∙ ap Ok (append_assoc done own rest ∙ ap (λ (b : List ℕ). done ++ b) (sym is))))
 
--- the text of bytes says them
+-- The text of bytes is assembled to them.
 pub says_again : (bytes text : List ℕ) → AreBytes bytes → IsTextOf bytes text → bytes_said text ≡ Ok bytes
 unfolding bytes_said
 says_again bytes text small (pieces, are, told) = ap (λ (t : List ℕ). bytes_on [] 1 (parts.lines_of t)) told ∙ says_on pieces bytes [] 1 small are

@@ -10,7 +10,7 @@ use Rattle.std.proofs.lemmas.Grind.{flat_map-append}
 use Rattle.asm.specs.Pieces.{Piece, Spelled, Raw, IsFirst, ArePieces}
 use Rattle.asm.specs.PieceText.{IsTextOf, piece_text, pieces_text}
 
--- these pieces stand before what is left, and the text is theirs
+-- These pieces come before the remaining bytes, and the text is theirs.
 pub record IsReadTo (bytes left text : List ℕ) (before : List Piece) : Type 0 where
   pub told : text ≡ pieces_text before
   pub onward : (more : List Piece) → ArePieces more left → ArePieces (before ++ more) bytes
@@ -48,14 +48,14 @@ raw_first bytes fault long found =
     let is : length (take 8 bytes) ≡ 8 = omega arith in
     (is, found, sym (take-append-drop 8 bytes))
 
--- one more piece
+-- One more piece.
 pub read_on : (bytes left rest text longer : List ℕ) (size : ℕ) → ((before : List Piece) × IsReadTo bytes left text before)
     → ((piece : Piece) × IsFirst left piece (drop size left) × (longer ≡ text ++ (piece_text piece ++ codes "\n"))) → rest ≡ drop size left
     → (before : List Piece) × IsReadTo bytes rest longer before
 read_on bytes left rest text longer size (before, read) (piece, first, added) is =
     (before ++ piece ∷ [], piece_read bytes left rest text longer before piece read (subst (λ (r : List ℕ). IsFirst left piece r) (sym is) first) added)
 
--- what is left has whole units
+-- The remaining bytes are whole units.
 pub whole_left : (left rest : List ℕ) (size : ℕ) → length left % 8 ≡ 0 → size % 8 ≡ 0 → size ≤ length left → rest ≡ drop size left → length rest % 8 ≡ 0
 whole_left left rest size whole units within is = let long = length-drop size left in let same : length rest ≡ length (drop size left) = ap length is in omega arith
 

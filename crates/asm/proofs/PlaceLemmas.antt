@@ -1,4 +1,4 @@
--- Where the statements that are kept are written.
+-- On which lines the stored instructions are written.
 use Rattle.std.proofs.Common.{◌≡◌, ◌≢◌, ◌∙◌, ◌≤◌, ℕ, List, [], ap, arith, refl, subst, sym}
 use Rattle.std.specs.Prelude.{Result, Ok, Err}
 use Rattle.std.specs.List.{flat_map}
@@ -24,7 +24,7 @@ places_read read kept places given all =
     let by_read : Result Read AsmError → Type 0 = λ x. AreWritten x places in
     subst by_read (sym given.1) (places_kept kept given.0 places given.2 all)
 
--- none of a text that has a fault
+-- There are none for a text with a fault.
 pub places_refused : (read : Result Read AsmError) (error : AsmError) (places : List (List ℕ)) → GivesGathered (Err error) read →
     error ≢ answers.Memory → places ≡ [] → AreWritten read places
 places_refused read (answers.At fault line) places given apart none =

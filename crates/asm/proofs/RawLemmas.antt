@@ -1,4 +1,4 @@
--- The line of a unit with which no instruction begins says its bytes.
+-- The line of a unit that cannot be decoded is assembled to its bytes.
 use Rattle.std.proofs.Common.{◌≡◌, ◌∙◌, ℕ, List, [], ◌∷◌, ◌++◌, length, refl, sym, ap, append_assoc}
 use Rattle.std.specs.Prelude.{not, codes, Ok}
 use Rattle.hex.specs.Hex.{encode_lower, lower_digits, decode_sized}
@@ -11,7 +11,7 @@ use Rattle.text.proofs.CutLemmas.{Lacks, before-append, from-append}
 use Rattle.asm.specs.Reading.{in_bytes, eight_of, unit_in, raw_in, line_bytes}
 use Rattle.asm.proofs.ByteLemmas.{AreBytes, is_bytes, digits_pass}
 
--- the digits are no white space, and no semicolon
+-- The digits are neither white space nor a semicolon.
 digits_lack_blank : (unit : List ℕ) → AreBytes unit → Lacks Blank (encode_lower unit)
 digits_lack_blank unit are = digits_pass (λ c. not (is_stop Blank c)) lower_digits unit refl refl are
 
@@ -21,7 +21,7 @@ digits_lack_semicolon unit are = digits_pass (λ c. not (is_stop semicolon c)) l
 digits_lack_feed : (unit : List ℕ) → AreBytes unit → Lacks feed (encode_lower unit)
 digits_lack_feed unit are = digits_pass (λ c. not (is_stop feed c)) lower_digits unit refl refl are
 
--- what stands before the comment
+-- The text before the comment.
 abbrev front : List ℕ → List ℕ
 front digits = codes ".unit 0x" ++ (digits ++ 32 ∷ [])
 
@@ -30,13 +30,13 @@ front_lacks digits lacks =
     all-append (λ c. not (is_stop semicolon c)) (codes ".unit 0x") (digits ++ 32 ∷ []) refl
     (all-append (λ c. not (is_stop semicolon c)) digits (32 ∷ []) lacks refl)
 
--- the comment is cut off
+-- The comment is cut off.
 cut_off : (digits comment : List ℕ) → Lacks semicolon digits → before semicolon (codes ".unit 0x" ++ (digits ++ 32 ∷ 59 ∷ comment)) ≡ front digits
 cut_off digits comment lacks =
     ap (λ (t : List ℕ). before semicolon (codes ".unit 0x" ++ t)) (sym (append_assoc digits (32 ∷ []) (59 ∷ comment)))
     ∙ before-append semicolon (front digits) 59 comment (front_lacks digits lacks) refl
 
--- white space behind the number
+-- White space after the number.
 unit_in-front : (number : List ℕ) → Lacks Blank number → unit_in (number ++ 32 ∷ []) ≡ eight_of number
 unit_in-front number lacks = rw (from-append Blank number 32 [] lacks refl, before-append Blank number 32 [] lacks refl) refl
 
@@ -52,7 +52,7 @@ raw_in-front digits = refl
 eight_of-digits : (digits : List ℕ) → eight_of (48 ∷ 120 ∷ digits) ≡ in_bytes (decode_sized digits 8)
 eight_of-digits digits = refl
 
--- the line says its bytes
+-- The line is assembled to its bytes.
 pub raw_says : (unit comment : List ℕ) → length unit ≡ 8 → AreBytes unit → line_bytes (codes ".unit 0x" ++ (encode_lower unit ++ 32 ∷ 59 ∷ comment)) ≡ Ok unit
 raw_says unit comment eight are =
     let digits : List ℕ = encode_lower unit in
@@ -63,7 +63,7 @@ raw_says unit comment eight are =
     ∙ (eight_of-digits digits
     ∙ ap in_bytes (decode_sized-encode_lower unit 8 eight (is_bytes unit are))))))
 
--- no line feed stands in it
+-- There is no line feed in it.
 pub raw_lacks_feed : (unit comment : List ℕ) → AreBytes unit → Lacks feed comment → Lacks feed (codes ".unit 0x" ++ (encode_lower unit ++ 32 ∷ 59 ∷ comment))
 raw_lacks_feed unit comment are lacks =
     all-append (λ c. not (is_stop feed c)) (codes ".unit 0x") (encode_lower unit ++ 32 ∷ 59 ∷ comment) refl

@@ -1,4 +1,4 @@
--- The text of a program says that program.
+-- The text of a program is assembled to this program.
 use Rattle.std.proofs.Common.{◌≡◌, ℕ, ◌+◌, ◌<◌, ◌≤◌, true, List, [], ◌∷◌, ◌++◌, Some, length, refl, sym, ap, ◌∙◌, arith, append_assoc, append-nil}
 use Rattle.std.specs.Prelude.{Ok, nat_lt, nat_le}
 use Rattle.std.specs.Result.{result_ok}
@@ -22,7 +22,7 @@ lines_of-text i is well =
     ap lines_of (append_assoc (insn_text i) (10 ∷ []) (text_of is))
     ∙ lines_first (insn_text i ++ 10 ∷ text_of is) (insn_text i) (text_of is) (insn_text i) (pieces-append feed (insn_text i) 10 (text_of is) (insn_lacks_feed i well) refl) (sym (without_return-insn i well))
 
--- the statements of a program's text, from this line on
+-- The instructions of a program's text, from this line on.
 abbrev placed : ℕ → List Insn → List Placed
 placed line [] = []
 placed line (i ∷ is) = (record { source = source_for i; line = line }) ∷ placed (line + 1) is

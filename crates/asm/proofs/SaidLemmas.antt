@@ -1,4 +1,4 @@
--- What a text says extends 32 bits at 64 alone.
+-- In the program of a text, 32 bits are sign-extended only to 64.
 use Rattle.std.proofs.Common.{◌≡◌, ℕ, ◌+◌, ◌<◌, ◌≤◌, Bool, true, false, cond, List, [], ◌∷◌, ◌++◌, Option, Some, None, map, get_or, length, refl, sym, subst}
 use Rattle.std.specs.Prelude.{Result, Ok, Err, is_some, slice_index, ◌^◌}
 use Rattle.std.specs.Option.{ok_or}
@@ -27,7 +27,7 @@ use Rattle.asm.specs.Keeping.{Keeps, AreWellKept}
 use Rattle.asm.specs.Program.{Placed, Read, with_name, with_source, with_words, with_line, line_read, read_on, nothing}
 use Rattle.asm.proofs.TableLaws.{mnemonic_read}
 
--- what is given is well
+-- An instruction that is read is well-formed.
 abbrev GivesWell : Result Source AsmFault → Type 0
 GivesWell (Err e) = Unit {0}
 GivesWell (Ok s) = IsWellSource s
@@ -40,7 +40,7 @@ either : (b : Bool) (x y : Result Source AsmFault) → GivesWell x → GivesWell
 either true x y p q = p
 either false x y p q = q
 
--- row by row: but for the extension of a sign, every instruction is
+-- For each mnemonic: all instructions but the sign extension always are.
 source_well : (m : Mnemonic) (os : List (List ℕ)) → IsMnemonic m → GivesWell (source_of m os)
 source_well (words.Arithmetic width operation) os well = after (two_of os) faults.Operand _ (λ o. after (register_of o.0) faults.Operand _ (λ dst. after (raw_of o.1) faults.Operand _ (λ raw. after (fitted raw) faults.Range _ (λ operand. tt))))
 source_well (words.Negate width) os well = after (one_of os) faults.Operand _ (λ a. after (register_of a) faults.Operand _ (λ dst. tt))
@@ -57,7 +57,7 @@ source_well (words.StoreNumber part) os well = after (two_of os) faults.Operand 
 source_well words.Call os well = after (one_of os) faults.Operand _ (λ a. either (is_letter (slice_index a 0)) _ _ (after (helper_of a) faults.Operand _ (λ helper. tt)) (after (number_of a) faults.Operand _ (λ n. after (signed_within (2 ^ 31) n) faults.Range _ (λ helper. tt))))
 source_well words.Exit os well = after (none_of os) faults.Operand _ (λ o. tt)
 
--- what gave the result
+-- The value from which the result comes.
 pub bound : {A B E : Type 0} (o : Result A E) (f : A → Result B E) (b : B) → (o >>= f) ≡ Ok b → (a : A) × (o ≡ Ok a) × (f a ≡ Ok b)
 bound (Err e) f b h = absurd cc
 bound (Ok a) f b h = (a, refl, h)
@@ -81,7 +81,7 @@ statement_well (word ∷ os) s h =
     let well : IsWellSource said.0 = subst GivesWell said.1 (source_well m.0 os (mnemonic_read word m.0 m.1).0) in
     subst IsWellSource (same_Some said.0 s (inside _ (Some said.0) (Some s) refl said.2)) well
 
--- all statements so far
+-- All instructions so far.
 abbrev pub IsWellPlaced : Placed → Type 0
 IsWellPlaced p = IsWellSource p.source
 
@@ -123,14 +123,14 @@ kept_well : (kepts : List Kept) → AllByRecursion IsWellPlaced (map kept_view k
 kept_well [] all = tt
 kept_well (k ∷ ks) all = (all.0, kept_well ks all.1)
 
--- what was read of a text
+-- What was read from a text.
 pub gathered_well : (kept : Reading) (texts : List (List ℕ)) (r : Read) → read_on nothing 1 texts ≡ Ok r → Keeps kept r → kept.units ≤ 4096 → AreWellKept kept.sources.items
 gathered_well kept texts r h k few = kept_well kept.sources.items (subst (AllByRecursion IsWellPlaced) (sym (k.sources few)) (read_well texts 1 nothing r h tt))
 
--- one of them
+-- One of these instructions.
 pub kept_well_at : (sources : List Kept) (i : ℕ) (k : Kept) → AreWellKept sources → i < length sources → k ≡ get_or sources i k → IsWellSource (kept_view k).source
 kept_well_at sources i k all lt at = subst (λ x. IsWellSource (kept_view x).source) (sym at) (all_at (λ x. IsWellSource (kept_view x).source) sources i k all lt)
 
--- one instruction more
+-- One more instruction.
 pub insns_well_pushed : (insns new : List Insn) (i : Insn) → AllByRecursion IsWell insns → IsWell i → new ≡ insns ++ i ∷ [] → AllByRecursion IsWell new
 insns_well_pushed insns new i all well e = subst (AllByRecursion IsWell) (sym e) (all_push IsWell insns i all well)

@@ -1,4 +1,4 @@
--- A part of the table outside of which no word begins more a word does.
+-- A section of the table outside of which no mnemonic begins as a word does.
 use Rattle.std.proofs.Common.{◌≡◌, ℕ, ◌<◌, Bool, true, false, cond, List, [], ◌∷◌, ◌++◌, Option, Some, length, get_or, take, drop, take-append-drop, nat_eq, refl, ap, sym, subst, ◌∙◌, arith}
 use Rattle.std.specs.Prelude.{not, ◌&&◌, ◌||◌}
 use Rattle.std.specs.Str.{bytes_eq}
@@ -6,7 +6,7 @@ use Rattle.std.proofs.lemmas.Bool.{and_parts}
 use Rattle.asm.specs.declared.mnemonic.Mnemonic.{Mnemonic}
 use Rattle.asm.specs.Table.{name_of, mnemonics, first_named, mnemonic_of}
 
--- the name does not begin with these letters
+-- The text does not begin with these letters.
 abbrev pub begins_otherwise : List ℕ → List ℕ → Bool
 begins_otherwise [] name = false
 begins_otherwise (c ∷ cs) [] = true
@@ -28,20 +28,20 @@ differs (a ∷ more) (c ∷ cs) rest h = differs_on (nat_eq a c) (begins_otherwi
 passed : (b : Bool) (m : Mnemonic) (found : Option Mnemonic) → b ≡ false → cond b (Some m) found ≡ found
 passed b m found h = ap (λ t. cond t (Some m) found) h
 
--- those before are passed
+-- The mnemonics before the section are skipped.
 behind : (p rest : List ℕ) (before ms : List Mnemonic) → all_otherwise p before ≡ true → first_named (p ++ rest) (before ++ ms) ≡ first_named (p ++ rest) ms
 behind p rest [] ms h = refl
 behind p rest (m ∷ more) ms h =
     passed (bytes_eq (name_of m) (p ++ rest)) m _ (differs (name_of m) p rest (and_parts (begins_otherwise p (name_of m)) _ h).0) ∙ behind p rest more ms (and_parts (begins_otherwise p (name_of m)) _ h).1
 
--- and none of those after is found
+-- None of those after it is found.
 within : (p rest : List ℕ) (ms after : List Mnemonic) → all_otherwise p after ≡ true → first_named (p ++ rest) (ms ++ after) ≡ first_named (p ++ rest) ms
 within p rest [] [] h = refl
 within p rest [] (m ∷ more) h =
     passed (bytes_eq (name_of m) (p ++ rest)) m _ (differs (name_of m) p rest (and_parts (begins_otherwise p (name_of m)) _ h).0) ∙ within p rest [] more (and_parts (begins_otherwise p (name_of m)) _ h).1
 within p rest (m ∷ ms) after h = ap (cond (bytes_eq (name_of m) (p ++ rest)) (Some m)) (within p rest ms after h)
 
--- the part from i, of n mnemonics
+-- The section of n mnemonics from index i on.
 part : (p rest : List ℕ) (i n : ℕ) (all : List Mnemonic) → all_otherwise p (take i all) ≡ true → all_otherwise p (drop n (drop i all)) ≡ true
     → first_named (p ++ rest) (take n (drop i all)) ≡ first_named (p ++ rest) all
 part p rest i n all before after =

@@ -1,4 +1,4 @@
--- Statements that are printed are read again.
+-- Instructions that are printed are read again.
 use Rattle.std.proofs.Common.{◌≡◌, ℕ, [], refl}
 use Rattle.std.specs.Prelude.{Ok}
 use Rattle.insn.specs.declared.insn.Insn.{Insn}
@@ -13,7 +13,7 @@ use Rattle.asm.specs.Printing.{word_of, operands_of}
 use Rattle.asm.proofs.NumberLemmas.{number_for, number_of-decimal, bits_within-number, number_of-signed, within_16, within_32, small_16, small_32}
 use Rattle.asm.proofs.OperandLemmas.{register_of-text, operand_of-text, goal_of-text, place_of-text, no_letter}
 
--- the statement that an instruction's text says
+-- The instruction that the text of an instruction is read as.
 abbrev pub source_for : Insn → Source
 source_for (insns.Arithmetic width operation dst operand) = Plain (insns.Arithmetic width operation dst operand)
 source_for (insns.Negate width dst) = Plain (insns.Negate width dst)
@@ -46,7 +46,7 @@ source_of-text (insns.Store size base offset (Immediate number)) is = rw (place_
 source_of-text (insns.Call helper) is = rw (no_letter helper (small_32 helper is), number_of-signed helper (small_32 helper is), within_32 helper is) refl
 source_of-text insns.Exit is = refl
 
--- a printed jump is resolved to itself, wherever it stands
+-- A printed jump keeps its distance, at whatever unit it is.
 pub insn_of-source : (unit : ℕ) (i : Insn) → IsInsn i → insn_of [] unit (source_for i) ≡ Ok i
 unfolding distance_of
 insn_of-source unit (insns.Jump distance) is = rw (within_16 distance is) refl

@@ -1,4 +1,4 @@
--- What is read of a register's or a mnemonic's text.
+-- What is read from the text of a register or a mnemonic.
 use Rattle.std.proofs.Common.{◌≡◌, ℕ, ◌+◌, ◌-◌, ◌≤◌, Bool, true, false, cond, List, [], ◌∷◌, Option, Some, refl, ap, sym, subst, ◌∙◌, arith}
 use Rattle.std.specs.Prelude.{decimal, ◌==◌, ◌&&◌}
 use Rattle.std.specs.List.{AllByRecursion}
@@ -49,11 +49,11 @@ register_read (c ∷ a ∷ []) r h = one_digit c a r (cond_some _ (a - 48) r h)
 register_read (c ∷ a ∷ b ∷ []) r h = two_digits c a b r (cond_some _ 10 r h)
 register_read (c ∷ a ∷ b ∷ d ∷ rest) r h = absurd cc
 
--- equal bytes
+-- Equal bytes.
 same_bytes : (xs ys : List ℕ) → bytes_eq xs ys ≡ true → xs ≡ ys
 same_bytes xs ys h = (bytes_eq-Decides xs ys).0 h
 
--- the first of that name
+-- The first mnemonic with this text.
 first_is : (b : Bool) (x m : Mnemonic) (word : List ℕ) (rest : Option Mnemonic) → (b ≡ true → name_of x ≡ word) → IsMnemonic x → (rest ≡ Some m → IsMnemonic m × (word ≡ name_of m))
     → cond b (Some x) rest ≡ Some m → IsMnemonic m × (word ≡ name_of m)
 first_is true x m word rest same well ih h = let e : x ≡ m = cc in let P : Mnemonic → Type 0 = λ y. IsMnemonic y × (word ≡ name_of y) in subst P e (well, sym (same refl))

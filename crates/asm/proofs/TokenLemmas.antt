@@ -16,11 +16,11 @@ use Rattle.insn.specs.Insn.{IsInsn, IsOperand}
 use Rattle.asm.specs.Printing.{register_text, operand_text, signed_text, place_text, operands_of}
 use Rattle.asm.proofs.NumberLemmas.{IsSmall, small_16, small_32}
 
--- a byte of a word or an operand: visible, no comma, colon or semicolon
+-- A byte of a word or an operand: visible, and not a comma, colon or semicolon.
 abbrev pub is_plain : ℕ → Bool
 is_plain c = nat_lt 32 c && nat_lt c 128 && not (c == 44) && not (c == 58) && not (c == 59)
 
--- a token of such bytes
+-- A word of such bytes.
 pub record IsPlain (token : List ℕ) : Type 0 where
   pub bytes : list_all is_plain token ≡ true
   pub some : 0 < length token

@@ -7,7 +7,7 @@ use Rattle.insn.specs.Program.{slots_of}
 use Rattle.insn.proofs.SlotLemmas.{length-slots_of-cons}
 use Rattle.asm.specs.Printing.{line_text, unit_lines}
 
--- one more line
+-- One more line.
 unit_lines-push : (unit : ℕ) (xs : List Insn) (i : Insn) → unit_lines unit (xs ++ i ∷ []) ≡ unit_lines unit xs ++ (decimal (unit + length (slots_of xs)) ++ codes " " ++ line_text i)
 unit_lines-push unit [] i =
     let e : unit ≡ unit + 0 = omega arith in
@@ -18,7 +18,7 @@ unit_lines-push unit (j ∷ xs) i =
     ap (λ l. line ++ l) (unit_lines-push (unit + units_of j) xs i ∙ ap (λ n. unit_lines (unit + units_of j) xs ++ (decimal n ++ codes " " ++ line_text i)) e)
     ∙ sym (append_assoc line (unit_lines (unit + units_of j) xs) (decimal (unit + length (slots_of (j ∷ xs))) ++ codes " " ++ line_text i))
 
--- the text so far, with one more unit and instruction behind it
+-- The text so far, and one more unit and instruction after it.
 pub unit_lines_so_far : (before out numbered new : List ℕ) (xs : List Insn) (k unit : ℕ) (i : Insn) → k < length xs → i ≡ get_or xs k i → unit ≡ length (slots_of (take k xs))
     → out ≡ before ++ unit_lines 0 (take k xs) → numbered ≡ out ++ decimal unit ++ codes " " → new ≡ numbered ++ line_text i
     → new ≡ before ++ unit_lines 0 (take (k + 1) xs)

@@ -1,4 +1,4 @@
--- The bytes of the mnemonics' words.
+-- The bytes of the mnemonics.
 use Rattle.std.proofs.Common.{◌≡◌, ℕ, Bool, true, List, length, refl}
 use Rattle.std.specs.Prelude.{◌&&◌, nat_lt}
 use Rattle.std.specs.List.{list_all}
@@ -15,7 +15,7 @@ use Rattle.asm.specs.Table.{name_of}
 use Rattle.asm.specs.Line.{is_word}
 use Rattle.asm.proofs.TokenLemmas.{is_plain}
 
--- letters, digits, `_` and `.`, at least one
+-- Letters, digits, `_` and `.`, at least one.
 abbrev pub is_fine : List ℕ → Bool
 is_fine word = nat_lt 0 (length word) && is_word word && list_all is_plain word
 

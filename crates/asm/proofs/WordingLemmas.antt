@@ -1,4 +1,4 @@
--- Statements in the words of their lines.
+-- Instructions in the words of their lines.
 use Rattle.std.proofs.Common.{◌≡◌, ◌≢◌, ◌∙◌, ℕ, zero, suc, ◌<◌, List, [], ◌∷◌, ◌++◌, true, IsUtf8, ap, append_assoc, append-nil, arith, lit<, refl, subst, sym}
 use Rattle.std.specs.Prelude.{Option, None, Some, slice_index, nat_le, nat_lt}
 use Rattle.std.specs.Option.{ok_or}
@@ -26,7 +26,7 @@ visible_at (c ∷ word) h (suc i) = visible_at word (and_parts (is_visible c) (l
 pub visible_utf8 : (word : List ℕ) → list_all is_visible word ≡ true → IsUtf8 word
 visible_utf8 word h = IsUtf8-from_ascii word (visible_at word h)
 
--- a line with a fault adds none
+-- A line with a fault adds none.
 of_fault : (error : LineError) (outline : Option Outline) → Fails error (ok_or outline faults.Line) → error ≢ failures.Memory →
     outline_statements outline ≡ []
 of_fault (failures.Fault f) None given apart = refl
@@ -38,14 +38,14 @@ pub nothing_added : (old : List (List ℕ)) (line : List ℕ) (error : LineError
 nothing_added old line error given apart =
     sym (append-nil old) ∙ ap (λ (s : List (List ℕ)). old ++ s) (sym (of_fault error (outline_of line) given apart))
 
--- one more line
+-- One more line.
 pub statements_next : (old new all : List (List ℕ)) (line : List ℕ) (lines more : List (List ℕ)) → lines ≡ line ∷ more →
     old ++ flat_map line_statements lines ≡ all → new ≡ old ++ line_statements line → new ++ flat_map line_statements more ≡ all
 statements_next old new all line lines more e so_far next =
     let front : old ++ flat_map line_statements (line ∷ more) ≡ all = subst (λ (ls : List (List ℕ)). old ++ flat_map line_statements ls ≡ all) e so_far in
     ap (λ (s : List (List ℕ)). s ++ flat_map line_statements more) next ∙ (append_assoc old (line_statements line) (flat_map line_statements more) ∙ front)
 
--- no more
+-- No line remains.
 pub statements_all : (done all : List (List ℕ)) (lines : List (List ℕ)) → lines ≡ [] → done ++ flat_map line_statements lines ≡ all → done ≡ all
 statements_all done all lines e so_far =
     let whole : done ++ [] ≡ all = subst (λ (ls : List (List ℕ)). done ++ flat_map line_statements ls ≡ all) e so_far in

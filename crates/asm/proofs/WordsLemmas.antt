@@ -1,4 +1,4 @@
--- A printed word with its operands is read again.
+-- A printed mnemonic with its operands is read again.
 use Rattle.std.proofs.Common.{◌≡◌, ℕ, ◌<◌, true, false, List, [], ◌∷◌, ◌++◌, Some, length, drop, refl, sym, ap, ◌∙◌, arith, append_assoc, append-nil}
 use Rattle.std.specs.Prelude.{not, ◌==◌, ◌&&◌, nat_lt}
 use Rattle.std.specs.List.{list_all}
@@ -27,7 +27,7 @@ plain_solid c h = grind (arith, nat_tests)
 plain_token : (c : ℕ) → is_plain c ≡ true → nat_lt c 128 && not (c == 13) ≡ true
 plain_token c h = grind (arith, nat_tests)
 
--- a text that begins with a plain byte is not blank
+-- A text that begins with a plain byte is not blank.
 until_first : (stop : Stop) (c : ℕ) (cs : List ℕ) → is_stop stop c ≡ true → until stop (c ∷ cs) ≡ 0
 until_first stop c cs h = rw h refl
 
@@ -45,7 +45,7 @@ not_empty xs some = grind (arith, nat_tests)
 not_blank : (xs : List ℕ) → until Solid xs ≡ 0 → 0 < length xs → is_all_blank (32 ∷ xs) ≡ false
 not_blank xs e some = rw e (not_empty xs some)
 
--- tokens
+-- Words without spaces.
 is_token-plain : (xs : List ℕ) → list_all is_plain xs ≡ true → is_token xs ≡ true
 is_token-plain [] h = refl
 is_token-plain (x ∷ xs) h = and_from (nat_lt x 128 && not (x == 13)) (is_token xs) (plain_token x (and_parts (is_plain x) _ h).0) (is_token-plain xs (and_parts (is_plain x) _ h).1)
@@ -61,7 +61,7 @@ token_of-spaced a p =
     let e : until Solid a ≡ 0 = rw append-nil at (until_solid a [] p.some p.bytes) in
     ap (λ n. one_word (drop n a)) e ∙ one_word-plain a p
 
--- each with a space before it
+-- Each with a space before it.
 abbrev pub spaced : List (List ℕ) → List (List ℕ)
 spaced [] = []
 spaced (t ∷ ts) = (32 ∷ t) ∷ spaced ts
@@ -78,7 +78,7 @@ pieces-tokens : (a : List ℕ) (rest : List (List ℕ)) → IsPlain a → ArePla
 pieces-tokens a [] p ps = ap (λ l. pieces comma (32 ∷ l)) (append-nil a) ∙ pieces-all comma (32 ∷ a) (lacks_comma a p)
 pieces-tokens a (b ∷ rest) p ps = pieces-append comma (32 ∷ a) 44 (32 ∷ (b ++ more_text rest)) (lacks_comma a p) refl ∙ ap (λ l. (32 ∷ a) ∷ l) (pieces-tokens b rest ps.0 ps.1)
 
--- a word alone, or with operands behind it
+-- A mnemonic without operands, or with operands after it.
 line_words-alone : (body w : List ℕ) → 0 < length body → before Blank body ≡ w → from Blank body ≡ [] → is_word w ≡ true → line_words body ≡ Some (w ∷ [])
 unfolding line_words
 line_words-alone body w some b f word = rw (not_empty body some, b, f, word) refl

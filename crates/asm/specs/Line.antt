@@ -1,4 +1,4 @@
--- Lines of assembly: `[name:] [mnemonic operands] [; comment]`.
+-- Lines of assembly, of the form `[NAME:] [MNEMONIC OPERANDS] [; COMMENT]`.
 use Rattle.std.specs.Prelude.{ℕ, List, [], ◌∷◌, ◌++◌, Bool, true, ◌==◌, ◌&&◌, ◌||◌, not, nat_lt, if◌then◌else◌, Option, Some, None, length, drop}
 use Rattle.text.specs.declared.stop.Stop.TheVariants.{Blank, Solid}
 use Rattle.text.specs.Options.{◌>>=◌}
@@ -20,22 +20,22 @@ is_word (c ∷ cs) = (is_letter c || is_within 48 57 c || c == 46) && is_word cs
 abbrev pub is_all_blank : List ℕ → Bool
 is_all_blank text = length (from Solid text) == 0
 
--- Returns the single word of an operand, with optional white space after it.
+-- Returns the single word at the beginning of a text, after which only spaces and tabs may follow.
 abbrev pub one_word : List ℕ → Option (List ℕ)
 one_word solid =
     if length (before Blank solid) == 0 then None
     else if is_all_blank (from Blank solid) && is_token (before Blank solid) then Some (before Blank solid) else None
 
--- Returns the single word of an operand, with optional white space around it.
+-- Returns an operand without the spaces and tabs around it. It must be a single word.
 abbrev pub token_of : List ℕ → Option (List ℕ)
 token_of piece = one_word (from Solid piece)
 
--- Returns the words `done`, and after them the operands in these pieces.
+-- Returns the words `done`, and then the operands in these pieces.
 abbrev pub tokens_on : List (List ℕ) → List (List ℕ) → Option (List (List ℕ))
 tokens_on done [] = Some done
 tokens_on done (piece ∷ pieces) = token_of piece >>= λ token. tokens_on (done ++ token ∷ []) pieces
 
--- Returns the first word of a line's code, and its operands, which commas separate.
+-- Returns the words of a line without its name and comment: the mnemonic, and the operands, which commas separate.
 unfoldable pub line_words : List ℕ → Option (List (List ℕ))
 line_words body =
     if length body == 0 then Some []
@@ -44,12 +44,12 @@ line_words body =
     else tokens_on (before Blank body ∷ []) (pieces comma (from Blank body))
     else None
 
--- The outline of a line: its name, if it has one, and its mnemonic with its operands.
+-- What a line contains: its name, if it has one, and the words of its instruction.
 pub record Outline : Type 0 where
   pub name : Option (List ℕ)
   pub words : List (List ℕ)
 
--- Returns the outline of a line that begins with a name and a colon.
+-- Returns what a line contains that begins with a name and a colon.
 unfoldable pub named : List ℕ → Option Outline
 named code =
     if is_name (before colon code)
@@ -60,12 +60,12 @@ named code =
     }))
     else None
 
--- Returns the outline of a line without its comment. The line has a name if there is a colon in its first word.
+-- Returns what a line without its comment contains. It has a name if there is a colon in its first word.
 unfoldable pub outlined : List ℕ → Option Outline
 outlined code =
     if nat_lt (until colon (before Blank code)) (length (before Blank code)) then named code
     else (line_words code >>= λ words. Some (record { name = None; words = words }))
 
--- Returns the outline of a line, without its comment and leading white space.
+-- Returns what a line contains.
 unfoldable pub outline_of : List ℕ → Option Outline
 outline_of line = outlined (from Solid (before semicolon line))

@@ -12,7 +12,7 @@ use Rattle.asm.specs.declared.operand.Raw.{Raw}
 use Rattle.asm.specs.declared.operand.Raw.TheVariants as raws
 use Rattle.asm.specs.Number.{number_of, signed_within}
 
--- Returns the register that is written as `r0` to `r10`.
+-- Returns the register that a text is, `r0` to `r10`.
 unfoldable pub register_of : List ℕ → Option ℕ
 register_of [] = None
 register_of (r ∷ []) = None
@@ -20,17 +20,17 @@ register_of (r ∷ a ∷ []) = if r == 114 && is_within 48 57 a then Some (a - 4
 register_of (r ∷ a ∷ b ∷ []) = if r == 114 && a == 49 && b == 48 then Some 10 else None
 register_of (r ∷ a ∷ b ∷ c ∷ rest) = None
 
--- Returns the operand that is written as a register or a number.
+-- Returns the operand that a text is: a register or a number.
 unfoldable pub raw_of : List ℕ → Option Raw
 raw_of text = if slice_index text 0 == 114 then (register_of text >>= λ r. Some (raws.Register r))
     else (number_of text >>= λ n. Some (raws.Number n))
 
--- Returns the operand, if it is a register or a number that fits in 32 bits.
+-- Returns the operand for an instruction. A number must fit in 32 bits.
 unfoldable pub fitted : Raw → Option Operand
 fitted (raws.Register r) = Some (Register r)
 fitted (raws.Number n) = signed_within (2 ^ 31) n >>= λ z. Some (Immediate z)
 
--- Returns the number that is written as `+k` or `-k`.
+-- Returns the number that a text such as `+8` or `-8` is.
 unfoldable pub signed_of : List ℕ → Option Number
 signed_of text =
     if slice_index text 0 == 43
@@ -39,18 +39,18 @@ signed_of text =
     then (magnitude_of (drop 1 text) >>= λ n. Some (record { negative = true; magnitude = n }))
     else None
 
--- Returns the offset that is written as `+k` or `-k`, or 0 if nothing is written.
+-- Returns the offset that a text such as `+8` or `-8` is. An empty text means 0.
 abbrev pub offset_of : List ℕ → Option Number
 offset_of text = if length text == 0 then Some (record { negative = false; magnitude = 0 }) else signed_of text
 
--- Returns the text between the brackets.
+-- Returns the text between square brackets.
 abbrev pub inside : List ℕ → Option (List ℕ)
 inside text =
     if nat_lt (length text) 2 then None
     else if slice_index text 0 == 91 && slice_index text (length text - 1) == 93
     then Some (take (length text - 2) (drop 1 text)) else None
 
--- Returns the memory operand that is written as `[rN]`, `[rN+k]` or `[rN-k]`: its register and its offset.
+-- Returns the register and the offset of a memory operand such as `[r1]`, `[r1+8]` or `[r10-8]`.
 unfoldable pub place_of : List ℕ → Option (ℕ × Number)
 place_of text =
     inside text >>= λ inner. register_of (before Sign inner) >>= λ r. offset_of (from Sign inner) >>= λ n. Some (r, n)
@@ -68,12 +68,12 @@ are_name (c ∷ cs) = (is_letter c || is_within 48 57 c) && are_name cs
 abbrev pub is_name : List ℕ → Bool
 is_name text = is_letter (slice_index text 0) && are_name text
 
--- The target of a jump: a number of units away, or a name.
+-- The target of a jump: a distance in units, or a name.
 pub data Goal : Type 0 where
   Away : Number → Goal
   Named : List ℕ → Goal
 
--- Returns the jump target that is written as a name, `+k` or `-k`.
+-- Returns the jump target that a text is: a name, or a distance such as `+2`.
 unfoldable pub goal_of : List ℕ → Option Goal
 goal_of text = if is_letter (slice_index text 0) then (if are_name text then Some (Named text) else None)
     else (signed_of text >>= λ n. Some (Away n))

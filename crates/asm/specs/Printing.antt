@@ -11,7 +11,7 @@ use Rattle.asm.specs.declared.mnemonic.Mnemonic.{Mnemonic}
 use Rattle.asm.specs.declared.mnemonic.Mnemonic.TheVariants as words
 use Rattle.asm.specs.Table.{name_of}
 
--- Returns the text of a register: `r` and its number.
+-- Returns the text of a register, such as `r1`.
 abbrev pub register_text : ℕ → List ℕ
 register_text r = 114 ∷ decimal r
 
@@ -20,12 +20,12 @@ abbrev pub operand_text : Operand → List ℕ
 operand_text (Register r) = register_text r
 operand_text (Immediate z) = signed_decimal z
 
--- Returns the text of a distance or offset: `+k` or `-k`.
+-- Returns the text of a distance or offset, such as `+8` or `-8`.
 abbrev pub signed_text : ℤ → List ℕ
 signed_text (pos n) = 43 ∷ decimal n
 signed_text (negsuc n) = 45 ∷ decimal (suc n)
 
--- Returns the text of a memory operand: `[rN+k]` or `[rN-k]`.
+-- Returns the text of a memory operand, such as `[r1+8]` or `[r10-8]`.
 abbrev pub place_text : ℕ → ℤ → List ℕ
 place_text base offset = 91 ∷ (register_text base ++ signed_text offset ++ 93 ∷ [])
 
@@ -63,25 +63,25 @@ operands_of (insns.Store size base offset source) = place_text base offset ∷ o
 operands_of (insns.Call helper) = signed_decimal helper ∷ []
 operands_of insns.Exit = []
 
--- Returns the text of the operands after the first, each after a comma and a space.
+-- Returns the text of the operands after the first, each with a comma and a space before it.
 abbrev pub more_text : List (List ℕ) → List ℕ
 more_text [] = []
 more_text (a ∷ rest) = codes ", " ++ a ++ more_text rest
 
--- Returns the text of the operands: a space, then the operands with commas between them.
+-- Returns the text of the operands, such as ` r1, 8`.
 abbrev pub operands_text : List (List ℕ) → List ℕ
 operands_text [] = []
 operands_text (a ∷ rest) = codes " " ++ a ++ more_text rest
 
--- Returns the text of an instruction: `mnemonic a, b, c`.
+-- Returns the text of an instruction, such as `add r1, 8`.
 unfoldable pub insn_text : Insn → List ℕ
 insn_text insn = name_of (word_of insn) ++ operands_text (operands_of insn)
 
--- Returns the text of an instruction and a line feed.
+-- Returns the text of an instruction, and a line feed.
 abbrev pub line_text : Insn → List ℕ
 line_text insn = insn_text insn ++ codes "\n"
 
--- Returns the text of instructions, one on each line, with the unit before each. The first one is at `unit`.
+-- Returns the text of instructions, one on each line, with its unit before it. The first one is at `unit`.
 abbrev pub unit_lines : ℕ → List Insn → List ℕ
 unit_lines unit [] = []
 unit_lines unit (insn ∷ insns) =

@@ -1,4 +1,4 @@
--- Statements: a mnemonic and its operands.
+-- Instructions as they are written: a mnemonic and its operands.
 use Rattle.std.specs.Prelude.{ℕ, ◌^◌, List, [], ◌∷◌, if◌then◌else◌, Option, Some, None, Result, Ok, slice_index}
 use Rattle.std.specs.Option.{ok_or}
 use Rattle.word.specs.declared.Width.{Width}
@@ -18,14 +18,14 @@ use Rattle.asm.specs.Helper.{helper_of}
 use Rattle.asm.specs.Number.{number_of, signed_within, bits_within}
 use Rattle.asm.specs.Operand.{register_of, raw_of, fitted, place_of, Goal, goal_of, is_letter}
 
--- A statement: an instruction, or a jump whose distance is not yet known.
+-- An instruction as it is read from a line. The distance of its jump may not be known yet.
 pub data Source : Type 0 where
   Plain : Insn → Source
   Jump : Goal → Source
   LongJump : Goal → Source
   Branch : Width → Condition → ℕ → Operand → Goal → Source
 
--- States that the statement does not sign-extend 32 bits to 32.
+-- States that the instruction is not a sign extension from 32 to 32 bits.
 abbrev pub IsWellSource : Source → Type 0
 IsWellSource (Plain insn) = IsWell insn
 IsWellSource (Jump goal) = Unit {0}
@@ -58,8 +58,8 @@ three_of (a ∷ b ∷ []) = None
 three_of (a ∷ b ∷ c ∷ []) = Some (a, b, c)
 three_of (a ∷ b ∷ c ∷ d ∷ rest) = None
 
--- Returns the statement of a mnemonic and its operands: their number and kinds are checked first (A3), then their
--- ranges (A6).
+-- Returns the instruction of a mnemonic and its operands. The number and kinds of the operands are checked first (A3),
+-- then their ranges (A6).
 abbrev pub source_of : Mnemonic → List (List ℕ) → Result Source AsmFault
 source_of (words.Arithmetic width operation) operands =
     ok_or (two_of operands) faults.Operand >>= λ o.
@@ -134,7 +134,8 @@ source_of words.Call operands =
     (Plain (insns.Call helper)))
 source_of words.Exit operands = ok_or (none_of operands) faults.Operand >>= λ o. Ok (Plain insns.Exit)
 
--- Returns the statement of these words, if there are any: the mnemonic is checked first (A2), then its operands.
+-- Returns the instruction that these words are, if there are any. The mnemonic is checked first (A2), then the
+-- operands.
 abbrev pub statement_of : List (List ℕ) → Result (Option Source) AsmFault
 statement_of [] = Ok None
 statement_of (word ∷ operands) =

@@ -19,7 +19,7 @@ use Rattle.insn.specs.Insn.{IsExtension}
 use Rattle.asm.specs.declared.mnemonic.Mnemonic.{Mnemonic}
 use Rattle.asm.specs.declared.mnemonic.Mnemonic.TheVariants as words
 
--- Returns the mnemonic of an operation, at 64 bits.
+-- Returns the mnemonic of an operation on 64 bits.
 abbrev pub operation_name : Operation → List ℕ
 operation_name op.Add = codes "add"
 operation_name op.Sub = codes "sub"
@@ -36,7 +36,7 @@ operation_name op.Xor = codes "xor"
 operation_name op.Move = codes "mov"
 operation_name op.ArithmeticShiftRight = codes "arsh"
 
--- Returns the mnemonic of a conditional jump, at 64 bits.
+-- Returns the mnemonic of a conditional jump on 64 bits.
 abbrev pub condition_name : Condition → List ℕ
 condition_name c.Equal = codes "jeq"
 condition_name c.Above = codes "jgt"
@@ -50,25 +50,25 @@ condition_name c.AtMost = codes "jle"
 condition_name c.SignedBelow = codes "jslt"
 condition_name c.SignedAtMost = codes "jsle"
 
--- Returns the suffix of a mnemonic: `.w` for the 32-bit form.
+-- Returns the end of a mnemonic, which is `.w` for 32 bits.
 abbrev pub width_name : Width → List ℕ
 width_name W64 = []
 width_name W32 = codes ".w"
 
--- Returns the suffix of a load or store, by its size.
+-- Returns the last letter of the mnemonic of a load or store, by its size.
 abbrev pub size_name : Size → List ℕ
 size_name size.Byte = codes "b"
 size_name size.Half = codes "h"
 size_name size.Word = codes "w"
 size_name size.Double = codes "d"
 
--- Returns the suffix of a sign-extending load, by its size.
+-- Returns the last letter of the mnemonic of a sign-extended load, by its size.
 abbrev pub part_name : Narrow → List ℕ
 part_name narrow.Byte = codes "b"
 part_name narrow.Half = codes "h"
 part_name narrow.Word = codes "w"
 
--- Returns the number of bits of a sign extension.
+-- Returns the number of bits of a sign extension, as text.
 abbrev pub part_bits : Narrow → List ℕ
 part_bits narrow.Byte = codes "8"
 part_bits narrow.Half = codes "16"
@@ -80,13 +80,13 @@ order_name Little = codes "le"
 order_name Big = codes "be"
 order_name Reversed = codes "swap"
 
--- Returns the number of bits of a byte swap.
+-- Returns the number of bits of a byte swap, as text.
 abbrev pub swap_bits : SwapSize → List ℕ
 swap_bits swap.Half = codes "16"
 swap_bits swap.Word = codes "32"
 swap_bits swap.Double = codes "64"
 
--- Returns the word of a mnemonic.
+-- Returns a mnemonic as text.
 abbrev pub name_of : Mnemonic → List ℕ
 name_of (words.Arithmetic width operation) = operation_name operation ++ width_name width
 name_of (words.Negate width) = codes "neg" ++ width_name width
@@ -103,12 +103,12 @@ name_of (words.StoreNumber bytes) = codes "st" ++ size_name bytes
 name_of words.Call = codes "call"
 name_of words.Exit = codes "exit"
 
--- States that the mnemonic is in the table: 32 bits are sign-extended to 64 bits only.
+-- States that the mnemonic is in the table. There is none for a sign extension from 32 to 32 bits.
 abbrev pub IsMnemonic : Mnemonic → Type 0
 IsMnemonic (words.SignExtend width part) = IsExtension width part
 IsMnemonic _ = Unit {0}
 
--- All mnemonics, in an order in which those with the same first letter are adjacent.
+-- All mnemonics. Those with the same first letter are adjacent.
 unfoldable pub mnemonics : List Mnemonic
 mnemonics =
     words.Arithmetic W64 op.Add ∷ words.Arithmetic W32 op.Add ∷ words.Arithmetic W64 op.And ∷
@@ -151,11 +151,11 @@ mnemonics =
     words.Swap Reversed swap.Half ∷ words.Swap Reversed swap.Word ∷ words.Swap Reversed swap.Double ∷
     words.Arithmetic W64 op.Xor ∷ words.Arithmetic W32 op.Xor ∷ []
 
--- Returns the first mnemonic of a list that is written as `word`, if there is one.
+-- Returns the first mnemonic in the list whose text is `word`.
 abbrev pub first_named : List ℕ → List Mnemonic → Option Mnemonic
 first_named word [] = None
 first_named word (m ∷ ms) = if bytes_eq (name_of m) word then Some m else first_named word ms
 
--- Returns the mnemonic that is written as `word`, if there is one.
+-- Returns the mnemonic whose text is `word`.
 unfoldable pub mnemonic_of : List ℕ → Option Mnemonic
 mnemonic_of word = first_named word mnemonics

@@ -1,4 +1,4 @@
-//! The assembler: turns a text into a program, or finds its first fault.
+//! The assembler: it turns text into a program, or finds the text's first fault.
 
 ghost use Rattle.std.specs.Prelude.{◌≡◌, ◌≤◌, Some, IfOk};
 ghost use Rattle.asm.specs.Program.{Read, said, program_of, program_in};
@@ -10,8 +10,8 @@ use crate::resolver::resolve_all;
 use insn::Program;
 use std::alloc::Global;
 
-/// Makes the program of a text whose lines were read. It fails with `Count` unless there are 1 to 4,096 units, and with
-/// the fault of the first jump that cannot be resolved.
+/// Returns the program of a text whose lines were read without a fault. Fails with `Count` unless it has 1 to 4,096
+/// units, and otherwise with the fault of the first jump whose target does not exist or is too far away.
 fn finish(alloc: Global, reading: &Reading<'_>) -> Result<Program, AsmError>
     requires units { reading.now.units ≤ 4096 → reading.now.units ≡ units_kept reading.now.sources.items }
     requires well { reading.now.units ≤ 4096 → AreWellKept reading.now.sources.items }
@@ -31,10 +31,10 @@ fn finish(alloc: Global, reading: &Reading<'_>) -> Result<Program, AsmError>
 ///
 /// # Errors
 ///
-/// The first of several faults. Lines are checked in order, and each line for its outline (A1), a name defined twice
-/// (A5), its mnemonic (A2), the number and kinds of its operands (A3), and their ranges (A6). Then the number of units
-/// is checked (A7). Then jumps are checked in line order for names that are not defined (A4) and distances (A6).
-/// `Memory` if out of memory.
+/// The first fault with its line, or `Memory` if out of memory. The lines are checked in order. Each is checked for its
+/// form (A1), a name defined twice (A5), its mnemonic (A2), the number and kinds of its operands (A3), and their ranges
+/// (A6). Then the number of units is checked (A7), and last the jumps, in order, for names that are not defined (A4)
+/// and distances (A6).
 #[tactic(auto, unfolding(crate::specs::Program::said))]
 pub fn assemble(alloc: Global, text: &str) -> Result<Program, AsmError>
     // The result is the program of the text or, unless memory runs out, the first fault with its line.

@@ -1,4 +1,4 @@
-//! The disassembler: turns a program into text.
+//! The disassembler: it turns a program into text.
 
 ghost use Rattle.std.specs.Prelude.{◌≡◌, ◌≤◌, ◌++◌, codes, decimal, length, string_bytes, IfOk, OnOk, Some};
 ghost use Rattle.insn.specs.Program.{slots_of};
@@ -10,7 +10,7 @@ use crate::text_parts::{put, put_unsigned};
 use insn::{Insn, Program};
 use std::alloc::{AllocError, Global};
 
-/// Appends the instructions, one on each line.
+/// Appends the instructions as text, one on each line.
 fn put_lines(out: &mut String, insns: &[Insn]) -> Result<(), AllocError>
     ensures { OnOk result (string_bytes out.new ≡ string_bytes out.old ++ text_of insns.now) }
 {
@@ -20,7 +20,7 @@ fn put_lines(out: &mut String, insns: &[Insn]) -> Result<(), AllocError>
     Ok(())
 }
 
-/// Disassembles a program into text, with one instruction on each line. It fails only when out of memory.
+/// Returns a program as text, with one instruction on each line. Fails with `AllocError` if out of memory.
 pub fn disassemble(alloc: Global, program: &Program) -> Result<String, AllocError>
     ensures text { IfOk result (λ s. string_bytes s ≡ text_of program.now) }
 
@@ -32,8 +32,8 @@ pub fn disassemble(alloc: Global, program: &Program) -> Result<String, AllocErro
     Ok(out)
 }
 
-/// Disassembles a program into text with `UNIT INSTRUCTION` on each line, where `UNIT` is the unit of the instruction.
-/// It fails only when out of memory.
+/// Returns a program as text, with the number of the unit and the instruction on each line, such as `3 mov r0, 0`.
+/// Fails with `AllocError` if out of memory.
 pub fn disassemble_units(alloc: Global, program: &Program) -> Result<String, AllocError>
     ensures { IfOk result (λ s. string_bytes s ≡ unit_lines 0 program.now) }
 {
@@ -42,7 +42,7 @@ pub fn disassemble_units(alloc: Global, program: &Program) -> Result<String, All
     Ok(out)
 }
 
-/// Appends the instructions of a program, one on each line, each after its unit.
+/// Appends the instructions as text, each on a line of its own after the number of its unit.
 fn put_unit_lines(out: &mut String, insns: &[Insn]) -> Result<(), AllocError>
     requires { length (slots_of insns.now) ≤ 4096 }
     ensures { OnOk result (string_bytes out.new ≡ string_bytes out.old ++ unit_lines 0 insns.now) }
@@ -56,7 +56,7 @@ fn put_unit_lines(out: &mut String, insns: &[Insn]) -> Result<(), AllocError>
     Ok(())
 }
 
-/// Appends the number of a unit, and a space.
+/// Appends the number of a unit, and then a space.
 fn put_unit(out: &mut String, unit: u16) -> Result<(), AllocError>
     ensures { OnOk result (string_bytes out.new ≡ string_bytes out.old ++ decimal unit ++ codes " ") }
 {

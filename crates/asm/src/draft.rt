@@ -1,4 +1,4 @@
-//! Statements as the assembler stores them until it knows the distances of jumps.
+//! Instructions as the assembler stores them before the distances of their jumps are known.
 
 ghost use Rattle.std.specs.Prelude.{◌≡◌, ◌≤◌};
 ghost use Rattle.asm.specs.Program.{source_units};
@@ -8,7 +8,8 @@ use crate::operand::Aim;
 use insn::{Insn, Operand, Reg};
 use word::{Condition, Width};
 
-/// An instruction, or a jump whose distance is not yet known.
+/// An instruction whose jump distance may not be known yet. A jump to a name gets its distance after all lines are
+/// read.
 #[derive(Clone, Copy)]
 pub enum DraftInstruction {
     Plain(Insn),
@@ -17,21 +18,21 @@ pub enum DraftInstruction {
     Branch(Width, Condition, Reg, Operand, Aim),
 }
 
-/// A statement: its draft, and the name that it jumps to, which is empty if there is none.
+/// An instruction as read from a line. `name` is the name to which it jumps, or empty if it jumps to none.
 #[derive(Clone, Copy)]
 pub struct Statement<'a> {
     pub draft: DraftInstruction,
     pub name: &'a [u8],
 }
 
-/// A statement with the number of its line.
+/// An instruction as read from a line, with the number of that line, counted from 1.
 #[derive(Clone, Copy)]
 pub struct Kept<'a> {
     pub statement: Statement<'a>,
     pub line: u64,
 }
 
-/// Returns the number of units that the statement takes: 1 or 2.
+/// Returns the number of units that an instruction takes: 2 for the wide one, and otherwise 1.
 pub fn units(statement: &Statement<'_>) -> u64
     ensures units { result ≡ source_units (source_view statement.now) }
     ensures bound { result ≤ 2 }

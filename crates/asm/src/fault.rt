@@ -11,19 +11,20 @@ use std::fmt;
 /// What is wrong with a line, or with the text as a whole.
 #[derive(Clone, Copy, Debug, PartialEq, Eq, Drop)]
 pub enum AsmFault {
-    /// A1: the line does not have the form of a line, or has a character past ASCII outside a comment.
+    /// A1: the line does not have the form `NAME: MNEMONIC OPERANDS ; COMMENT`, or has a character that is not ASCII
+    /// before the comment.
     Line,
     /// A2: the mnemonic is unknown.
     Mnemonic,
     /// A3: the number or the kind of the operands is wrong.
     Operand,
-    /// A4: the name is not defined.
+    /// A4: a jump leads to a name that is not defined.
     Label,
-    /// A5: the name is already defined.
+    /// A5: an earlier line has already defined the name.
     Twice,
     /// A6: a number or distance is outside its range.
     Range,
-    /// A7: the program has no unit, or more than 4,096.
+    /// A7: the program has no units, or more than 4,096.
     Count,
 }
 
@@ -48,16 +49,17 @@ impl fmt::Display for AsmFault {
 
 impl Error for AsmFault {}
 
-/// Why assembling failed: the first fault with its line, counted from 1, or out of memory.
+/// Why assembling failed: the first fault with its line, or out of memory.
 #[derive(Clone, Copy, Debug, PartialEq, Eq, Drop)]
 pub enum AsmError {
-    /// A fault at a line. For a wrong number of units, this is the number of lines, at least 1.
+    /// The fault, and the number of its line, counted from 1. For `Count`, it is the number of lines, or 1 if there are
+    /// none.
     At(AsmFault, u64),
     Memory,
 }
 
 impl AsmError {
-    /// Returns `Err` if the error is out of memory, and `Ok` if it is a fault.
+    /// Fails with `AllocError` if this error is out of memory, and succeeds if it is a fault.
     pub(crate) fn want_of_memory(self) -> Result<(), AllocError>
         ensures fault { OnOk result (self ≢ OutOfMemory) }
         ensures memory { OnErr result (self ≡ OutOfMemory) }
@@ -85,7 +87,7 @@ impl fmt::Display for AsmError {
 
 impl Error for AsmError {}
 
-/// Why reading a line failed: a fault, or out of memory.
+/// Why a line could not be read: its fault, or out of memory.
 #[derive(Clone, Copy, Drop)]
 pub enum LineError {
     Memory,
@@ -93,7 +95,7 @@ pub enum LineError {
 }
 
 impl LineError {
-    /// Returns `Err` if the error is out of memory, and `Ok` if it is a fault.
+    /// Fails with `AllocError` if this error is out of memory, and succeeds if it is a fault.
     pub(crate) fn want_of_memory(self) -> Result<(), AllocError>
         ensures fault { OnOk result (self ≢ Memory) }
         ensures memory { OnErr result (self ≡ Memory) }

@@ -1,4 +1,4 @@
-//! The names of the helpers.
+//! The names of the helpers in assembly.
 
 ghost use Rattle.std.specs.Prelude.{◌≡◌};
 ghost use Rattle.asm.specs.Helper.{helper_of};

@@ -1,5 +1,5 @@
-//! Assembly: reads programs as text, and writes them as text. The module `partial` does so for bytes that cannot all be
-//! decoded.
+//! Assembly: reads programs from text, and writes them as text. The module `partial` does the same for bytecode that
+//! cannot be decoded completely.
 #![tactic(auto)]
 
 mod assembler;

@@ -1,4 +1,4 @@
-//! The lines of an assembly text.
+//! Splits an assembly text into lines.
 
 ghost use Rattle.std.specs.Prelude.{◌≡◌, ◌<◌, IfSome, length};
 ghost use Rattle.asm.specs.Program.{without_return, lines_of};
@@ -6,7 +6,7 @@ ghost use Rattle.asm.specs.Keeping.{GivesLines};
 
 use text::{Stop, piece};
 
-/// Returns the line without a carriage return at its end.
+/// Returns a line without the carriage return at its end, if it has one.
 fn without_carriage(line: &[u8]) -> &[u8]
     ensures { result.now ≡ without_return line.now }
 {
@@ -17,7 +17,8 @@ fn without_carriage(line: &[u8]) -> &[u8]
     }
 }
 
-/// Returns the first line without its line end, and the text after it. It returns `None` if the text is empty.
+/// Returns the first line without its line end, and the text after it, or `None` if the text is empty. A line ends with
+/// a line feed, before which a carriage return may be.
 pub fn next_line(text: &[u8]) -> Option<(&[u8], &[u8])>
     ensures first { GivesLines result (lines_of text.now) }
     ensures shorter { IfSome result (λ cut. length cut.1.now < length text.now) }

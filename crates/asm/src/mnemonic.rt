@@ -1,4 +1,4 @@
-//! The table of mnemonics: their words, and the search for a word.
+//! The table of mnemonics, such as `add` and `jeq.w`, and the search for one.
 
 ghost use Rattle.std.specs.Prelude.{◌≡◌, ◌≤◌, ◌-◌, ◌∷◌, ℕ, List, take, drop};
 ghost use Rattle.asm.specs.Table.{name_of, first_named, mnemonic_of, mnemonics};
@@ -6,7 +6,7 @@ ghost use Rattle.asm.specs.Table.{name_of, first_named, mnemonic_of, mnemonics};
 use insn::Size;
 use word::{ByteOrder, Condition, Narrow, Operation, SwapSize, Width};
 
-/// A mnemonic, which is the first word of a statement.
+/// A mnemonic, the word with which an instruction begins.
 #[derive(Clone, Copy)]
 pub enum Mnemonic {
     Arithmetic(Width, Operation),
@@ -25,7 +25,7 @@ pub enum Mnemonic {
     Exit,
 }
 
-/// All mnemonics, in an order in which those with the same first letter are adjacent.
+/// All mnemonics. Those with the same first letter are adjacent.
 static MNEMONICS: [Mnemonic; 86] = [
     Mnemonic::Arithmetic(Width::W64, Operation::Add),
     Mnemonic::Arithmetic(Width::W32, Operation::Add),
@@ -115,7 +115,7 @@ static MNEMONICS: [Mnemonic; 86] = [
     Mnemonic::Arithmetic(Width::W32, Operation::Xor),
 ];
 
-/// Returns the word of a mnemonic.
+/// Returns a mnemonic as text, such as `add`.
 pub fn name(mnemonic: Mnemonic) -> &'static str
     ensures { result.now ≡ name_of mnemonic }
 {
@@ -149,7 +149,7 @@ pub fn name(mnemonic: Mnemonic) -> &'static str
     }
 }
 
-/// Returns the word of an arithmetic operation.
+/// Returns the mnemonic of an arithmetic operation as text, such as `add` for 64 bits and `add.w` for 32.
 fn arithmetic_name(width: Width, operation: Operation) -> &'static str
     ensures { result.now ≡ name_of (Mnemonic.Arithmetic width operation) }
 {
@@ -185,7 +185,7 @@ fn arithmetic_name(width: Width, operation: Operation) -> &'static str
     }
 }
 
-/// Returns the word of a conditional jump.
+/// Returns the mnemonic of a conditional jump as text, such as `jeq` for 64 bits and `jeq.w` for 32.
 fn branch_name(width: Width, condition: Condition) -> &'static str
     ensures { result.now ≡ name_of (Mnemonic.Branch width condition) }
 {
@@ -215,7 +215,7 @@ fn branch_name(width: Width, condition: Condition) -> &'static str
     }
 }
 
-/// Returns the word of a move with sign extension.
+/// Returns the mnemonic of a move with sign extension as text, such as `movsx8`.
 fn sign_extend_name(width: Width, part: Narrow) -> &'static str
     ensures { result.now ≡ name_of (Mnemonic.SignExtend width part) }
 {
@@ -229,7 +229,7 @@ fn sign_extend_name(width: Width, part: Narrow) -> &'static str
     }
 }
 
-/// Returns the word of a byte swap.
+/// Returns the mnemonic of a byte swap as text, such as `be16`.
 fn swap_name(order: ByteOrder, size: SwapSize) -> &'static str
     ensures { result.now ≡ name_of (Mnemonic.Swap order size) }
 {
@@ -246,7 +246,7 @@ fn swap_name(order: ByteOrder, size: SwapSize) -> &'static str
     }
 }
 
-/// Returns the first of these mnemonics that has this word.
+/// Returns the first of these mnemonics whose text is `word`, or `None` if there is none.
 fn search(all: &[Mnemonic], word: &[u8]) -> Option<Mnemonic>
     ensures { result ≡ first_named word.now all.now }
 {
@@ -258,8 +258,8 @@ fn search(all: &[Mnemonic], word: &[u8]) -> Option<Mnemonic>
     None
 }
 
-/// Returns the range of the table that has the mnemonics with this first letter, as its first index and its end. If
-/// there are none, it returns the whole table.
+/// Returns the range of the table whose mnemonics begin with this letter, as its first index and the index after its
+/// last. If there are none, returns the whole range.
 fn bounds_by_letter(letter: u8) -> (usize, usize)
     ensures order { result.0 ≤ result.1 }
     ensures end { result.1 ≤ 86 }
@@ -284,8 +284,8 @@ fn bounds_by_letter(letter: u8) -> (usize, usize)
     }
 }
 
-/// Returns a part of the table: its first index, and the index after its last. It has the mnemonics with the same
-/// beginning as the word. If there are none, it is the whole table.
+/// Returns a range of the table in which the mnemonic `word` must be, as its first index and the index after its last.
+/// The range has the mnemonics that begin as `word` does or, if there are none, is the whole one.
 fn bounds(word: &[u8]) -> (usize, usize)
     ensures order { result.0 ≤ result.1 }
     ensures end { result.1 ≤ 86 }
@@ -300,7 +300,7 @@ fn bounds(word: &[u8]) -> (usize, usize)
     }
 }
 
-/// Returns a part of the table in which the mnemonic of this word is found, if the table has it.
+/// Returns the section of the table in which the mnemonic `word` must be, if the table has it.
 fn section(word: &[u8]) -> &'static [Mnemonic]
     ensures { first_named word.now result.now ≡ mnemonic_of word.now }
 {
@@ -308,7 +308,7 @@ fn section(word: &[u8]) -> &'static [Mnemonic]
     &MNEMONICS[start..end]
 }
 
-/// Returns the mnemonic that has this word, or `None` if there is none.
+/// Returns the mnemonic whose text is `word`, or `None` if there is none.
 pub fn read_mnemonic(word: &[u8]) -> Option<Mnemonic>
     ensures { result ≡ mnemonic_of word.now }
 {

@@ -1,18 +1,19 @@
-//! Numbers with a sign: reads them, and converts them to 16, 32 or 64 bits.
+//! Reads numbers with an optional sign, and converts them to 16, 32 or 64 bits.
 
 ghost use Rattle.std.specs.Prelude.{◌≡◌, ◌^◌};
 ghost use Rattle.asm.specs.Number.{number_of, signed_within, bits_within};
 
 use text::magnitude;
 
-/// A number as it is written: a sign and a magnitude. The magnitude is 2^64 for every greater number.
+/// A number as it is written: whether it has a minus, and the digits. If they mean more than 2^64, `magnitude` is 2^64.
 #[derive(Clone, Copy)]
 pub struct Number {
     pub negative: bool,
     pub magnitude: u128,
 }
 
-/// Reads a number with an optional minus. It returns `None` if the text is not such a number.
+/// Reads a decimal or hexadecimal number that may have a minus, such as `-8`. Returns `None` if the text is not such a
+/// number.
 #[tactic(auto, unfolding(crate::specs::Number::number_of))]
 pub fn read_number(text: &[u8]) -> Option<Number>
     ensures { result ≡ number_of text.now }
@@ -31,7 +32,7 @@ pub fn read_number(text: &[u8]) -> Option<Number>
     })
 }
 
-/// Returns the number as a signed 16-bit number, or `None` if it does not fit.
+/// Returns a number as a signed 16-bit number, or `None` if it does not fit.
 #[tactic(auto, unfolding(crate::specs::Number::signed_within))]
 pub fn fit16(number: Number) -> Option<i16>
     ensures { result ≡ signed_within (2 ^ 15) number }
@@ -49,7 +50,7 @@ pub fn fit16(number: Number) -> Option<i16>
     }
 }
 
-/// Returns the number as a signed 32-bit number, or `None` if it does not fit.
+/// Returns a number as a signed 32-bit number, or `None` if it does not fit.
 #[tactic(auto, unfolding(crate::specs::Number::signed_within))]
 pub fn fit32(number: Number) -> Option<i32>
     ensures { result ≡ signed_within (2 ^ 31) number }
@@ -67,7 +68,7 @@ pub fn fit32(number: Number) -> Option<i32>
     }
 }
 
-/// Returns the number as a 64-bit word, or `None` if it is not in the range from -2^63 to 2^64 - 1.
+/// Returns a number from -2^63 to 2^64 - 1 as a 64-bit word, modulo 2^64. Returns `None` for other numbers.
 #[tactic(auto, unfolding(crate::specs::Number::bits_within))]
 pub fn fit64(number: Number) -> Option<u64>
     ensures { result ≡ bits_within number }

@@ -1,4 +1,4 @@
-//! Operands: reads registers, numbers, memory operands and jump targets.
+//! Reads the operands of instructions: registers, numbers, memory operands and jump targets.
 
 ghost use Rattle.std.specs.Prelude.{◌≡◌, Some, None};
 ghost use Rattle.asm.specs.Operand.{register_of, raw_of, fitted, signed_of, offset_of, inside, place_of, is_letter, are_name, is_name as named_well, goal_of};
@@ -8,21 +8,21 @@ use crate::number::{Number, fit32, read_number};
 use insn::{Operand, Reg};
 use text::{Stop, cut, magnitude};
 
-/// An operand as it is written: a register, or a number.
+/// An operand as it is written: a register, or a number of any size.
 #[derive(Clone, Copy)]
 pub enum Raw {
     Register(Reg),
     Number(Number),
 }
 
-/// The target of a jump: a number of units away, or a name that is stored separately.
+/// The target of a jump: a distance in units, or a name, which is stored next to this value.
 #[derive(Clone, Copy)]
 pub enum Aim {
     Away(Number),
     Named,
 }
 
-/// Reads a register, `r0` to `r10`.
+/// Reads a register, `r0` to `r10`. Returns `None` if the text is not one.
 #[tactic(auto, unfolding(crate::specs::Operand::register_of))]
 pub fn register(text: &[u8]) -> Option<Reg>
     ensures { result ≡ register_of text.now }
@@ -34,7 +34,7 @@ pub fn register(text: &[u8]) -> Option<Reg>
     }
 }
 
-/// Reads a register or a number.
+/// Reads a register or a number. Returns `None` if the text is neither.
 #[tactic(auto, unfolding(crate::specs::Operand::raw_of))]
 pub fn read_raw(text: &[u8]) -> Option<Raw>
     ensures { result ≡ raw_of text.now }
@@ -47,7 +47,7 @@ pub fn read_raw(text: &[u8]) -> Option<Raw>
     Some(Raw::Number(n))
 }
 
-/// Returns the operand, or `None` if it is a number that does not fit in 32 bits.
+/// Returns an operand for an instruction, or `None` if it is a number that does not fit in 32 bits.
 #[tactic(auto, unfolding(crate::specs::Operand::fitted))]
 pub fn fit(raw: Raw) -> Option<Operand>
     ensures { result ≡ fitted raw }
@@ -61,7 +61,7 @@ pub fn fit(raw: Raw) -> Option<Operand>
     }
 }
 
-/// Parses a number that is written with its sign, as `+k` or `-k`. Returns `None` if the text is not such a number.
+/// Reads a number that must have a sign, such as `+8` or `-8`. Returns `None` if the text is not such a number.
 #[tactic(auto, unfolding(crate::specs::Operand::signed_of))]
 fn signed(text: &[u8]) -> Option<Number>
     ensures { result ≡ signed_of text.now }
@@ -86,7 +86,7 @@ fn signed(text: &[u8]) -> Option<Number>
     None
 }
 
-/// Reads an offset that is written as `+k` or `-k`. An empty text is the offset 0.
+/// Reads an offset such as `+8` or `-8`. An empty text means 0. Returns `None` if the text is not an offset.
 fn offset(text: &[u8]) -> Option<Number>
     ensures { result ≡ offset_of text.now }
 {
@@ -99,7 +99,7 @@ fn offset(text: &[u8]) -> Option<Number>
     signed(text)
 }
 
-/// Returns the text between the brackets, or `None` if there are no brackets.
+/// Returns the text between square brackets, or `None` if it is not in brackets.
 fn inner(text: &[u8]) -> Option<&[u8]>
     ensures { GivesOption (λ r. r.now) result (inside text.now) }
 {
@@ -113,7 +113,8 @@ fn inner(text: &[u8]) -> Option<&[u8]>
     None
 }
 
-/// Reads a memory operand: `[rN]`, `[rN+k]` or `[rN-k]`. It returns the register and the offset.
+/// Reads a memory operand such as `[r1+8]`, `[r10-8]` or `[r1]`. Returns its register and its offset, or `None` if the
+/// text is not such an operand.
 #[tactic(auto, unfolding(crate::specs::Operand::place_of))]
 pub fn place(text: &[u8]) -> Option<(Reg, Number)>
     ensures { result ≡ place_of text.now }
@@ -151,7 +152,8 @@ pub fn is_name(text: &[u8]) -> bool
     text.len() >= 1 && letter(text[0]) && name_bytes(text)
 }
 
-/// Reads a jump target: a name, `+k` or `-k`. The returned bytes are the name, and empty for a distance.
+/// Reads a jump target: a name, or a distance such as `+2`. Also returns the bytes of the name, which are empty for a
+/// distance. Returns `None` if the text is not a target.
 #[tactic(auto, unfolding(crate::specs::Operand::goal_of))]
 pub fn target(text: &[u8]) -> Option<(Aim, &[u8])>
     ensures { GivesOption (λ t. aim_view t.0 t.1.now) result (goal_of text.now) }

@@ -1,4 +1,4 @@
-//! The outline of a line: its name, its mnemonic and its operands, as words.
+//! Splits a line of assembly, such as `loop: add r1, 8 ; next`, into its name, its mnemonic and its operands.
 
 ghost use Rattle.std.specs.Prelude.{◌≡◌, [], map, drop};
 ghost use Rattle.text.specs.declared.stop.Stop.TheVariants.{Solid};
@@ -11,7 +11,7 @@ use crate::fault::{AsmFault, LineError};
 use crate::operand::{is_name, letter};
 use text::{Stop, cut, find, piece};
 
-/// Returns whether the text has only ASCII characters and no carriage return.
+/// Returns whether a text has only ASCII characters and no carriage return.
 fn token_bytes(text: &[u8]) -> bool
     ensures { result ≡ is_token text.now }
 {
@@ -23,7 +23,7 @@ fn token_bytes(text: &[u8]) -> bool
     true
 }
 
-/// Returns whether the text has only letters, digits, `_` and `.`.
+/// Returns whether a text has only letters, digits, `_` and `.`.
 fn word_bytes(text: &[u8]) -> bool
     ensures { result ≡ is_word text.now }
 {
@@ -35,21 +35,22 @@ fn word_bytes(text: &[u8]) -> bool
     true
 }
 
-/// Returns the text from its first byte on that is not a space or tab.
+/// Returns the text without the spaces and tabs at its beginning.
 fn skip_blank(text: &[u8]) -> &[u8]
     ensures { result.now ≡ from Solid text.now }
 {
     cut(Stop::Solid, text).1
 }
 
-/// Returns whether the text has only spaces and tabs.
+/// Returns whether a text has only spaces and tabs.
 fn all_blank(text: &[u8]) -> bool
     ensures { result ≡ is_all_blank text.now }
 {
     skip_blank(text).is_empty()
 }
 
-/// Returns the single word of an operand, which may have white space around it.
+/// Returns an operand without the spaces and tabs around it. Returns `None` if it is empty, has a space or tab inside,
+/// or has a character that is not allowed.
 fn token(piece: &[u8]) -> Option<&[u8]>
     ensures { GivesOption (λ r. r.now) result (token_of piece.now) }
 {
@@ -64,7 +65,8 @@ fn token(piece: &[u8]) -> Option<&[u8]>
     }
 }
 
-/// Appends the operands, which commas separate, to the words. It fails with `Line` if an operand is not a single word.
+/// Appends the operands in `text`, which commas separate, to `words`. Fails with `Line` if an operand is not a single
+/// word.
 fn push_operands<'a>(words: &mut Vec<&'a [u8]>, text: &'a [u8]) -> Result<(), LineError>
     ensures { GivesWords words.new.items result (tokens_on (map (λ r. r.now) words.old.items) (pieces comma text.now)) }
 {
@@ -80,7 +82,7 @@ fn push_operands<'a>(words: &mut Vec<&'a [u8]>, text: &'a [u8]) -> Result<(), Li
     Ok(())
 }
 
-/// Appends the mnemonic and its operands to the words. It fails with `Line` if the text has another form.
+/// Appends the mnemonic and the operands in `body` to `words`. Fails with `Line` if `body` does not have this form.
 #[tactic(auto, unfolding(crate::specs::Line::line_words))]
 fn push_words<'a>(words: &mut Vec<&'a [u8]>, body: &'a [u8]) -> Result<(), LineError>
     requires { words.old.items ≡ [] }
@@ -100,7 +102,7 @@ fn push_words<'a>(words: &mut Vec<&'a [u8]>, body: &'a [u8]) -> Result<(), LineE
     push_operands(words, rest)
 }
 
-/// Returns the text after its first byte, or the empty text.
+/// Returns the text without its first byte. An empty text stays empty.
 fn behind_first(text: &[u8]) -> &[u8]
     ensures { result.now ≡ drop 1 text.now }
 {
@@ -110,7 +112,8 @@ fn behind_first(text: &[u8]) -> &[u8]
     }
 }
 
-/// Returns the name of a line that has one, and appends the other words of the line.
+/// Reads a line that begins with a name and a colon. Returns the name, and appends the mnemonic and the operands to
+/// `words`. Fails with `Line` if the line does not have this form.
 #[tactic(auto, unfolding(crate::specs::Line::named))]
 fn read_named<'a>(words: &mut Vec<&'a [u8]>, code: &'a [u8]) -> Result<Option<&'a [u8]>, LineError>
     requires { words.old.items ≡ [] }
@@ -126,7 +129,8 @@ fn read_named<'a>(words: &mut Vec<&'a [u8]>, code: &'a [u8]) -> Result<Option<&'
     }
 }
 
-/// Returns the name of a line without its comment, if it has one, and appends its other words.
+/// Reads a line without its comment. Returns its name, or `None` if it has none, and appends the mnemonic and the
+/// operands to `words`. Fails with `Line` if the line does not have this form.
 #[tactic(auto, unfolding(crate::specs::Line::outlined))]
 fn read_outlined<'a>(
     words: &mut Vec<&'a [u8]>,
@@ -145,8 +149,8 @@ fn read_outlined<'a>(
     }
 }
 
-/// Reads the outline of a line. It returns the name, if the line has one, and replaces the contents of `words` by the
-/// mnemonic and its operands.
+/// Reads a line such as `loop: add r1, 8 ; next`. Returns its name, or `None` if it has none, and replaces `words` by
+/// the mnemonic and the operands. Fails with `Line` if the line does not have this form, or with `Memory`.
 #[tactic(auto, unfolding(crate::specs::Line::outline_of))]
 pub fn read_outline<'a>(
     words: &mut Vec<&'a [u8]>,

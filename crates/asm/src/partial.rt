@@ -1,5 +1,5 @@
-//! Assembly of bytecode that cannot be decoded completely. A unit with which no instruction begins is written as its
-//! bytes.
+//! Assembly of bytecode that cannot be decoded completely. A unit at which no instruction can be decoded is written as
+//! its 8 bytes, such as `.unit 0x0102030405060708`.
 mod assembler;
 mod disassembler;
 mod lines;

@@ -16,7 +16,7 @@ fn put_comma(out: &mut String) -> Result<(), AllocError>
     put(out, ", ")
 }
 
-/// Appends a register as `rN`.
+/// Appends a register, such as `r1`.
 fn put_register(out: &mut String, reg: Reg) -> Result<(), AllocError>
     ensures { OnOk result (string_bytes out.new ≡ string_bytes out.old ++ register_text reg) }
 {
@@ -24,7 +24,7 @@ fn put_register(out: &mut String, reg: Reg) -> Result<(), AllocError>
     put_unsigned(out, reg.number() as u64)
 }
 
-/// Appends an operand: a register as `rN`, or a number.
+/// Appends an operand: a register, such as `r1`, or a number.
 fn put_operand(out: &mut String, operand: Operand) -> Result<(), AllocError>
     ensures { OnOk result (string_bytes out.new ≡ string_bytes out.old ++ operand_text operand) }
 {
@@ -34,7 +34,7 @@ fn put_operand(out: &mut String, operand: Operand) -> Result<(), AllocError>
     }
 }
 
-/// Appends a number as `+k` or `-k`.
+/// Appends a number with its sign, such as `+8` or `-8`.
 fn put_signed(out: &mut String, number: i64) -> Result<(), AllocError>
     ensures { OnOk result (string_bytes out.new ≡ string_bytes out.old ++ signed_text number) }
 {
@@ -44,7 +44,7 @@ fn put_signed(out: &mut String, number: i64) -> Result<(), AllocError>
     put_number(out, number)
 }
 
-/// Appends a memory operand as `[rN+k]` or `[rN-k]`.
+/// Appends a memory operand, such as `[r1+8]` or `[r10-8]`.
 fn put_place(out: &mut String, base: Reg, offset: i16) -> Result<(), AllocError>
     ensures { OnOk result (string_bytes out.new ≡ string_bytes out.old ++ place_text base offset) }
 {
@@ -92,7 +92,7 @@ fn mnemonic_for(insn: &Insn) -> Mnemonic
     }
 }
 
-/// Appends a register as the only operand.
+/// Appends a space and a register: the operand of an instruction with only one.
 fn put_target(out: &mut String, dst: Reg) -> Result<(), AllocError>
     ensures { OnOk result (string_bytes out.new ≡ string_bytes out.old ++ operands_text (register_text dst ∷ [])) }
 {
@@ -100,7 +100,7 @@ fn put_target(out: &mut String, dst: Reg) -> Result<(), AllocError>
     put_register(out, dst)
 }
 
-/// Appends a register and a second operand.
+/// Appends a space, a register, a comma, and a second operand, such as ` r1, 8`.
 fn put_pair(out: &mut String, dst: Reg, operand: Operand) -> Result<(), AllocError>
     ensures { OnOk result (string_bytes out.new ≡ string_bytes out.old
         ++ operands_text (register_text dst ∷ operand_text operand ∷ [])) }
@@ -111,7 +111,7 @@ fn put_pair(out: &mut String, dst: Reg, operand: Operand) -> Result<(), AllocErr
     put_operand(out, operand)
 }
 
-/// Appends a register and a 64-bit number.
+/// Appends a space, a register, a comma, and an unsigned 64-bit number, such as ` r1, 8`.
 fn put_wide(out: &mut String, dst: Reg, number: u64) -> Result<(), AllocError>
     ensures { OnOk result (string_bytes out.new ≡ string_bytes out.old
         ++ operands_text (register_text dst ∷ decimal number ∷ [])) }
@@ -122,7 +122,7 @@ fn put_wide(out: &mut String, dst: Reg, number: u64) -> Result<(), AllocError>
     put_unsigned(out, number)
 }
 
-/// Appends a distance as the only operand.
+/// Appends a space and a distance, such as ` +2`.
 fn put_distance(out: &mut String, distance: i64) -> Result<(), AllocError>
     ensures { OnOk result (string_bytes out.new ≡ string_bytes out.old ++ operands_text (signed_text distance ∷ [])) }
 {
@@ -130,7 +130,7 @@ fn put_distance(out: &mut String, distance: i64) -> Result<(), AllocError>
     put_signed(out, distance)
 }
 
-/// Appends the operands of a branch: the two that it compares, and its distance.
+/// Appends the operands of a conditional jump, such as ` r1, 8, +2`: the two that it compares, and its distance.
 fn put_branch(out: &mut String, dst: Reg, operand: Operand, distance: i16) -> Result<(), AllocError>
     ensures { OnOk result (string_bytes out.new ≡ string_bytes out.old
         ++ operands_text (register_text dst ∷ operand_text operand ∷ signed_text distance ∷ [])) }
@@ -143,7 +143,7 @@ fn put_branch(out: &mut String, dst: Reg, operand: Operand, distance: i16) -> Re
     put_signed(out, distance as i64)
 }
 
-/// Appends the operands of a load: the register, and the memory operand.
+/// Appends the operands of a load, such as ` r1, [r10-8]`.
 fn put_load(out: &mut String, dst: Reg, base: Reg, offset: i16) -> Result<(), AllocError>
     ensures { OnOk result (string_bytes out.new ≡ string_bytes out.old
         ++ operands_text (register_text dst ∷ place_text base offset ∷ [])) }
@@ -154,7 +154,7 @@ fn put_load(out: &mut String, dst: Reg, base: Reg, offset: i16) -> Result<(), Al
     put_place(out, base, offset)
 }
 
-/// Appends the operands of a store: the memory operand, and the source.
+/// Appends the operands of a store, such as ` [r10-8], r1`.
 fn put_store(out: &mut String, base: Reg, offset: i16, source: Operand) -> Result<(), AllocError>
     ensures { OnOk result (string_bytes out.new ≡ string_bytes out.old
         ++ operands_text (place_text base offset ∷ operand_text source ∷ [])) }
@@ -165,7 +165,7 @@ fn put_store(out: &mut String, base: Reg, offset: i16, source: Operand) -> Resul
     put_operand(out, source)
 }
 
-/// Appends the number of a helper.
+/// Appends a space and the number of a helper.
 fn put_helper(out: &mut String, helper: i32) -> Result<(), AllocError>
     ensures { OnOk result (string_bytes out.new ≡ string_bytes out.old ++ operands_text (signed_decimal helper ∷ [])) }
 {
@@ -173,7 +173,7 @@ fn put_helper(out: &mut String, helper: i32) -> Result<(), AllocError>
     put_number(out, helper as i64)
 }
 
-/// Appends the operands of an instruction, with a comma and a space between them.
+/// Appends the operands of an instruction, such as ` r1, 8`, or nothing if it has none.
 fn put_operands(out: &mut String, insn: &Insn) -> Result<(), AllocError>
     ensures { OnOk result (string_bytes out.new ≡ string_bytes out.old ++ operands_text (operands_of insn.now)) }
 {
@@ -214,7 +214,7 @@ fn put_operands(out: &mut String, insn: &Insn) -> Result<(), AllocError>
     }
 }
 
-/// Appends an instruction: its mnemonic and its operands.
+/// Appends an instruction as text, such as `add r1, 8`.
 #[tactic(auto, unfolding(crate::specs::Printing::insn_text))]
 pub fn put_instruction(out: &mut String, insn: &Insn) -> Result<(), AllocError>
     ensures { OnOk result (string_bytes out.new ≡ string_bytes out.old ++ insn_text insn.now) }
@@ -223,7 +223,7 @@ pub fn put_instruction(out: &mut String, insn: &Insn) -> Result<(), AllocError>
     put_operands(out, insn)
 }
 
-/// Appends an instruction and a line feed.
+/// Appends an instruction as text, such as `add r1, 8`, and a line feed.
 pub fn put_line(out: &mut String, insn: &Insn) -> Result<(), AllocError>
     ensures { OnOk result (string_bytes out.new ≡ string_bytes out.old ++ line_text insn.now) }
 {

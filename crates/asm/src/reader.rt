@@ -1,4 +1,4 @@
-//! Reads the lines of a text in order, and stores their names and statements.
+//! Reads the lines of an assembly text in order, and stores their names and instructions.
 
 ghost use Rattle.std.specs.Prelude.{◌≡◌, ◌+◌, ◌^◌, ◌<◌, ◌≤◌, ◌++◌, ◌∷◌, [], map, length, OnOk, IfErr, IfOk, Some, None};
 ghost use Rattle.asm.specs.Program.{Read, line_read, with_words, with_name, with_source, read_on, nothing, lines_of};
@@ -14,23 +14,23 @@ use insn::Program;
 use std::alloc::Global;
 use std::collections::BTreeMap;
 
-/// The greatest number of units of a program. Further statements are counted, but not stored.
+/// The greatest number of units of a program. Further instructions are counted, but not stored.
 pub const MOST_UNITS: u64 = Program::MOST_UNITS as u64;
 
-/// The result of reading the lines of a text so far.
+/// What the assembler has read of a text so far.
 #[derive(Drop)]
 pub struct Reading<'a> {
-    /// The unit for which each name is defined.
+    /// For each name, the unit that follows it.
     pub names: BTreeMap<&'a [u8], u64>,
-    /// The number of units that the statements take.
+    /// The number of units that all instructions take.
     pub units: u64,
-    /// The statements, as long as they take at most 4,096 units. Later statements are not added.
+    /// The instructions with their lines, up to but not including the one with which the units exceed 4,096.
     pub sources: Vec<Kept<'a>>,
-    /// The number of lines of the text.
+    /// The number of lines, set after the last one is read.
     pub lines: u64,
 }
 
-/// Defines a name as the next unit. It fails with `Twice` if the name is already defined.
+/// Defines a name for the next unit. Fails with `Twice` if the name is already defined, or with `Memory`.
 fn put_name<'a>(reading: &mut Reading<'a>, name: &'a [u8]) -> Result<(), LineError>
     ensures read { (r : Read) → Keeps reading.old r → GivesRead result reading.new (with_name r (Some name.now)) }
     ensures units { reading.new.units ≡ reading.old.units }
@@ -42,7 +42,8 @@ fn put_name<'a>(reading: &mut Reading<'a>, name: &'a [u8]) -> Result<(), LineErr
     Ok(())
 }
 
-/// Defines the name of a line as the next unit, if the line has one.
+/// Defines the name of a line for the next unit. Does nothing if the line has no name. Fails with `Twice` if the name
+/// is already defined, or with `Memory`.
 fn read_name<'a>(reading: &mut Reading<'a>, name: Option<&'a [u8]>) -> Result<(), LineError>
     ensures read { (r : Read) → Keeps reading.old r →
         GivesRead result reading.new (with_name r (name_view name.entry)) }
@@ -54,7 +55,7 @@ fn read_name<'a>(reading: &mut Reading<'a>, name: Option<&'a [u8]>) -> Result<()
     }
 }
 
-/// Appends a statement and its line to the stored statements.
+/// Appends an instruction and the number of its line to the stored ones. Fails with `Memory`.
 fn push_kept<'a>(
     sources: &mut Vec<Kept<'a>>,
     draft: DraftInstruction,
@@ -73,7 +74,8 @@ fn push_kept<'a>(
     Ok(())
 }
 
-/// Counts the units of a statement, and stores it if the program has room for it.
+/// Adds the units of an instruction to the count, and stores the instruction unless the count exceeds 4,096. Fails with
+/// `Memory`.
 fn put_source<'a>(
     reading: &mut Reading<'a>,
     statement: &Statement<'a>,
@@ -91,7 +93,8 @@ fn put_source<'a>(
     Ok(())
 }
 
-/// Reads the statement of these words, if there are any, and adds it.
+/// Reads an instruction from the words of a line, and stores it. Does nothing if there are no words. Fails with the
+/// line's fault, or with `Memory`.
 #[tactic(auto, unfolding(crate::specs::Program::with_words))]
 fn put_words<'a>(reading: &mut Reading<'a>, words: &[&'a [u8]], line: u64) -> Result<(), LineError>
     requires { reading.old.units + 2 < 2 ^ 64 }
@@ -106,7 +109,7 @@ fn put_words<'a>(reading: &mut Reading<'a>, words: &[&'a [u8]], line: u64) -> Re
     }
 }
 
-/// Reads a line, and adds its name and its statement.
+/// Reads a line, and stores its name and its instruction. Fails with the line's fault, or with `Memory`.
 #[tactic(auto, unfolding(crate::specs::Program::line_read, crate::specs::Program::with_line))]
 fn read_line<'a>(
     reading: &mut Reading<'a>,
@@ -129,7 +132,7 @@ fn read_line<'a>(
     put_words(reading, words, line)
 }
 
-/// Reads all lines of a text. It fails with the fault of the first line that has one.
+/// Reads all lines of a text. Fails with the first line's fault and its number, or with `Memory`.
 pub fn gather<'a>(alloc: Global, text: &'a [u8]) -> Result<Reading<'a>, AsmError>
     ensures read { GivesGathered result (read_on nothing 1 (lines_of text.now)) }
     ensures units { IfOk result (λ reading. reading.units ≤ 4096 → reading.units ≡ units_kept reading.sources.items) }

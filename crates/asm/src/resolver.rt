@@ -1,4 +1,4 @@
-//! Turns statements into instructions: names become distances.
+//! Finishes instructions after all lines are read: names become the distances of jumps.
 
 ghost use Rattle.std.specs.Prelude.{◌≡◌, ◌+◌, ◌^◌, ◌<◌, ◌≤◌, [], List, ℕ, length, IfOk};
 ghost use Rattle.std.specs.List.{AllByRecursion};
@@ -19,8 +19,8 @@ use insn::Insn;
 use std::alloc::Global;
 use std::collections::BTreeMap;
 
-/// Returns the distance to the target of a jump, counted from the unit after the jump. It returns `None` if the name is
-/// not defined.
+/// Returns the distance of a jump at `unit` to its target, in units, counted from the unit after the jump. Returns
+/// `None` if the target is a name that is not defined.
 #[tactic(auto)]
 fn distance(names: &BTreeMap<&[u8], u64>, unit: u64, aim: &Aim, name: &[u8]) -> Option<Number>
     requires { unit < 4096 }
@@ -46,8 +46,8 @@ fn distance(names: &BTreeMap<&[u8], u64>, unit: u64, aim: &Aim, name: &[u8]) -> 
     }
 }
 
-/// Returns the instruction of a statement, with the distance of its jump. It fails with `Label` if the name is not
-/// defined, and with `Range` if the distance is too great.
+/// Returns an instruction with the distance of its jump. Fails with `Label` if it jumps to a name that is not defined,
+/// and with `Range` if the distance is too great.
 fn resolve(
     names: &BTreeMap<&[u8], u64>,
     unit: u64,
@@ -97,8 +97,8 @@ fn resolve(
     }
 }
 
-/// Returns the instructions of all statements that were read. It fails with the fault of the first jump that cannot be
-/// resolved.
+/// Returns the stored instructions with the distances of their jumps. Fails with the fault of the first jump whose name
+/// is not defined or whose distance is too great, or with `Memory`.
 pub fn resolve_all(alloc: Global, reading: &Reading<'_>) -> Result<Vec<Insn>, AsmError>
     requires bound { reading.now.units ≤ 4096 }
     requires units { reading.now.units ≡ units_kept reading.now.sources.items }

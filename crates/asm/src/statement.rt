@@ -1,4 +1,4 @@
-//! Reads statements: a mnemonic and its operands, with one function for each kind of instruction.
+//! Reads an instruction from the words of a line, with one function for each kind of instruction.
 
 ghost use Rattle.std.specs.Prelude.{◌≡◌, map, [], Some, None, IfSome, IfNone};
 ghost use Rattle.asm.specs.declared.mnemonic.Mnemonic.TheVariants as words;
@@ -14,7 +14,7 @@ use crate::operand::{fit, letter, place, read_raw, register, target};
 use insn::{Insn, Operand, Size};
 use word::{ByteOrder, Condition, Narrow, Operation, SwapSize, Width};
 
-/// Returns `Some` if there are no operands.
+/// Returns `Some` if there are no operands, and otherwise `None`.
 #[tactic(auto, unfolding(crate::specs::Statement::none_of))]
 fn no_operand<'a>(operands: &[&'a [u8]]) -> Option<()>
     ensures some { IfSome result (λ _. none_of (map (λ r. r.now) operands.now) ≡ Some []) }
@@ -26,7 +26,7 @@ fn no_operand<'a>(operands: &[&'a [u8]]) -> Option<()>
     }
 }
 
-/// Returns the operand, if there is exactly one.
+/// Returns the operand if there is exactly one, and otherwise `None`.
 #[tactic(auto, unfolding(crate::specs::Statement::one_of))]
 fn one_operand<'a>(operands: &[&'a [u8]]) -> Option<&'a [u8]>
     ensures { GivesOption (λ r. r.now) result (one_of (map (λ r. r.now) operands.now)) }
@@ -38,7 +38,7 @@ fn one_operand<'a>(operands: &[&'a [u8]]) -> Option<&'a [u8]>
     }
 }
 
-/// Returns the operands, if there are exactly two.
+/// Returns the operands if there are exactly two, and otherwise `None`.
 #[tactic(auto, unfolding(crate::specs::Statement::two_of))]
 fn two_operands<'a>(operands: &[&'a [u8]]) -> Option<(&'a [u8], &'a [u8])>
     ensures { GivesOption (λ r. (r.0.now, r.1.now)) result (two_of (map (λ r. r.now) operands.now)) }
@@ -51,7 +51,7 @@ fn two_operands<'a>(operands: &[&'a [u8]]) -> Option<(&'a [u8], &'a [u8])>
     }
 }
 
-/// Returns the operands, if there are exactly three.
+/// Returns the operands if there are exactly three, and otherwise `None`.
 #[tactic(auto, unfolding(crate::specs::Statement::three_of))]
 fn three_operands<'a>(operands: &[&'a [u8]]) -> Option<(&'a [u8], &'a [u8], &'a [u8])>
     ensures { GivesOption (λ r. (r.0.now, r.1.now, r.2.now)) result (three_of (map (λ r. r.now) operands.now)) }
@@ -65,7 +65,7 @@ fn three_operands<'a>(operands: &[&'a [u8]]) -> Option<(&'a [u8], &'a [u8], &'a 
     }
 }
 
-/// Makes the statement of an instruction whose distance, if it has one, is known.
+/// Returns an instruction that does not jump to a name, as the assembler stores it.
 fn plain<'a>(insn: Insn) -> Statement<'a>
     ensures { source_view result ≡ Plain insn }
 {
@@ -75,7 +75,7 @@ fn plain<'a>(insn: Insn) -> Statement<'a>
     }
 }
 
-/// Reads the operands of an arithmetic instruction: `rD, rS` or `rD, imm`.
+/// Reads the operands of an arithmetic instruction, such as `r1, r2` or `r1, 8`. Fails with `Operand` or `Range`.
 fn arithmetic<'a>(
     width: Width,
     operation: Operation,
@@ -104,7 +104,7 @@ fn arithmetic<'a>(
     }))
 }
 
-/// Reads the operand of a negation: `rD`.
+/// Reads the operand of a negation, such as `r1`. Fails with `Operand`.
 fn negate<'a>(width: Width, operands: &[&'a [u8]]) -> Result<Statement<'a>, AsmFault>
     ensures { GivesResult source_view result (source_of (words.Negate width) (map (λ r. r.now) operands.now)) }
 {
@@ -117,7 +117,7 @@ fn negate<'a>(width: Width, operands: &[&'a [u8]]) -> Result<Statement<'a>, AsmF
     Ok(plain(Insn::Negate { width, dst }))
 }
 
-/// Reads the operands of a move with sign extension: `rD, rS`.
+/// Reads the operands of a move with sign extension, such as `r1, r2`. Fails with `Operand`.
 fn sign_extend<'a>(
     width: Width,
     part: Narrow,
@@ -142,7 +142,7 @@ fn sign_extend<'a>(
     }))
 }
 
-/// Reads the operand of a byte swap: `rD`.
+/// Reads the operand of a byte swap, such as `r1`. Fails with `Operand`.
 fn swap<'a>(
     order: ByteOrder,
     size: SwapSize,
@@ -159,7 +159,8 @@ fn swap<'a>(
     Ok(plain(Insn::Swap { order, size, dst }))
 }
 
-/// Reads the operands of the wide instruction: `rD, number`.
+/// Reads the operands of the wide instruction, a register and a 64-bit number, such as `r1, 8`. Fails with `Operand` or
+/// `Range`.
 fn load_immediate<'a>(operands: &[&'a [u8]]) -> Result<Statement<'a>, AsmFault>
     ensures { GivesResult source_view result (source_of words.LoadImmediate (map (λ r. r.now) operands.now)) }
 {
@@ -178,7 +179,7 @@ fn load_immediate<'a>(operands: &[&'a [u8]]) -> Result<Statement<'a>, AsmFault>
     Ok(plain(Insn::LoadImmediate { dst, number }))
 }
 
-/// Reads the operand of a jump: its target.
+/// Reads the operand of a jump, its target: a name, or a distance such as `+2`. Fails with `Operand`.
 fn jump<'a>(operands: &[&'a [u8]]) -> Result<Statement<'a>, AsmFault>
     ensures { GivesResult source_view result (source_of words.Jump (map (λ r. r.now) operands.now)) }
 {
@@ -194,7 +195,7 @@ fn jump<'a>(operands: &[&'a [u8]]) -> Result<Statement<'a>, AsmFault>
     })
 }
 
-/// Reads the operand of a long jump: its target.
+/// Reads the operand of a long jump, its target: a name, or a distance such as `+2`. Fails with `Operand`.
 fn long_jump<'a>(operands: &[&'a [u8]]) -> Result<Statement<'a>, AsmFault>
     ensures { GivesResult source_view result (source_of words.LongJump (map (λ r. r.now) operands.now)) }
 {
@@ -210,7 +211,7 @@ fn long_jump<'a>(operands: &[&'a [u8]]) -> Result<Statement<'a>, AsmFault>
     })
 }
 
-/// Reads the operands of a branch: `rD, rS, target` or `rD, imm, target`.
+/// Reads the operands of a conditional jump, such as `r1, r2, +2` or `r1, 8, loop`. Fails with `Operand` or `Range`.
 fn branch<'a>(
     width: Width,
     condition: Condition,
@@ -240,7 +241,7 @@ fn branch<'a>(
     })
 }
 
-/// Reads the operands of a load: `rD, [rS+k]`.
+/// Reads the operands of a load, such as `r1, [r2+8]`. Fails with `Operand` or `Range`.
 fn load<'a>(size: Size, operands: &[&'a [u8]]) -> Result<Statement<'a>, AsmFault>
     ensures { GivesResult source_view result (source_of (words.Load size) (map (λ r. r.now) operands.now)) }
 {
@@ -264,7 +265,7 @@ fn load<'a>(size: Size, operands: &[&'a [u8]]) -> Result<Statement<'a>, AsmFault
     }))
 }
 
-/// Reads the operands of a sign-extending load: `rD, [rS+k]`.
+/// Reads the operands of a sign-extended load, such as `r1, [r2+8]`. Fails with `Operand` or `Range`.
 fn load_signed<'a>(part: Narrow, operands: &[&'a [u8]]) -> Result<Statement<'a>, AsmFault>
     ensures { GivesResult source_view result (source_of (words.LoadSigned part) (map (λ r. r.now) operands.now)) }
 {
@@ -288,7 +289,7 @@ fn load_signed<'a>(part: Narrow, operands: &[&'a [u8]]) -> Result<Statement<'a>,
     }))
 }
 
-/// Reads the operands of a store of a register: `[rD+k], rS`.
+/// Reads the operands of a store of a register, such as `[r1+8], r2`. Fails with `Operand` or `Range`.
 fn store_register<'a>(size: Size, operands: &[&'a [u8]]) -> Result<Statement<'a>, AsmFault>
     ensures { GivesResult source_view result (source_of (words.StoreRegister size) (map (λ r. r.now) operands.now)) }
 {
@@ -312,7 +313,7 @@ fn store_register<'a>(size: Size, operands: &[&'a [u8]]) -> Result<Statement<'a>
     }))
 }
 
-/// Reads the operands of a store of a number: `[rD+k], imm`.
+/// Reads the operands of a store of a number, such as `[r1+8], 5`. Fails with `Operand` or `Range`.
 fn store_number<'a>(size: Size, operands: &[&'a [u8]]) -> Result<Statement<'a>, AsmFault>
     ensures { GivesResult source_view result (source_of (words.StoreNumber size) (map (λ r. r.now) operands.now)) }
 {
@@ -339,7 +340,7 @@ fn store_number<'a>(size: Size, operands: &[&'a [u8]]) -> Result<Statement<'a>, 
     }))
 }
 
-/// Reads the operand of a call: a number, or the name of a helper.
+/// Reads the operand of a call: a number, or the name of a helper. Fails with `Operand` or `Range`.
 fn call<'a>(operands: &[&'a [u8]]) -> Result<Statement<'a>, AsmFault>
     ensures { GivesResult source_view result (source_of words.Call (map (λ r. r.now) operands.now)) }
 {
@@ -361,7 +362,7 @@ fn call<'a>(operands: &[&'a [u8]]) -> Result<Statement<'a>, AsmFault>
     Ok(plain(Insn::Call { helper }))
 }
 
-/// Reads the operands of an exit, which has none.
+/// Checks that an exit has no operands, and returns it. Fails with `Operand`.
 fn exit<'a>(operands: &[&'a [u8]]) -> Result<Statement<'a>, AsmFault>
     ensures { GivesResult source_view result (source_of words.Exit (map (λ r. r.now) operands.now)) }
 {
@@ -371,7 +372,8 @@ fn exit<'a>(operands: &[&'a [u8]]) -> Result<Statement<'a>, AsmFault>
     }
 }
 
-/// Reads the operands of a mnemonic, and returns the statement. It fails with `Operand` or `Range`.
+/// Reads the operands of a mnemonic, and returns the instruction. Fails with `Operand` if their number or kind is
+/// wrong, and with `Range` if a number is out of its range.
 fn read_source<'a>(mnemonic: Mnemonic, operands: &[&'a [u8]]) -> Result<Statement<'a>, AsmFault>
     ensures { GivesResult source_view result (source_of mnemonic (map (λ r. r.now) operands.now)) }
 {
@@ -393,7 +395,8 @@ fn read_source<'a>(mnemonic: Mnemonic, operands: &[&'a [u8]]) -> Result<Statemen
     }
 }
 
-/// Reads the statement of these words, if there are any. It fails with `Mnemonic` if the first word is not a mnemonic.
+/// Reads an instruction from a mnemonic and its operands. Returns `None` if there are no words. Fails with `Mnemonic`
+/// if the first word is not a mnemonic, and otherwise with `Operand` or `Range`.
 pub fn read_statement<'a>(words: &[&'a [u8]]) -> Result<Option<Statement<'a>>, AsmFault>
     ensures { GivesResult statement_view result (statement_of (map (λ r. r.now) words.now)) }
 {

@@ -1,4 +1,4 @@
-//! The lines on which the units of a program are written.
+//! Finds the line on which each unit of a program is written.
 ghost use Rattle.std.specs.Prelude.{◌≡◌, ◌++◌, ◌∷◌, [], map, string_bytes, IfOk, OnOk};
 ghost use Rattle.std.specs.List.{flat_map};
 ghost use Rattle.asm.specs.Places.{AreWritten, kept_places, line_text, own_places};
@@ -9,14 +9,14 @@ use crate::draft::{Kept, units};
 use crate::reader::{Reading, gather};
 use std::alloc::{AllocError, Global};
 
-/// Returns the text `line N`.
+/// Returns the number of a line as text, such as `line 7`.
 fn line_text(alloc: Global, line: u64) -> Result<String, AllocError>
     ensures { IfOk result (λ text. string_bytes text ≡ line_text line) }
 {
     format!(in alloc; "line {line}")
 }
 
-/// Appends the text `line N` to `places`, where N is the number of a unit's line.
+/// Appends the number of a unit's line to `places`, as a text such as `line 7`.
 fn put_place(alloc: Global, places: &mut Vec<String>, line: u64) -> Result<(), AllocError>
     ensures { OnOk result (map string_bytes places.new.items ≡ map string_bytes places.old.items
         ++ line_text line ∷ []) }
@@ -25,7 +25,7 @@ fn put_place(alloc: Global, places: &mut Vec<String>, line: u64) -> Result<(), A
     Ok(())
 }
 
-/// Appends the text `line N` to `places` once for each unit of a statement, where N is the number of its line.
+/// Appends the number of an instruction's line to `places`, as a text such as `line 7`, once for each of its units.
 fn put_places(alloc: Global, places: &mut Vec<String>, kept: &Kept<'_>) -> Result<(), AllocError>
     ensures { OnOk result (map string_bytes places.new.items ≡ map string_bytes places.old.items
         ++ own_places (kept_view kept.now)) }
@@ -37,7 +37,7 @@ fn put_places(alloc: Global, places: &mut Vec<String>, kept: &Kept<'_>) -> Resul
     Ok(())
 }
 
-/// Returns the lines of the units of all statements that were read.
+/// Returns for each unit of the stored instructions the number of its line, as a text such as `line 7`.
 fn all_places(alloc: Global, reading: &Reading<'_>) -> Result<Vec<String>, AllocError>
     ensures { IfOk result (λ places. map string_bytes places.items ≡ flat_map kept_places reading.now.sources.items) }
 {
@@ -48,9 +48,9 @@ fn all_places(alloc: Global, reading: &Reading<'_>) -> Result<Vec<String>, Alloc
     Ok(places)
 }
 
-/// Returns for each unit of the program in a text the line on which it is written, as `line N`, with lines counted from
-/// 1. An `lddw` has two units. The list is empty if a line of the text has a fault of its own. The contract says
-/// nothing of a text with more than 4,096 units.
+/// Returns for each unit of the program in a text the number of its line, as a text such as `line 7`. Lines are counted
+/// from 1, and an `lddw` has two units. The list is empty if a line has a fault of its own. The contract says nothing
+/// about texts with more than 4,096 units.
 ///
 /// # Errors
 ///

@@ -1,4 +1,4 @@
-//! The statements with which the units of a program are written.
+//! Finds the words with which each unit of a program is written.
 ghost use Rattle.std.specs.Prelude.{◌≡◌, ◌++◌, map, string_bytes, IfOk, MatchOption, Ok, OnOk, Some, true, false};
 ghost use Rattle.std.specs.List.{list_all};
 ghost use Rattle.asm.specs.Places.{for_units, is_visible, line_statements, statement_text, statements_of, word_text};
@@ -13,21 +13,21 @@ use crate::statement::read_statement;
 use crate::text_parts::put;
 use std::alloc::{AllocError, Global};
 
-/// Returns whether a byte is a visible character of ASCII or a space.
+/// Returns whether a byte is a visible ASCII character or a space.
 fn is_visible(byte: u8) -> bool
     ensures { result ≡ is_visible byte }
 {
     32 <= byte && byte < 127
 }
 
-/// Returns whether all bytes of a word are visible characters of ASCII or spaces.
+/// Returns whether all bytes of a word are visible ASCII characters or spaces.
 fn are_visible(word: &[u8]) -> bool
     ensures { result ≡ list_all is_visible word.now }
 {
     word.iter().all(|byte| is_visible(*byte))
 }
 
-/// Returns a word as text, or `None` if it has an invisible character.
+/// Returns a word as text, or `None` if it has a character that is neither a visible ASCII character nor a space.
 fn visible(word: &[u8]) -> Option<&str>
     ensures { MatchOption result (list_all is_visible word.now ≡ false) (λ text. (list_all is_visible word.now ≡ true)
         × (text.now ≡ word.now)) }
@@ -41,7 +41,7 @@ fn visible(word: &[u8]) -> Option<&str>
     }
 }
 
-/// Appends a word as it is written, or nothing if it has an invisible character.
+/// Appends a word as it is written. Appends nothing if it has a character that is not visible.
 fn put_word(out: &mut String, word: &[u8]) -> Result<(), AllocError>
     ensures { OnOk result (string_bytes out.new ≡ string_bytes out.old ++ word_text word.now) }
 {
@@ -51,7 +51,7 @@ fn put_word(out: &mut String, word: &[u8]) -> Result<(), AllocError>
     }
 }
 
-/// Appends the operands after the first, each after a comma and a space.
+/// Appends the operands after the first, each with a comma and a space before it.
 fn put_more(out: &mut String, operands: &[&[u8]]) -> Result<(), AllocError>
     ensures { OnOk result (string_bytes out.new ≡ string_bytes out.old
         ++ more_text (map word_text (map (λ w. w.now) operands.now))) }
@@ -64,7 +64,7 @@ fn put_more(out: &mut String, operands: &[&[u8]]) -> Result<(), AllocError>
     put_more(out, rest)
 }
 
-/// Appends the operands of a statement.
+/// Appends the operands of an instruction, such as ` r1, 8`, or nothing if there are none.
 fn put_operands(out: &mut String, operands: &[&[u8]]) -> Result<(), AllocError>
     ensures { OnOk result (string_bytes out.new ≡ string_bytes out.old
         ++ operands_text (map word_text (map (λ w. w.now) operands.now))) }
@@ -77,7 +77,7 @@ fn put_operands(out: &mut String, operands: &[&[u8]]) -> Result<(), AllocError>
     put_more(out, rest)
 }
 
-/// Appends a mnemonic and its operands.
+/// Appends an instruction in the words of its line, such as `add r1, 8`.
 fn put_words(out: &mut String, words: &[&[u8]]) -> Result<(), AllocError>
     ensures { OnOk result (string_bytes out.new ≡ string_bytes out.old ++ statement_text (map (λ w. w.now) words.now)) }
 {
@@ -88,7 +88,7 @@ fn put_words(out: &mut String, words: &[&[u8]]) -> Result<(), AllocError>
     put_operands(out, operands)
 }
 
-/// Returns the text of a statement, in the words of its line.
+/// Returns an instruction in the words of its line, such as `add r1, 8`.
 fn statement_text(alloc: Global, words: &[&[u8]]) -> Result<String, AllocError>
     ensures { IfOk result (λ text. string_bytes text ≡ statement_text (map (λ w. w.now) words.now)) }
 {
@@ -97,7 +97,7 @@ fn statement_text(alloc: Global, words: &[&[u8]]) -> Result<String, AllocError>
     Ok(text)
 }
 
-/// Appends the text of a statement once for each of its units.
+/// Appends an instruction in the words of its line to `statements`, once for each of its units.
 fn put_units(
     alloc: Global,
     statements: &mut Vec<String>,
@@ -114,8 +114,8 @@ fn put_units(
     Ok(())
 }
 
-/// Appends the text of the statement of these words once for each of its units. It appends nothing if the words are not
-/// a statement.
+/// Appends the instruction that `words` make up to `statements`, once for each of its units. Appends nothing if the
+/// words are not an instruction.
 fn put_statement(
     alloc: Global,
     statements: &mut Vec<String>,
@@ -130,7 +130,8 @@ fn put_statement(
     }
 }
 
-/// Appends the text of the statement of a line once for each of its units.
+/// Appends the instruction of a line to `statements`, once for each of its units. Appends nothing if the line has no
+/// instruction, or has a fault.
 #[tactic(auto, using(crate::proofs::WordingLemmas::nothing_added))]
 fn put_line<'a>(
     alloc: Global,
@@ -147,8 +148,8 @@ fn put_line<'a>(
     }
 }
 
-/// Returns for each unit of the program in a text the statement with which it is written: `mnemonic a, b, c`, in the
-/// words of its line. An `lddw` has two units, so its statement is there twice.
+/// Returns for each unit of the program in a text the instruction to which it belongs, in the words of its line, such
+/// as `call board_get`. An `lddw` has two units, so it is returned twice.
 ///
 /// # Errors
 ///

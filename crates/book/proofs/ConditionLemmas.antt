@@ -22,7 +22,7 @@ use Rattle.book.proofs.Gathering.{on_behind}
 pub head_on : (x : ℕ) (xs : List ℕ) → on (x ∷ xs) x ≡ true
 head_on x xs = or_left (x == x) (on xs x) (eq-eqb x x refl)
 
--- each of a list has the same
+-- All items of a list are the same.
 all_from : (F : ℕ → ℕ) (v : ℕ) (xs : List ℕ) → ((p : ℕ) → on xs p ≡ true → F p ≡ v) → list_all (λ d. d == v) (map F xs) ≡ true
 all_from F v [] h = refl
 all_from F v (x ∷ xs) h = and_from (F x == v) (list_all (λ d. d == v) (map F xs)) (eq-eqb (F x) v (h x (head_on x xs))) (all_from F v xs (λ p i. h p (on_behind x p xs i)))
@@ -46,7 +46,7 @@ alike_to F (x ∷ xs) a p q i j =
     let all : list_all (λ d. d == F x) (map F (x ∷ xs)) ≡ true = and_from (F x == F x) (list_all (λ d. d == F x) (map F xs)) (eq-eqb (F x) (F x) refl) a in
     all_to F (F x) (x ∷ xs) all p i ∙ sym (all_to F (F x) (x ∷ xs) all q j)
 
--- the same of what was told
+-- The order that was received is this one.
 told_to : (v : ℕ) (o : Option ℕ) → is_told v o ≡ true → o ≡ Some v
 told_to v None e = absurd (true≢false (sym e))
 told_to v (Some u) e = ap Some (eqb-true u v e)
@@ -102,7 +102,7 @@ among_loyal t traitors p i =
     let both = or_parts (t.commander == p) (on traitors p) there.1 in
     record { general = there.0; lieutenant = λ e. eqb-false t.commander p both.0 (sym e); loyal = both.1 }
 
--- the bound
+-- The bound.
 bound_means : (t : MessageTable) (traitors : List ℕ) → ((judged t traitors).bound ≡ true) ↔ IsBound t.generals t.bound (on traitors)
 unfolding judged
 bound_means t traitors = (
@@ -120,7 +120,7 @@ alike_means t traitors = (
   λ h. alike_from (decision_of t) (loyal t traitors) (λ p q i j. h p q (among_loyal t traitors p i) (among_loyal t traitors q j)),
 )
 
--- all who are not named decide an order
+-- All lieutenants who are not named decide on this order.
 decide_to : (t : MessageTable) (traitors : List ℕ) (order : ℕ) → list_all (λ d. d == order) (loyal_decisions t traitors) ≡ true → DecideOn t traitors order
 unfolding loyal_decisions
 decide_to t traitors order e p h = all_to (decision_of t) order (loyal t traitors) e p (loyal_among t traitors p h)
@@ -129,7 +129,7 @@ decide_from : (t : MessageTable) (traitors : List ℕ) (order : ℕ) → DecideO
 unfolding loyal_decisions
 decide_from t traitors order h = all_from (decision_of t) order (loyal t traitors) (λ p i. h p (among_loyal t traitors p i))
 
--- the commander told all an order
+-- The commander sent this order to all.
 tells_to : (t : MessageTable) (order : ℕ) → same_order (sent t) ≡ Some order → TellsAll t order
 unfolding sent
 tells_to t order e p l ne =
@@ -150,7 +150,7 @@ tells_from t order within h =
     let off = or_parts (t.commander == p) false there.1 in
     h p there.0 (λ e. eqb-false t.commander p off.0 (sym e)))
 
--- what obedience says
+-- What the result of obedience means.
 to_obeyed : (o : Option ℕ) (ds : List ℕ) (order : ℕ) → obedience_to o ds ≡ Obeyed order → (o ≡ Some order) × (list_all (λ d. d == order) ds ≡ true)
 to_obeyed None ds order e = cc
 to_obeyed (Some v) ds order e = elim (cases_Bool (list_all (λ d. d == v) ds)) [
@@ -209,7 +209,7 @@ disobeyed_means t traitors order within = (
       rw (h.0, tells_from t order within h.1, fails) refl,
 )
 
--- where the theorem applies
+-- If the agreement theorem applies, both conditions hold.
 agrees : (t : MessageTable) (traitors : List ℕ) (order : ℕ) → IsWithin t → IsTrusted t traitors order → Agree t.generals t.commander order (on traitors) (decision_of t)
 unfolding decision_of
 agrees t traitors order within h = holds (combined_by t.rule) (chosen_is_rule t.rule) t.generals t.commander t.bound order (on traitors) (told t.messages) within.present h.bound h.faithful
@@ -225,6 +225,6 @@ kept_means t traitors order within h =
       ),
     )
 
--- the law, as specs/Consistency states it
+-- The law, as specs/Consistency states it.
 pub proved_conditions_mean : ConditionsMean
 proved_conditions_mean = record { bound = bound_means; alike = alike_means; traitor = traitor_means; obeyed = obeyed_means; disobeyed = disobeyed_means; kept = kept_means }

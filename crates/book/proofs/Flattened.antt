@@ -9,7 +9,7 @@ use Rattle.book.proofs.FormLemmas.{flat_flat, flat_same}
 use Rattle.book.proofs.Places.{Place, places, places_from, is_place_of, are_places}
 use Rattle.book.specs.Written.{Marking, first_line, line_of, lines_from, mark_of, telling, table_text, written}
 
--- the line of a place
+-- The line of a place.
 abbrev pub placed : Marking → Place → List ℕ
 placed mark z = line_of (dotted z.0) z.1 (mark z.0 z.1)
 
@@ -22,7 +22,7 @@ lines_placed mark n (suc k) w =
     flat_same (λ j. lines_from mark n k (w ++ j ∷ [])) (λ j. flat_map (placed mark) (places_from n k (w ++ j ∷ []))) (others n w) (λ j. lines_placed mark n k (w ++ j ∷ []))
     ∙ sym (flat_flat (placed mark) (λ j. places_from n k (w ++ j ∷ [])) (others n w))
 
--- the whole is the first line, and the lines of all places
+-- The table is the first line, and then the lines of all places.
 pub written_is : (mark : Marking) (n m c : ℕ) (rule : Rule) → written mark n m c rule ≡ first_line n m c rule ++ flat_map (placed mark) (places n m c)
 unfolding written
 written_is mark n m c rule =
@@ -38,7 +38,7 @@ weaker : (P Q : Place → Type 0) (xs : List Place) → ((x : Place) → P x →
 weaker P Q [] h a = tt
 weaker P Q (x ∷ xs) h a = (h x a.0, weaker P Q xs h a.1)
 
--- the text has no more of the messages than those of the campaign's places
+-- The text depends only on the messages at the campaign's places.
 pub tables_same : (M N : Messages) (n m c : ℕ) (rule : Rule) → c < n → ((w : List ℕ) (p : ℕ) → is_place_of n m c w p ≡ true → M w p ≡ N w p) → table_text M n m c rule ≡ table_text N n m c rule
 tables_same M N n m c rule l same =
     written_is (telling M) n m c rule

@@ -1,4 +1,4 @@
--- A form that is filled in is read again.
+-- A table to fill in is read again after it is filled in.
 use Rattle.std.proofs.Common.{ℕ, zero, suc, ◌+◌, ◌^◌, ◌<◌, ◌≤◌, ◌≡◌, ◌≢◌, Bool, true, false, not, ◌&&◌, List, [], ◌∷◌, ◌++◌, map, length, refl, sym, ap, ◌∙◌, arith, inl, inr, append_assoc, append-nil, Some}
 use Rattle.std.specs.Prelude.{◌==◌, nat_lt, nat_le, bytes_eq, codes, decimal, find, option_map, Ok}
 use Rattle.std.specs.List.{flat_map, range_with_len, list_all, list_any, AllByRecursion}
@@ -23,7 +23,7 @@ use Rattle.book.specs.Forms.{place_line, place_lines, marked_text, FormsAreRead}
 use Rattle.book.specs.Grammar.{is_place, numbers_of, message_of, order_in, head_of, checked, with_message, lines_told, table_told}
 use Rattle.book.proofs.Places.{Place, places, places_from, is_in, AllDiffer, fits, is_place_of, are_places, places_differ, all_found}
 
--- digits are no stops
+-- Digits are not among the characters at which a line is split.
 pub digits_lack : (stop : Stop) → ((c : ℕ) → is_within 48 57 c ≡ true → not (is_stop stop c) ≡ true) → (n : ℕ) → n < 2 ^ 64 → Lacks stop (decimal n)
 digits_lack stop h n l = all-weaker (is_within 48 57) (λ c. not (is_stop stop c)) h (decimal n) (digits-decimal n l)
 
@@ -36,7 +36,7 @@ no_dot c h = grind (arith, nat_tests)
 pub no_feed : (c : ℕ) → is_within 48 57 c ≡ true → not (is_stop feed c) ≡ true
 no_feed c h = grind (arith, nat_tests)
 
--- generals as they are printed
+-- The generals' numbers as they are printed.
 abbrev pub AreFew : List ℕ → Type 0
 AreFew w = list_all (λ x. nat_lt x 13) w ≡ true
 
@@ -66,7 +66,7 @@ numbers_read : (w : List ℕ) → AreFew w → numbers_of (map decimal w) ≡ So
 numbers_read [] few = refl
 numbers_read (g ∷ gs) few = rw (decimal_of-decimal g (few_first g gs few), numbers_read gs (few_rest g gs few)) refl
 
--- the line of a place with its order, without its LF
+-- The line of a place with its order, without its line feed.
 abbrev pub tell : List ℕ → ℕ → ℕ → List ℕ
 tell w p v = codes "tell " ++ dotted w ++ codes " " ++ decimal p ++ codes " " ++ decimal v
 
@@ -93,7 +93,7 @@ message_read g gs p v few lp lv =
     let second : v < 2 ^ 64 = omega arith in
     rw (pieces_told (g ∷ gs) p v few lp lv, pieces_dotted g gs few, numbers_read (g ∷ gs) few, decimal_of-decimal p first, decimal_of-decimal v second, lt-ltb v (2 ^ 32) lv) refl
 
--- the first line, without its LF
+-- The first line, without its line feed.
 abbrev head : ℕ → ℕ → ℕ → List ℕ
 head n m c = codes "generals " ++ decimal n ++ codes " bound " ++ decimal m ++ codes " commander " ++ decimal c
 
@@ -118,7 +118,7 @@ head_read : (n m c : ℕ) → n < 2 ^ 64 → m < 2 ^ 64 → c < 2 ^ 64 → head_
 unfolding head_of
 head_read n m c ln lm lc = rw (pieces_head n m c ln lm lc, decimal_of-decimal n ln, decimal_of-decimal m lm, decimal_of-decimal c lc) refl
 
--- lines, each with its LF
+-- Lines, each with its line feed.
 pub lines_read : (ls : List (List ℕ)) → AllByRecursion (Lacks feed) ls → lines_of (flat_map (λ l. l ++ 10 ∷ []) ls) ≡ ls
 lines_read [] h = refl
 lines_read (l ∷ ls) h = ap lines_of (append_assoc l (10 ∷ []) (flat_map (λ x. x ++ 10 ∷ []) ls)) ∙ (lines_of-append l (flat_map (λ x. x ++ 10 ∷ []) ls) h.0 ∙ ap (λ xs. l ∷ xs) (lines_read ls h.1))
@@ -135,7 +135,7 @@ flat_map_is : (G : Place → List ℕ) (zs : List Place) → flat_map (λ z. G z
 flat_map_is G [] = refl
 flat_map_is G (z ∷ zs) = ap (λ ys. (G z ++ 10 ∷ []) ++ ys) (flat_map_is G zs)
 
--- the line of a place
+-- The line of a place.
 abbrev line : (List ℕ → ℕ → ℕ) → Place → List ℕ
 line order z = tell z.0 z.1 (order z.0 z.1)
 
@@ -156,7 +156,7 @@ text_is order n m c =
     ∙ (sym (flat_flat (λ z. line order z ++ 10 ∷ []) (λ k. places_from n k (c ∷ [])) (range_with_len 0 (m + 1)))
     ∙ flat_map_is (line order) (places n m c)))
 
--- what is known of a place: a label that is not empty, of few generals
+-- What is known of a place: its label is not empty and has few generals.
 record IsSmall (z : Place) : Type 0 where
   some : (g : ℕ) × (gs : List ℕ) × (z.0 ≡ g ∷ gs)
   few : AreFew z.0
@@ -208,7 +208,7 @@ lines_lack : (order : List ℕ → ℕ → ℕ) → ((w : List ℕ) (p : ℕ) �
 lines_lack order bits [] a = tt
 lines_lack order bits (z ∷ zs) a = (line_lacks order bits z a.0, lines_lack order bits zs a.1)
 
--- a message is about no other place
+-- A message is about no other place.
 elsewhere : (order : List ℕ → ℕ → ℕ) (z y : Place) → z ≢ y → is_about y.0 y.1 (message order z) ≡ false
 elsewhere order z y ne = elim (cases_Bool (is_about y.0 y.1 (message order z))) [
   | inl it ↦
@@ -220,7 +220,7 @@ elsewhere order z y ne = elim (cases_Bool (is_about y.0 y.1 (message order z))) 
   | inr fails ↦ fails
 ]
 
--- no message is about one of these
+-- No message is about one of these places.
 abbrev AreNew : List Message → List Place → Type 0
 AreNew messages zs = AllByRecursion (λ z. list_any (is_about z.0 z.1) messages ≡ false) zs
 
@@ -234,7 +234,7 @@ new_more order messages z (y ∷ ys) a d = (
 abbrev with_all : MessageTable → List Message → MessageTable
 with_all t more = record t { messages = t.messages ++ more }
 
--- the lines are told one after the other
+-- The lines are read one after the other.
 lines_are_told : (order : List ℕ → ℕ → ℕ) → ((w : List ℕ) (p : ℕ) → order w p < 2 ^ 32) → (zs : List Place) (t : MessageTable) (number : ℕ)
     → AllByRecursion (λ z. is_place t z.0 z.1 ≡ true) zs → AllByRecursion IsSmall zs → AllDiffer zs → AreNew t.messages zs → lines_told t number (map (line order) zs) ≡ Ok (with_all t (map (message order) zs))
 lines_are_told order bits [] t number places smalls differ new = ap (λ ms. Ok (record t { messages = ms })) (sym (append-nil t.messages))
@@ -244,7 +244,7 @@ lines_are_told order bits (z ∷ zs) t number places smalls differ new =
     let rest : lines_told next (suc number) (map (line order) zs) ≡ Ok (with_all next (map (message order) zs)) = lines_are_told order bits zs next (suc number) places.1 smalls.1 differ.1 (new_more order t.messages z zs new.1 differ.0) in
     rw good (rest ∙ ap (λ ms. Ok (record t { messages = ms })) (append_assoc t.messages (message order z ∷ []) (map (message order) zs)))
 
--- a place that stands there is told its order
+-- The order at a place in the list is found.
 found_told : (order : List ℕ → ℕ → ℕ) (w : List ℕ) (p : ℕ) (zs : List Place) → is_in w p zs ≡ true → told (map (message order) zs) w p ≡ Some (order w p)
 unfolding told
 found_told order w p [] i = absurd (true≢false (sym i))
@@ -267,7 +267,7 @@ none_before : (zs : List Place) → AreNew [] zs
 none_before [] = tt
 none_before (z ∷ zs) = (refl, none_before zs)
 
--- the law, as specs/Forms states it
+-- The law, as specs/Forms states it.
 pub proved_forms_are_read : FormsAreRead
 unfolding table_told
 proved_forms_are_read order bits n m c within =

@@ -1,4 +1,4 @@
--- What a tree has of a label.
+-- What a tree contains for a label.
 use Rattle.std.proofs.Common.{ℕ, zero, suc, ◌+◌, ◌-◌, ◌^◌, ◌<◌, ◌≤◌, ◌≡◌, Bool, true, false, cond, List, [], ◌∷◌, length, map, take, refl, sym, ap, ◌∙◌, arith, inl, inr, Option, None, Some, All, get_or, subst}
 use Rattle.std.specs.Prelude.{◌==◌, bytes_eq, find, option_map, slice_get, unwrap_or}
 use Rattle.std.specs.List.{list_any}
@@ -20,11 +20,11 @@ no_level = []
 empty_get : (i v : ℕ) → slice_get no_level i ≡ Some (Some v) → ⊥
 empty_get i v e = cc
 
--- the label is one of these
+-- The label is one of these.
 abbrev is_among : List ℕ → List (List ℕ) → Bool
 is_among w vs = list_any (λ v. bytes_eq v w) vs
 
--- what stands beside the label where each label has its message
+-- The value at the label's position, if each label has its message.
 beside_all : (M : Messages) (g : ℕ) (w : List ℕ) (vs : List (List ℕ)) → beside w vs (map (λ v. M v g) vs) ≡ cond (is_among w vs) (M w g) None
 beside_all M g w [] = refl
 beside_all M g w (v ∷ vs) = elim (cases_Bool (bytes_eq v w)) [
@@ -53,7 +53,7 @@ at_among w [] r e = cc
 at_among w (v ∷ vs) zero e = or_left (bytes_eq v w) (is_among w vs) ((bytes_eq-Decides v w).1 cc)
 at_among w (v ∷ vs) (suc r) e = or_right (bytes_eq v w) (is_among w vs) (at_among w vs r e)
 
--- the level of a length is filled in label by label, and past the last there is none
+-- The level of a length is filled label by label, and there is none after the last.
 level_within : (t : LieutenantTree) (M : Messages) (k : ℕ) → IsFilled t M → k < t.bound + 1 → level_of t (suc k) ≡ level_told t.generals t.commander t.general M (suc k)
 level_within t M k filled l =
     let same : suc k - 1 ≡ k = omega arith in
@@ -81,7 +81,7 @@ begins_long c (x ∷ xs) b = omega arith
 some_none : {A : Type 0} {a : A} → Some a ≡ None → ⊥
 some_none e = cc
 
--- what a label is told, if it has a place
+-- What a label contains, if there is such a label.
 module _ (t : LieutenantTree) (M : Messages) (w : List ℕ) (told : Option ℕ) (campaign : IsCampaign t) (filled : IsFilled t M) (place : IsPlace t w → told ≡ M w t.general) (strange : (IsPlace t w → ⊥) → told ≡ None) where
   stands : (k : ℕ) → length w ≡ suc k → k < t.bound + 1 → told ≡ cond (is_among w (labels t.generals t.commander t.general (suc k))) (M w t.general) None
   stands k e l = elim (cases_Bool (is_among w (labels t.generals t.commander t.general (suc k)))) [
@@ -98,7 +98,7 @@ module _ (t : LieutenantTree) (M : Messages) (w : List ℕ) (told : Option ℕ) 
         ∙ sym (cond-false (is_among w (labels t.generals t.commander t.general (suc k))) (M w t.general) None apart)
   ]
 
-  -- of a label with a general
+  -- For a label with at least one general.
   with_some : (k : ℕ) → length w ≡ suc k → told ≡ beside w (labels t.generals t.commander t.general (suc k)) (level_of t (suc k))
   with_some k e = elim (cases_lt k (t.bound + 1)) [
     | inl within ↦
@@ -111,7 +111,7 @@ module _ (t : LieutenantTree) (M : Messages) (w : List ℕ) (told : Option ℕ) 
         ∙ ap (λ level. beside w (labels t.generals t.commander t.general (suc k)) level) (sym (level_past t M k filled past)))
   ]
 
-  -- of the empty list
+  -- For the empty list.
   with_none : length w ≡ 0 → told ≡ beside w (labels t.generals t.commander t.general 0) (level_of t 0)
   unfolding labels
   with_none e = strange (λ own. let some = begins_long t.commander w own.label.first in absurd (omega arith))
@@ -126,11 +126,11 @@ module _ (t : LieutenantTree) (M : Messages) (w : List ℕ) (told : Option ℕ) 
         with_none e ∙ ap (λ i. beside w (labels t.generals t.commander t.general i) (level_of t i)) (sym e)
   ]
 
--- of a tree at a label that has a place in it, filled from these messages
+-- What a tree contains for a label, if it is filled from these messages.
 pub value_told : (t : LieutenantTree) (M : Messages) (w : List ℕ) → IsCampaign t → IsFilled t M → IsPlace t w → value_of (Some t) w ≡ M w t.general
 value_told t M w campaign filled place = sym (value_is t M w (M w t.general) campaign filled (λ _. refl) (λ strange. absurd (strange place)))
 
--- trees none of which is the general's, and the first that is
+-- These trees are not the general's, and the next one is.
 pub found_here : (p : ℕ) (trees : List LieutenantTree) (i : ℕ) (t : LieutenantTree) → find (λ u. u.general == p) (take i trees) ≡ None → slice_get trees i ≡ Some t → t.general ≡ p → find (λ u. u.general == p) trees ≡ Some t
 found_here p [] i t none at e = cc
 found_here p (u ∷ trees) zero t none at e =
@@ -155,21 +155,21 @@ none_more p (u ∷ trees) (suc i) t none at e = elim (cases_Bool (u.general == p
       ∙ none_more p trees i t (sym (cond-false (u.general == p) (Some u) (find (λ v. v.general == p) (take i trees)) apart) ∙ none) at e
 ]
 
--- the first tree of a general
+-- The first tree of a general.
 pub heard_at : (trees : List LieutenantTree) (w : List ℕ) (p i : ℕ) (t : LieutenantTree) → find (λ u. u.general == p) (take i trees) ≡ None → slice_get trees i ≡ Some t → t.general ≡ p → heard trees w p ≡ value_of (Some t) w
 unfolding heard
 heard_at trees w p i t none at e = ap (λ o. value_of o w) (found_here p trees i t none at e)
 
--- where none is his
+-- No tree is the general's.
 pub heard_nowhere : (trees : List LieutenantTree) (w : List ℕ) (p : ℕ) → find (λ u. u.general == p) trees ≡ None → heard trees w p ≡ None
 unfolding heard
 heard_nowhere trees w p none = ap (λ o. value_of o w) none
 
--- each level's orders have 32 bits
+-- The orders of each level have at most 32 bits.
 abbrev pub AreSmall : List (Option ℕ) → Type 0
 AreSmall level = (i v : ℕ) → slice_get level i ≡ Some (Some v) → v < 2 ^ 32
 
--- those of 32 bits that a level tells
+-- The orders of a level that the code stores have at most 32 bits.
 pub small_level : (level : List (Option ℕ)) (orders : List ℕ) → orders ≡ map order_of level → All (λ order. order < 2 ^ 32) orders → AreSmall level
 small_level level orders e small i v at =
     let read : get_or orders i 0 ≡ v = ap (λ (l : List ℕ). get_or l i 0) e ∙ get_or_from_slice_get (map order_of level) i v 0 (slice_get-map order_of level i ∙ ap (option_map order_of) at) in
@@ -200,13 +200,13 @@ found_there p (u ∷ trees) t e = elim (cases_Bool (u.general == p)) [
   | inr apart ↦ (let rest = found_there p trees t (sym (cond-false (u.general == p) (Some u) (find (λ v. v.general == p) trees) apart) ∙ e) in (suc rest.0, rest.1))
 ]
 
--- so do those that the trees tell
+-- So have those that the trees contain.
 pub orders_small : (trees : List LieutenantTree) → ((i : ℕ) (t : LieutenantTree) → slice_get trees i ≡ Some t → AreLevelsSmall t) → AreOrders (heard trees)
 unfolding heard
 orders_small trees small w p v e =
     small_value (find (λ u. u.general == p) trees) w v (λ t is. let at = found_there p trees t is in small at.0 t at.1) e
 
--- all levels, where those of the campaign's lengths are
+-- All levels have, if those of the campaign's lengths have.
 pub levels_small : (t : LieutenantTree) (M : Messages) → IsFilled t M → ((k : ℕ) → 0 < k → k ≤ t.bound + 1 → AreSmall (level_of t k)) → AreLevelsSmall t
 levels_small t M filled small zero = small 1 (omega arith) (omega arith)
 levels_small t M filled small (suc k) = elim (cases_lt k (t.bound + 1)) [
@@ -214,7 +214,7 @@ levels_small t M filled small (suc k) = elim (cases_lt k (t.bound + 1)) [
   | inr past ↦ λ i v e. absurd (empty_get i v (sym (ap (λ level. slice_get level i) (level_past t M k filled past)) ∙ e))
 ]
 
--- one level more
+-- One more level.
 pub one_more_small : (t : LieutenantTree) (size : ℕ) → ((k : ℕ) → 0 < k → k ≤ size → AreSmall (level_of t k)) → AreSmall (level_of t (size + 1)) → (k : ℕ) → 0 < k → k ≤ size + 1 → AreSmall (level_of t k)
 one_more_small t size before here k some short = elim (cases_lt k (size + 1)) [
   | inl less ↦ before k some (omega arith)

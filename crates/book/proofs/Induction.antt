@@ -1,4 +1,5 @@
--- The agreement theorem (TOPLAS 1982, Lemma 1 and Theorem 1), over a label u.g: g has just relayed u, and k relays are left.
+-- The agreement theorem (TOPLAS 1982, Lemma 1 and Theorem 1), shown for a label u.g: g has just relayed u, and k relays
+-- remain.
 use Rattle.std.proofs.Common.{ℕ, zero, suc, ◌+◌, ◌*◌, ◌<◌, ◌≤◌, ◌≡◌, ◌≢◌, Bool, true, false, cond, List, [], ◌∷◌, ◌++◌, map, length, refl, sym, ap, ◌∙◌, arith, inl, inr, length-append}
 use Rattle.std.specs.Prelude.{count_by, ◌==◌}
 use Rattle.std.proofs.lemmas.Bool.Decides.{nat_tests, eqb_tells}
@@ -13,7 +14,7 @@ use Rattle.label.proofs.Pushes.{IsLabel-push, heard-push}
 use Rattle.label.proofs.Counting.{on-push, others-on, others-split, others-length, majority_counts, map_agree}
 use Rattle.label.proofs.Ranks.{all_kept}
 
--- the setting of a whole campaign
+-- A whole campaign.
 pub record Campaign : Type 0 where
   pub rule : List ℕ → ℕ
   pub law : IsMajorityRule rule
@@ -25,19 +26,19 @@ pub record Campaign : Type 0 where
   pub M : Messages
   pub faithful : (g : ℕ) → g < n → traitor g ≡ false → IsFaithful n c m order M g
 
--- p is a loyal receiver of w
+-- p is a loyal receiver of w.
 pub record Receives (x : Campaign) (w : List ℕ) (p : ℕ) : Type 0 where
   pub within : p < x.n
   pub loyal : x.traitor p ≡ false
   pub off : on w p ≡ false
 
--- g relays u while k relays are left behind his
+-- g relays u, and k relays remain after his.
 pub record Reached (x : Campaign) (u : List ℕ) (g k : ℕ) : Type 0 where
   pub label : IsLabel x.n x.c (u ++ g ∷ [])
   pub time : length u + k ≤ x.m
   pub within : g < x.n
 
--- and is loyal
+-- The same, and g is loyal.
 pub record Relayed (x : Campaign) (u : List ℕ) (g k : ℕ) : Type 0 where
   pub reached : Reached x u g k
   pub loyal : x.traitor g ≡ false
@@ -67,7 +68,7 @@ om-last : (x : Campaign) (w : List ℕ) (p : ℕ) → om x.rule x.n x.M zero w p
 unfolding om
 om-last x w p = refl
 
--- what a loyal general relays arrives
+-- What a loyal general relays is received.
 told : (x : Campaign) (u : List ℕ) (g k p : ℕ) → Relayed x u g k → Receives x (u ++ g ∷ []) p → taken x.M (u ++ g ∷ []) p ≡ heard x.M x.order u g
 told x u g k p r q = ap order_of (x.faithful g r.reached.within r.loyal u p r.reached.label (let t = r.reached.time in omega arith) q.within q.off)
 
@@ -86,8 +87,9 @@ valid_entry x k a u g p j r few many q i loyal ih =
           ∙ (heard-push x.M x.order u g j ∙ told x u g (suc k) j r rj))
     ]
 
--- Lemma 1 of TOPLAS 1982 (for every k and a, OM(k) meets IC2 where there are more than 2a + k generals and at most a traitors):
--- the last of the label is loyal, so all loyal receivers decide on what he took, whatever up to a traitors among the others do
+-- Lemma 1 of TOPLAS 1982: for every k and a, OM(k) satisfies IC2 if there are more than 2a + k generals and at most a
+-- traitors. The last general on the label is loyal, so all loyal receivers decide on what he took, whatever the others
+-- do, of whom at most a are traitors.
 pub valid : (x : Campaign) (k a : ℕ) (u : List ℕ) (g p : ℕ) → Relayed x u g k → count_by x.traitor (others x.n (u ++ g ∷ [])) ≤ a → 2 * a + k ≤ length (others x.n (u ++ g ∷ [])) → Receives x (u ++ g ∷ []) p → om x.rule x.n x.M k (u ++ g ∷ []) p ≡ heard x.M x.order u g
 valid x zero a u g p r few many q = om-last x (u ++ g ∷ []) p ∙ told x u g zero p r q
 valid x (suc k) a u g p r few many q =
@@ -104,7 +106,7 @@ alike_loyal x k u g p q r good few many rp rq =
     let rel : Relayed x u g k = record { reached = r; loyal = good } in
     valid x k k u g p rel few (omega arith) rp ∙ sym (valid x k k u g q rel few (omega arith) rq)
 
--- what p was told of w by himself, and what another hears of him
+-- What p received for w, and what another general holds for him.
 own_entry : (x : Campaign) (k : ℕ) (u : List ℕ) (g p q : ℕ) → Reached x u g (suc k) → count_by x.traitor (others x.n (u ++ g ∷ [])) ≤ k → 3 * suc k ≤ length (others x.n (u ++ g ∷ [])) → Receives x (u ++ g ∷ []) p → Receives x (u ++ g ∷ []) q → p ≢ q → om x.rule x.n x.M k ((u ++ g ∷ []) ++ p ∷ []) q ≡ taken x.M (u ++ g ∷ []) p
 own_entry x k u g p q r few many rp rq ne =
     let fewer : count_by x.traitor (others x.n (u ++ g ∷ [])) ≡ cond (x.traitor p) 1 0 + count_by x.traitor (others x.n ((u ++ g ∷ []) ++ p ∷ [])) = others-split (λ y. cond (x.traitor y) 1 0) x.n (u ++ g ∷ []) p rp.within rp.off in
@@ -134,8 +136,9 @@ same_entry x k u g p q j r few many rp rq i ih =
       ]
     ]
 
--- Theorem 1 of TOPLAS 1982 (for every k, OM(k) meets IC1 and IC2 where there are more than 3k generals and at most k traitors), IC1:
--- the loyal receivers decide alike; if the last of the label is loyal by Lemma 1, else one traitor fewer is among the others, who relay next
+-- Theorem 1 of TOPLAS 1982 for IC1: for every k, OM(k) satisfies IC1 and IC2 if there are more than 3k generals and at
+-- most k traitors. The loyal receivers decide alike. If the last general on the label is loyal, this is Lemma 1.
+-- Otherwise there is one traitor fewer among the others, who relay next.
 pub alike : (x : Campaign) (k : ℕ) (u : List ℕ) (g p q : ℕ) → Reached x u g k → cond (x.traitor g) 1 0 + count_by x.traitor (others x.n (u ++ g ∷ [])) ≤ k → 3 * k ≤ length (others x.n (u ++ g ∷ [])) → Receives x (u ++ g ∷ []) p → Receives x (u ++ g ∷ []) q → om x.rule x.n x.M k (u ++ g ∷ []) p ≡ om x.rule x.n x.M k (u ++ g ∷ []) q
 alike x zero u g p q r few many rp rq = elim (cases_Bool (x.traitor g)) [ inl bad ↦ absurd (let few' : cond true 1 0 + count_by x.traitor (others x.n (u ++ g ∷ [])) ≤ zero = rw bad at few in omega arith) | inr good ↦ alike_loyal x zero u g p q r good (let few' : cond false 1 0 + count_by x.traitor (others x.n (u ++ g ∷ [])) ≤ zero = rw good at few in omega arith) many rp rq ]
 alike x (suc k) u g p q r few many rp rq =
@@ -149,7 +152,7 @@ alike x (suc k) u g p q r few many rp rq =
       | inr good ↦ alike_loyal x (suc k) u g p q r good (let h : cond false 1 0 + count_by x.traitor (others x.n (u ++ g ∷ [])) ≤ suc k = rw good at few in omega arith) many rp rq
     ]
 
--- the whole campaign: Theorem 1 at the label of the commander alone
+-- The whole campaign: Theorem 1 at the commander's label.
 start : (x : Campaign) (k : ℕ) → x.c < x.n → k ≤ x.m → Reached x [] x.c k
 start x k inside le = record { label = record { first = refl; below = (inside, tt); distinct = refl }; time = omega arith; within = inside }
 

@@ -1,4 +1,4 @@
--- A label that is prolonged general by general is one of different generals.
+-- A label that is extended general by general consists of different generals.
 use Rattle.std.proofs.Common.{◌≡◌, ℕ, ◌+◌, ◌≤◌, ◌<◌, Bool, true, false, not, ◌&&◌, cond, List, [], ◌∷◌, ◌++◌, length, Option, Some, None, refl, sym, ap, ◌∙◌, arith, inl, inr, length-append}
 use Rattle.std.specs.Prelude.{◌==◌, nat_lt, nat_le, if◌then◌else◌}
 use Rattle.std.specs.List.{list_all}
@@ -20,7 +20,7 @@ and_never : (b : Bool) → (b && false) ≡ false
 and_never true = refl
 and_never false = refl
 
--- a general who stands twice
+-- A general who is on a label twice.
 pub twice : (w : List ℕ) (j : ℕ) (js : List ℕ) → on w j ≡ true → is_distinct (w ++ j ∷ js) ≡ false
 twice [] j js e = cc
 twice (x ∷ xs) j js e =
@@ -32,7 +32,7 @@ twice (x ∷ xs) j js e =
       | inr there ↦ rw (twice xs j js there) (and_never (not (on (xs ++ j ∷ js) x)))
     ]
 
--- the tests of a whole label
+-- The tests of a whole label.
 abbrev pub fits : ℕ → ℕ → List ℕ → List ℕ → Bool
 fits n m w js = is_distinct (w ++ js) && list_all (λ x. nat_lt x n) js && nat_le (length (w ++ js)) (m + 1)
 
@@ -62,7 +62,7 @@ step n m w j js more d ih =
       | inr bad ↦ rw (bad, refused_here n m w j js bad) refl
     ]
 
--- the label that goes on is the whole, where the whole is one
+-- The extended label is the whole list, if that is a label.
 pub prolonged_label-whole : (n m : ℕ) (w js : List ℕ) → is_distinct w ≡ true → length w ≤ m + 1 → prolonged_label n m w js ≡ cond (fits n m w js) (Some (w ++ js)) None
 unfolding prolonged_label
 prolonged_label-whole n m w [] d l = rw (append-nil w, d, le-leb (length w) (m + 1) l) refl
@@ -84,7 +84,7 @@ no_test : (b : Bool) → cond {A = Option (List ℕ)} b None None ≡ None
 no_test true = refl
 no_test false = refl
 
--- a label that begins with the commander is read whole
+-- A label that begins with the commander is read as a whole.
 pub begun_label-whole : (t : MessageTable) (w v : List ℕ) → begun_label t w ≡ Some v → w ≡ v
 unfolding begun_label
 begun_label-whole t [] v e = cc
@@ -101,7 +101,7 @@ begun_label-whole t (c ∷ js) v e =
     chosen true x y e = cc
     chosen false x y e = cc
 
--- the reader's label is the line's, where that is a place
+-- The reader's label is the line's, if it is one of the campaign.
 pub placed_label-is : (t : MessageTable) (w : List ℕ) (p : ℕ) → t.commander < t.generals → placed_label t w p ≡ (if is_place t w p then Some w else None)
 unfolding placed_label begun_label
 placed_label-is t [] p inside = no_test (nat_lt p t.generals)

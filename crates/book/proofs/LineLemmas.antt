@@ -11,7 +11,7 @@ use Rattle.book.specs.Table.{MessageTable}
 use Rattle.book.proofs.Steps.{others-more_yes, entries_few}
 use Rattle.book.specs.Lines.{decision_line, decision_lines}
 
--- all lieutenants
+-- The lines of all lieutenants.
 pub lines_all : (table : MessageTable) (lines : List ℕ) (j : ℕ) → table.generals ≤ j → j ≤ table.generals
     → lines ≡ flat_map (λ general. decision_line general (decision_of table general)) (others j (table.commander ∷ [])) → lines ≡ decision_lines table
 unfolding decision_lines
@@ -19,7 +19,7 @@ lines_all table lines j past within is =
     let same : j ≡ table.generals = omega arith in
     is ∙ ap (λ (n : ℕ). flat_map (λ general. decision_line general (decision_of table general)) (others n (table.commander ∷ []))) same
 
--- the order at a lieutenant's place
+-- The order at a lieutenant's position.
 pub order_is : (table : MessageTable) (orders : List ℕ) (place general : ℕ) → orders ≡ decisions_of table → place ≡ length (others general (table.commander ∷ [])) → general < table.generals → on (table.commander ∷ []) general ≡ false → get_or orders place 0 ≡ decision_of table general
 unfolding decisions_of
 order_is table orders place general is at within fresh =
@@ -29,7 +29,7 @@ order_is table orders place general is at within fresh =
     in
     get_or_from_slice_get orders place (decision_of table general) 0 there
 
--- there is such a place
+-- There is such a position.
 pub order_there : (table : MessageTable) (orders : List ℕ) (place general : ℕ) → orders ≡ decisions_of table → place ≡ length (others general (table.commander ∷ [])) → general < table.generals → on (table.commander ∷ []) general ≡ false → place < length orders
 unfolding decisions_of
 order_there table orders place general is at within fresh =
@@ -39,11 +39,11 @@ order_there table orders place general is at within fresh =
     in
     slice_get_within orders place (decision_of table general) there
 
--- one lieutenant more, or one general
+-- One more lieutenant, or the commander.
 pub place_more : (commander general place : ℕ) → place ≡ length (others general (commander ∷ [])) → on (commander ∷ []) general ≡ false → place + 1 ≡ length (others (general + 1) (commander ∷ []))
 place_more commander general place at fresh = rw (others-more_yes (commander ∷ []) general fresh, at) (sym (length-append (others general (commander ∷ [])) (general ∷ [])))
 
--- no more places than generals
+-- There are no more positions than generals.
 pub place_small : (commander general place : ℕ) → place ≡ length (others general (commander ∷ [])) → place ≤ general
 place_small commander general place at =
     let few : length (map (λ x. x) (others general (commander ∷ []))) ≤ general = entries_few (λ x. x) (commander ∷ []) general in

@@ -1,4 +1,4 @@
--- The list that a lieutenant combines at a label, element by element.
+-- The list that a lieutenant combines at a label, item by item.
 use Rattle.std.proofs.Common.{ℕ, zero, suc, ◌+◌, ◌≡◌, ◌≢◌, true, false, List, [], ◌∷◌, ◌++◌, map, refl, sym, ap, ◌∙◌, arith, append_assoc, Option, Some, None}
 use Rattle.std.specs.Prelude.{◌==◌, unwrap_or}
 use Rattle.std.specs.List.{flat_map}
@@ -15,31 +15,31 @@ use Rattle.book.specs.Laws.{IsMessage}
 use Rattle.book.proofs.Gathering.{map_yes}
 use Rattle.book.proofs.WholeLemmas.{place_message}
 
--- nothing counts as RETREAT
+-- No order counts as RETREAT.
 unwrapped : (o : Option ℕ) → unwrap_or o 0 ≡ order_of o
 unwrapped None = refl
 unwrapped (Some v) = refl
 
--- what is held counts as what is decided
+-- The order that he holds counts as the one that he decides on.
 pub held_order : (t : MessageTable) (k : ℕ) (w : List ℕ) (p : ℕ) → unwrap_or (held t k w p) 0 ≡ decided t k w p
 unfolding held om
 held_order t zero w p = unwrapped (told t.messages w p)
 held_order t (suc k) w p = refl
 
--- his own element
+-- His own item.
 pub own_more : (t : MessageTable) (k : ℕ) (w : List ℕ) (p j : ℕ) (o : Option ℕ) → j ≡ p → on w p ≡ false → o ≡ told t.messages w p → map (element t k w p) (others j w) ++ unwrap_or o 0 ∷ [] ≡ map (element t k w p) (others (j + 1) w)
 own_more t k w p j o same off is =
     let here : on w j ≡ false = rw same off in
     let own : element t k w p j ≡ unwrap_or o 0 = cond-true (j == p) (taken (told t.messages) w p) (decided t k (w ++ j ∷ []) p) (eq-eqb j p same) ∙ (sym (unwrapped (told t.messages w p)) ∙ ap (λ (x : Option ℕ). unwrap_or x 0) (sym is)) in
     ap (λ x. map (element t k w p) (others j w) ++ x ∷ []) (sym own) ∙ sym (map_yes (element t k w p) w j here)
 
--- another's
+-- The item of another general.
 pub other_more : (t : MessageTable) (k : ℕ) (w : List ℕ) (p j : ℕ) (o : Option ℕ) → j ≢ p → on w j ≡ false → o ≡ held t k (w ++ j ∷ []) p → map (element t k w p) (others j w) ++ unwrap_or o 0 ∷ [] ≡ map (element t k w p) (others (j + 1) w)
 other_more t k w p j o ne off is =
     let his : element t k w p j ≡ unwrap_or o 0 = cond-false (j == p) (taken (told t.messages) w p) (decided t k (w ++ j ∷ []) p) (ne_eqb j p ne) ∙ (sym (held_order t k (w ++ j ∷ []) p) ∙ ap (λ (x : Option ℕ). unwrap_or x 0) (sym is)) in
     ap (λ x. map (element t k w p) (others j w) ++ x ∷ []) (sym his) ∙ sym (map_yes (element t k w p) w j off)
 
--- where no relay is left
+-- The label cannot be extended.
 pub held_last : (t : MessageTable) (r : ℕ) (w : List ℕ) (p : ℕ) → r ≡ 0 → told t.messages w p ≡ held t r w p
 unfolding held
 held_last t zero w p e = refl
@@ -50,13 +50,13 @@ unfolding list_lines
 lines_last t zero w p e = refl
 lines_last t (suc k) w p e = absurd (omega arith)
 
--- what the whole list comes to
+-- The outcome of the whole list.
 pub held_all : (t : MessageTable) (r k : ℕ) (w : List ℕ) (p j : ℕ) (orders : List ℕ) → r ≡ suc k → j ≡ t.generals → orders ≡ map (element t k w p) (others j w) → Some (combined_by t.rule orders) ≡ held t r w p
 unfolding held om
 held_all t r k w p j orders more all e =
     ap (λ xs. Some (combined_by t.rule xs)) (e ∙ ap (λ (n : ℕ). map (element t k w p) (others n w)) all) ∙ sym (ap (λ (n : ℕ). held t n w p) more)
 
--- the lines, with that of the label
+-- The lines, with the one of the label.
 pub lines_all : (t : MessageTable) (r k : ℕ) (w : List ℕ) (p j : ℕ) (old new lines parts out orders : List ℕ) (o : Option ℕ) → r ≡ suc k → j ≡ t.generals
     → lines ≡ old ++ flat_map (λ i. list_lines t k (w ++ i ∷ []) p) (others j (p ∷ w))
     → parts ≡ flat_map (part t k w p) (others j (p ∷ w))
@@ -72,13 +72,13 @@ lines_all t r k w p j old new lines parts out orders o more all el ep eo eu et e
     e ∙ (ap (λ xs. lines ++ xs) here ∙ (ap (λ xs. xs ++ list_line t k w p) (el ∙ ap (λ (n : ℕ). old ++ flat_map (λ i. list_lines t k (w ++ i ∷ []) p) (others n (p ∷ w))) all)
     ∙ (append_assoc old below (list_line t k w p) ∙ sym (ap (λ (n : ℕ). old ++ list_lines t n w p) more))))
 
--- the receiver of a place is off the label
+-- A receiver is not on the label.
 pub place_off : (t : MessageTable) (w : List ℕ) (p : ℕ) → is_place t w p ≡ true → on w p ≡ false
 place_off t w p e =
     let said : IsMessage t.generals t.bound t.commander (record { label = w; receiver = p; order = 0 }) = place_message t (record { label = w; receiver = p; order = 0 }) e (omega arith) in
     said.off
 
--- what a lieutenant holds of the commander's label is his decision
+-- The order that a lieutenant holds for the commander's label is his decision.
 pub held_decides : (t : MessageTable) (m : ℕ) (w : List ℕ) (p : ℕ) (o : Option ℕ) (d : ℕ) → m ≡ t.bound → w ≡ t.commander ∷ [] → o ≡ held t m w p → d ≡ unwrap_or o 0 → d ≡ decision_of t p
 unfolding decision_of
 held_decides t m w p o d em ew eo ed =

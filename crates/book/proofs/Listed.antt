@@ -1,4 +1,4 @@
--- The agreement theorem, place by place of a list of decisions.
+-- The agreement theorem, position by position in a list of decisions.
 use Rattle.std.proofs.Common.{ℕ, zero, suc, ◌+◌, ◌<◌, ◌≤◌, ◌≡◌, ◌≢◌, Bool, false, List, [], ◌∷◌, map, length, get_or, refl, sym, ap, ◌∙◌, arith, inl, inr}
 use Rattle.std.specs.Prelude.{◌==◌, slice_index}
 use Rattle.std.proofs.lemmas.Bool.{or_parts, eqb-false, cases_lt}
@@ -26,7 +26,7 @@ loyal_at n c traitor i a =
     let there = others-on n (c ∷ []) (get_or (lieutenants n c) i 0) (on-get_or (lieutenants n c) i a.within) in
     record { general = there.0; lieutenant = λ e. eqb-false c (get_or (lieutenants n c) i 0) (or_parts (c == get_or (lieutenants n c) i 0) false there.1).0 (sym e); loyal = a.loyal }
 
--- the decisions of the recursion, in the order of the lieutenants, agree
+-- The decisions of the recursion, in the order of the lieutenants, agree.
 pub listed : (f : List ℕ → ℕ) → IsMajorityRule f → AgreementHolds → (n c m : ℕ) (M : Messages) → c < n → AgreesIfBound n c m M (map (om f n M m (c ∷ [])) (lieutenants n c))
 listed f law holds n c m M inside order traitor bound faithful =
     let all : Agree n c order traitor (om f n M m (c ∷ [])) = holds f law n c m order traitor M inside bound faithful in
@@ -35,19 +35,19 @@ listed f law holds n c m M inside order traitor bound faithful =
       obeyed = λ good i a. read_map (om f n M m (c ∷ [])) (lieutenants n c) i a.within ∙ all.obeyed good _ (loyal_at n c traitor i a);
     }
 
--- those of a table too
+-- So do those of a table.
 pub table_agrees : AgreementHolds → (t : MessageTable) → t.commander < t.generals → AgreesIfBound t.generals t.commander t.bound (told t.messages) (decisions_of t)
 unfolding decisions_of decision_of
 table_agrees holds t inside = listed (combined_by t.rule) (chosen_is_rule t.rule) holds t.generals t.commander t.bound (told t.messages) inside
 
--- a list that has come to the last general is whole
+-- A list that has reached the last general is complete.
 pub listed_all : (t : MessageTable) (decisions : List ℕ) (k : ℕ) → t.generals ≤ k → k ≤ t.generals → decisions ≡ map (decision_of t) (others k (t.commander ∷ [])) → decisions ≡ decisions_of t
 unfolding decisions_of
 listed_all t decisions k a b e =
     let same : k ≡ t.generals = omega arith in
     e ∙ ap (λ (i : ℕ). map (decision_of t) (others i (t.commander ∷ []))) same
 
--- fewer than twelve lieutenants come before one
+-- Fewer than twelve lieutenants come before one.
 pub few_before : (F : ℕ → ℕ) (n c g : ℕ) → n ≤ 13 → c < n → g < n → g ≢ c → length (map F (others g (c ∷ []))) < 12
 few_before F n c g small inside within ne =
     elim (cases_lt c g) [

@@ -1,4 +1,4 @@
--- Where all tell one order, each decides it.
+-- If all generals send one order, each lieutenant decides on it.
 use Rattle.std.proofs.Common.{ℕ, zero, suc, ◌<◌, ◌≡◌, Bool, true, false, cond, List, [], ◌∷◌, ◌++◌, map, length, refl, sym, ap, ◌∙◌, arith, Some}
 use Rattle.std.specs.Prelude.{◌==◌, count_by}
 use Rattle.std.proofs.lemmas.Bool.{or_from, eq-eqb, true≢false}
@@ -14,7 +14,7 @@ use Rattle.label.proofs.Counts.{among}
 use Rattle.book.specs.WrittenLaws.{LoyalTablesDecide}
 use Rattle.book.proofs.Reread.{proved_tables_are_read, apart_first}
 
--- all of them count
+-- All items are this order.
 all_alike : (v : ℕ) (xs : List ℕ) → count_by (λ x. x == v) (map (λ _. v) xs) ≡ length xs
 all_alike v [] = refl
 all_alike v (x ∷ xs) = rw (sum_by-cons (λ y. cond (y == v) 1 0) v (map (λ _. v) xs), eq-eqb v v refl, all_alike v xs) (omega arith)
@@ -23,14 +23,14 @@ some_there : (xs : List ℕ) (p : ℕ) → on xs p ≡ true → 0 < length xs
 some_there [] p i = absurd (true≢false (sym i))
 some_there (x ∷ xs) p i = omega arith
 
--- a rule of majority makes of one order that order
+-- A majority rule gives this order for a list of only this order.
 one_order : (f : List ℕ → ℕ) → IsMajorityRule f → (v : ℕ) (xs : List ℕ) → 0 < length xs → f (map (λ _. v) xs) ≡ v
 one_order f rule v xs some =
     let count = all_alike v xs in
     let long = length-map xs (λ (_ : ℕ). v) in
     rule (map (λ _. v) xs) v (omega arith)
 
--- everyone tells this
+-- Everyone sends this order.
 abbrev pub always : ℕ → Messages
 always v w p = Some v
 
@@ -46,7 +46,7 @@ decided_alike f rule n v p l (suc k) w off =
     (λ j i. entry (j == p) v (om f n (always v) k (w ++ j ∷ []) p) (λ apart. decided_alike f rule n v p l k (w ++ j ∷ []) (on-push w j p ∙ or_from (on w p) (j == p) off apart))))
     ∙ one_order f rule v (others n w) (some_there (others n w) p (among n w p l off))
 
--- the law, as specs/Laws states it
+-- The law, as specs/WrittenLaws states it.
 pub proved_loyal_tables_decide : LoyalTablesDecide
 proved_loyal_tables_decide v bits n m c inside =
     let read = proved_tables_are_read (always v) (λ w p order e. let same : v ≡ order = cc in omega arith) n m c Majority inside in

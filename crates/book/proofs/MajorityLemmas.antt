@@ -1,4 +1,4 @@
--- Whether an order stands in more than half of a list's places, and what the list decides.
+-- Whether an order is in more than half of a list, and what results from the list.
 use Rattle.std.proofs.Common.{ℕ, suc, ◌*◌, ◌<◌, ◌≤◌, ◌≡◌, List, [], ◌∷◌, length, refl, sym, ap, ◌∙◌, arith, inl, inr, Option, Some, None}
 use Rattle.std.specs.Prelude.{◌==◌, ◌↔◌, unwrap_or, find, count_by}
 use Rattle.std.proofs.lemmas.Bool.{cases_lt, lt-ltb, ltb-true}
@@ -18,7 +18,7 @@ majority_of xs u some = ap (λ (o : Option ℕ). unwrap_or o 0) some
 only_most : (xs : List ℕ) (v u : ℕ) → find (is_most xs) xs ≡ Some u → length xs < 2 * count_by (λ x. x == v) xs → u ≡ v
 only_most xs v u some most = sym (majority_of xs u some) ∙ majority_is_rule xs v most
 
--- a majority stands in more than half of the places
+-- A majority is in more than half of the list.
 majority_means : (xs : List ℕ) (v : ℕ) → (find (is_most xs) xs ≡ Some v) ↔ (length xs < 2 * count_by (λ x. x == v) xs)
 majority_means xs v = (
   λ some. ltb-true (length xs) (2 * count_by (λ x. x == v) xs) (find_passes (is_most xs) xs v some),
@@ -27,7 +27,7 @@ majority_means xs v = (
       (λ u some. some ∙ ap Some (only_most xs v u some most)),
 )
 
--- none is where none does
+-- There is no majority exactly if no order is.
 none_means : (xs : List ℕ) → (find (is_most xs) xs ≡ None) ↔ ((v : ℕ) → 2 * count_by (λ x. x == v) xs ≤ length xs)
 none_means xs = (
   λ none v. elim (cases_lt (length xs) (2 * count_by (λ x. x == v) xs)) [
@@ -46,6 +46,6 @@ decided_whole : (t : MessageTable) (p : ℕ) → decided t t.bound (t.commander 
 unfolding decision_of
 decided_whole t p = refl
 
--- the law, as specs/Lists states it
+-- The law, as specs/Theorem states it.
 pub proved_lists_mean : ListsMean
 proved_lists_mean = record { decides = list_decides; whole = decided_whole; majority = majority_means; none = none_means }

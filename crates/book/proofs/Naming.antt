@@ -6,11 +6,11 @@ use Rattle.std.specs.List.{flat_map}
 use Rattle.std.proofs.lemmas.Grind.{flat_map-append}
 use Rattle.book.specs.Explained.{dotted}
 
--- the commander alone
+-- The label that consists of the commander.
 pub dotted_one : (c : ℕ) → dotted (c ∷ []) ≡ decimal c
 dotted_one c = append-nil (decimal c)
 
--- one general more
+-- One more general.
 pub dotted_more : (w : List ℕ) (j : ℕ) → 0 < length w → dotted (w ++ j ∷ []) ≡ dotted w ++ codes "." ++ decimal j
 dotted_more [] j l = absurd (omega arith)
 dotted_more (g ∷ gs) j l =

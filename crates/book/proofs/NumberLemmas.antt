@@ -1,4 +1,4 @@
--- A form is that of the numbers before they are cut to 64 bits.
+-- A table to fill in does not depend on numbers being limited to 64 bits.
 use Rattle.std.proofs.Common.{ℕ, ◌≡◌, ◌≤◌, ◌<◌, ◌+◌, ◌&&◌, List, arith, min, refl, true}
 use Rattle.std.specs.Prelude.{Some, nat_le, nat_lt}
 use Rattle.std.proofs.lemmas.Bool.{and_parts, leb-true, ltb-true}
@@ -9,7 +9,7 @@ use Rattle.book.specs.Grammar.{is_within}
 use Rattle.book.specs.Answers.{IsFormOf}
 use Rattle.book.specs.Numbers.{numbers_in}
 
--- few generals, a small bound, and a commander who is one of them
+-- There are few generals, a small bound, and a commander who is one of them.
 within_few : (n m c : ℕ) → is_within n m c ≡ true → (n ≤ 13) × (m ≤ 4) × (c < n)
 within_few n m c h =
     let last = and_parts (nat_le n 13 && nat_le m 4 && nat_le (m + 2) n) (nat_lt c n) h in
@@ -17,7 +17,7 @@ within_few n m c h =
     let first = and_parts (nat_le n 13) (nat_le m 4) middle.0 in
     (leb-true n 13 first.0, leb-true m 4 first.1, ltb-true c n last.1)
 
--- what the words say
+-- The numbers that the words are.
 pub numbers_told : (a b k : List ℕ) (n m c : ℕ) → decimal_of a ≡ Some n → decimal_of b ≡ Some m → decimal_of k ≡ Some c → numbers_in a b k ≡ Some (n, m, c, default_rule)
 unfolding numbers_in
 numbers_told a b k n m c is_n is_m is_c = rw (is_n, is_m, is_c) refl

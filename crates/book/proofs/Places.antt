@@ -1,4 +1,4 @@
--- The places of a form, in its order.
+-- The places of a table to fill in, in order.
 use Rattle.std.proofs.Common.{ℕ, zero, suc, ◌+◌, ◌-◌, ◌<◌, ◌≤◌, ◌≡◌, ◌≢◌, Bool, true, false, not, ◌&&◌, List, [], ◌∷◌, ◌++◌, length, get_or, refl, sym, ap, ◌∙◌, arith, inl, inr, length-append, append_assoc, append-nil}
 use Rattle.std.specs.Prelude.{◌==◌, nat_lt, nat_le, bytes_eq}
 use Rattle.std.specs.List.{flat_map, range_with_len, list_all, list_any, AllByRecursion}
@@ -14,12 +14,12 @@ pub use Rattle.book.specs.Places.{Place, places, places_at, places_from}
 use Rattle.book.proofs.LabelLemmas.{twice}
 use Rattle.label.proofs.Places.{all-append}
 
--- what holds in each part
+-- What is true in each part.
 pub all_flat : {A : Type 0} (P : A → Type 0) (F : ℕ → List A) (xs : List ℕ) → ((x : ℕ) → on xs x ≡ true → AllByRecursion P (F x)) → AllByRecursion P (flat_map F xs)
 all_flat P F [] h = tt
 all_flat P F (x ∷ xs) h = all-append P (F x) (flat_map F xs) (h x (or_left (x == x) (on xs x) (eq-eqb x x refl))) (all_flat P F xs (λ y i. h y (or_right (x == y) (on xs y) i)))
 
--- no place stands twice
+-- No place occurs twice.
 abbrev pub AllDiffer : List Place → Type 0
 AllDiffer [] = Unit {0}
 AllDiffer (x ∷ xs) = AllByRecursion (λ y. x ≢ y) xs × AllDiffer xs
@@ -32,7 +32,7 @@ weaker : {A : Type 0} (P Q : A → Type 0) (xs : List A) → ((x : A) → P x �
 weaker P Q [] h a = tt
 weaker P Q (x ∷ xs) h a = (h x a.0, weaker P Q xs h a.1)
 
--- parts that a number tells apart
+-- Parts that a number distinguishes.
 differ_flat : (F : ℕ → List Place) (K : Place → ℕ) (xs : List ℕ) → is_distinct xs ≡ true → ((x : ℕ) → AllByRecursion (λ z. K z ≡ x) (F x)) → ((x : ℕ) → AllDiffer (F x)) → AllDiffer (flat_map F xs)
 differ_flat F K [] d k h = tt
 differ_flat F K (x ∷ xs) d k h =
@@ -44,7 +44,7 @@ differ_flat F K (x ∷ xs) d k h =
     (λ z e. weaker (λ y. on xs (K y) ≡ true) (λ y. z ≢ y) (flat_map F xs) (λ y i same. true≢false (sym i ∙ (ap (λ u. on xs (K u)) (sym same) ∙ (ap (on xs) e ∙ fresh)))) behind)
     (k x))
 
--- labels that go on from one keep its generals
+-- Labels that extend one begin with its generals.
 kept_front : (n k : ℕ) (w : List ℕ) (i : ℕ) → i < length w → AllByRecursion (λ z. get_or z.0 i 0 ≡ get_or w i 0) (places_from n k w)
 kept_front n zero w i l = all_flat (λ z. get_or z.0 i 0 ≡ get_or w i 0) (λ p. (w, p) ∷ []) (others n w) (λ p on. (refl, tt))
 kept_front n (suc k) w i l =
@@ -52,7 +52,7 @@ kept_front n (suc k) w i l =
     (λ j on. weaker (λ z. get_or z.0 i 0 ≡ get_or (w ++ j ∷ []) i 0) (λ z. get_or z.0 i 0 ≡ get_or w i 0) (places_from n k (w ++ j ∷ []))
     (λ z e. e ∙ get_or_append_left w (j ∷ []) 0 i l) (kept_front n k (w ++ j ∷ []) i (omega (arith, length-append w (j ∷ [])))))
 
--- and have so many more
+-- They have this many more generals.
 kept_length : (n k : ℕ) (w : List ℕ) → AllByRecursion (λ z. length z.0 ≡ length w + k) (places_from n k w)
 kept_length n zero w = all_flat (λ z. length z.0 ≡ length w + 0) (λ p. (w, p) ∷ []) (others n w) (λ p on. ((omega arith), tt))
 kept_length n (suc k) w =
@@ -68,21 +68,21 @@ differ_from n (suc k) w =
     (λ z e. e ∙ get_or_push w j 0 (length w) refl) (kept_front n k (w ++ j ∷ []) (length w) (omega (arith, length-append w (j ∷ [])))))
     (λ j. differ_from n k (w ++ j ∷ []))
 
--- no place of a form stands twice
+-- No place of a table occurs twice.
 pub places_differ : (n m c : ℕ) → AllDiffer (places n m c)
 places_differ n m c =
     differ_flat (λ k. places_from n k (c ∷ [])) (λ z. length z.0 - 1) (range_with_len 0 (m + 1)) (range-distinct 0 (m + 1))
     (λ k. weaker (λ z. length z.0 ≡ length (c ∷ []) + k) (λ z. length z.0 - 1 ≡ k) (places_from n k (c ∷ [])) (λ z e. omega arith) (kept_length n k (c ∷ [])))
     (λ k. differ_from n k (c ∷ []))
 
--- the part of a place that speaks of the label alone
+-- The conditions of a place on its label.
 abbrev pub fits : ℕ → ℕ → ℕ → List ℕ → Bool
 fits n m c w = is_distinct w && begins_with c w && list_all (λ x. nat_lt x n) w && nat_le (length w) (m + 1)
 
 abbrev pub is_place_of : ℕ → ℕ → ℕ → List ℕ → ℕ → Bool
 is_place_of n m c w p = fits n m c w && nat_lt p n && not (on w p)
 
--- a label so far: k generals may follow
+-- A label so far, to which k generals can be appended.
 pub record Begun (n m c : ℕ) (w : List ℕ) (k : ℕ) : Type 0 where
   pub distinct : is_distinct w ≡ true
   pub first : begins_with c w ≡ true
@@ -121,7 +121,7 @@ are_places_from n m c (suc k) w b =
     all_flat (λ z. is_place_of n m c z.0 z.1 ≡ true) (λ j. places_from n k (w ++ j ∷ [])) (others n w)
     (λ j i. let there = others-on n w j i in are_places_from n m c k (w ++ j ∷ []) (begun_more n m c w k j b there.0 there.1))
 
--- all are places of the campaign
+-- All are places of the campaign.
 pub are_places : (n m c : ℕ) → c < n → AllByRecursion (λ z. is_place_of n m c z.0 z.1 ≡ true) (places n m c)
 are_places n m c l =
     all_flat (λ z. is_place_of n m c z.0 z.1 ≡ true) (λ k. places_from n k (c ∷ [])) (range_with_len 0 (m + 1))
@@ -129,7 +129,7 @@ are_places n m c l =
     let few : k < 0 + (m + 1) = range-on_within 0 (m + 1) k i in
     are_places_from n m c k (c ∷ []) (record { distinct = refl; first = eq-eqb c c refl; below = and_from (nat_lt c n) true (lt-ltb c n l) refl; short = omega arith }))
 
--- the place stands among these
+-- The place is one of these.
 abbrev pub is_in : List ℕ → ℕ → List Place → Bool
 is_in w p zs = list_any (λ z. z.1 == p && bytes_eq z.0 w) zs
 
@@ -144,7 +144,7 @@ any_flat t F (y ∷ ys) x i h =
 itself : (w : List ℕ) (p : ℕ) → is_in w p ((w, p) ∷ []) ≡ true
 itself w p = or_left (p == p && bytes_eq w w) false (and_from (p == p) (bytes_eq w w) (eq-eqb p p refl) ((bytes_eq-Decides w w).1 refl))
 
--- a label that goes on from one
+-- A label that extends one is found.
 found_from : (n : ℕ) (js w : List ℕ) (p : ℕ) → list_all (λ x. nat_lt x n) js ≡ true → is_distinct (w ++ js) ≡ true → p < n → on (w ++ js) p ≡ false → is_in (w ++ js) p (places_from n (length js) w) ≡ true
 found_from n [] w p below d l off =
     rw append-nil (any_flat (λ z. z.1 == p && bytes_eq z.0 w) (λ q. (w, q) ∷ []) (others n w) p (among n w p l (sym (ap (λ v. on v p) (append-nil w)) ∙ off)) (itself w p))
@@ -155,7 +155,7 @@ found_from n (j ∷ js) w p below d l off =
     any_flat (λ z. z.1 == p && bytes_eq z.0 (w ++ j ∷ js)) (λ i. places_from n (length js) (w ++ i ∷ [])) (others n w) j (among n w j (ltb-true j n both.0) fresh)
     (rw (← same) (found_from n js (w ++ j ∷ []) p both.1 (ap is_distinct same ∙ d) l (ap (λ v. on v p) same ∙ off)))
 
--- each place of the campaign stands there
+-- Each place of the campaign is found.
 pub all_found : (n m c : ℕ) (w : List ℕ) (p : ℕ) → is_place_of n m c w p ≡ true → is_in w p (places n m c) ≡ true
 all_found n m c [] p e = absurd (true≢false (sym e))
 all_found n m c (x ∷ js) p e =

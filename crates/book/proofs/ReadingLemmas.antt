@@ -1,4 +1,4 @@
--- The message of a line, from what was read of its parts.
+-- The message of a line, from what was read of its words.
 use Rattle.std.proofs.Common.{◌≡◌, ◌<◌, ℕ, Bool, true, false, cond, List, Option, Some, None, refl, sym, ap, ◌∙◌}
 use Rattle.std.specs.Prelude.{Ok, Err, Result, nat_lt, not, ◌&&◌, if◌then◌else◌}
 use Rattle.std.specs.List.{list_any}
@@ -15,7 +15,7 @@ use Rattle.book.specs.Grammar.{is_place, checked, message_of, numbers_of, order_
 use Rattle.book.specs.Reading.{begun_label, label_or, label_read, numbers_or, placed_label, shape_of}
 use Rattle.book.proofs.LabelLemmas.{begun_label-whole, placed_label-is}
 
--- what a line of this shape says
+-- The message of a line with these words.
 abbrev pub said_by : Option (List ℕ) → ℕ → ℕ → Option Message
 said_by ns p v = ns >>= λ w. Some (record { label = w; receiver = p; order = v })
 
@@ -39,7 +39,7 @@ in_turn (Some s) = together (numbers_of (pieces dot s.0)) (decimal_of s.1) (orde
     together (Some w) (Some p) None label e = refl
     together (Some w) (Some p) (Some v) label e = rw e refl
 
--- a line's message, from its shape
+-- The message of a line, from its words.
 pub message_by_shape : (line : List ℕ) → message_of line ≡ (shape_of line >>= λ s. said_by (numbers_of (pieces dot s.0)) s.1 s.2)
 unfolding message_of shape_of
 message_by_shape line = in_turn (tell_parts (pieces space line))
@@ -47,7 +47,7 @@ message_by_shape line = in_turn (tell_parts (pieces space line))
 pub no_shape : (t : MessageTable) (line : List ℕ) → shape_of line ≡ None → Err Line ≡ checked t (message_of line)
 no_shape t line e = rw (message_by_shape line, e) refl
 
--- a label that was read
+-- A label that was read.
 pub record IsRead (t : MessageTable) (label : List ℕ) (w : List ℕ) : Type 0 where
   pub numbers : numbers_of (pieces dot label) ≡ Some w
   pub begun : begun_label t w ≡ Some w
@@ -70,7 +70,7 @@ read_is t label w e = parts (numbers_of (pieces dot label)) refl e
 same_fault : {x y : TableFault} → ◌≡◌ {A = Result (List ℕ) TableFault} (Err x) (Err y) → x ≡ y
 same_fault h = cc
 
--- where none is read, the line has the same fault
+-- If no label is read, the line has the same fault.
 no_label : (t : MessageTable) (label : List ℕ) (p v : ℕ) (fault : TableFault) → t.commander < t.generals → label_read t label ≡ Err fault
     → Err fault ≡ checked t (said_by (numbers_of (pieces dot label)) p v)
 unfolding label_read placed_label
@@ -98,7 +98,7 @@ pub no_label_there : (t : MessageTable) (line label : List ℕ) (p v : ℕ) (fau
     → label_read t label ≡ Err fault → Err fault ≡ checked t (message_of line)
 no_label_there t line label p v fault inside s h = rw (message_by_shape line, s) (no_label t label p v fault inside h)
 
--- a label that is read is a place where its receiver is a general who does not stand on it
+-- A label that is read and a receiver who is not on it are a place.
 pub place_is : (t : MessageTable) (w : List ℕ) (p : ℕ) → t.commander < t.generals → begun_label t w ≡ Some w → is_place t w p ≡ (nat_lt p t.generals && not (on w p))
 unfolding placed_label
 place_is t w p inside b = told (is_place t w p) (nat_lt p t.generals) (on w p) (sym (placed_label-is t w p inside) ∙ rw b refl)
@@ -111,7 +111,7 @@ place_is t w p inside b = told (is_place t w p) (nat_lt p t.generals) (on w p) (
     told false true false e = cc
     told false false o e = refl
 
--- what a line comes to whose label was read
+-- The result for a line whose label was read.
 pub placed_so : (t : MessageTable) (line label w : List ℕ) (p v : ℕ) → shape_of line ≡ Some (label, p, v) → IsRead t label w → (is : Bool) → is_place t w p ≡ is
     → checked t (message_of line) ≡ (if is then (if list_any (is_about w p) t.messages then Err Twice else Ok (record { label = w; receiver = p; order = v })) else Err Place)
 placed_so t line label w p v s read is e = rw (message_by_shape line, s, read.numbers, e) refl

@@ -1,4 +1,4 @@
--- A table that is written is read again.
+-- A table that is written as text is read again.
 use Rattle.std.proofs.Common.{ℕ, suc, ◌+◌, ◌^◌, ◌<◌, ◌≤◌, ◌≡◌, ◌≢◌, Bool, true, false, not, ◌&&◌, ◌||◌, cond, List, [], ◌∷◌, ◌++◌, map, length, refl, sym, ap, ◌∙◌, arith, inl, inr, append_assoc, append-nil, Option, None, Some}
 use Rattle.std.specs.Prelude.{◌==◌, nat_lt, nat_le, bytes_eq, find, option_map, Ok}
 use Rattle.std.specs.List.{flat_map, list_all, list_any, AllByRecursion}
@@ -31,7 +31,7 @@ added : (P : Message → Type 0) (z : Place) (o : Option ℕ) (ms : List Message
 added P z None ms here a = a
 added P z (Some v) ms here a = (here v refl, a)
 
--- what holds of each message that is told
+-- What is true of each message that is written.
 all_messages : (M : Messages) (P : Message → Type 0) (zs : List Place) → AllByRecursion (λ z. (v : ℕ) → M z.0 z.1 ≡ Some v → P (message z v)) zs → AllByRecursion P (messages_at M zs)
 all_messages M P [] a = tt
 all_messages M P (z ∷ zs) a = added P z (M z.0 z.1) (messages_at M zs) a.0 (all_messages M P zs a.1)
@@ -40,7 +40,7 @@ weaker : (P Q : Place → Type 0) (xs : List Place) → ((x : Place) → P x →
 weaker P Q [] h a = tt
 weaker P Q (x ∷ xs) h a = (h x a.0, weaker P Q xs h a.1)
 
--- the lines of these places are those of the messages
+-- The lines of these places are those of the messages.
 line_more : (z : Place) (o : Option ℕ) (ms : List Message) (rest : List ℕ) → rest ≡ flat_map (λ l. l ++ 10 ∷ []) (map tell_of ms) → line_of (dotted z.0) z.1 (mark_of o) ++ rest ≡ flat_map (λ l. l ++ 10 ∷ []) (map tell_of (told_more z o ms))
 line_more z None ms rest e = e
 line_more z (Some v) ms rest e = ap (λ ys. (tell z.0 z.1 v ++ 10 ∷ []) ++ ys) e
@@ -49,7 +49,7 @@ lines_are : (M : Messages) (zs : List Place) → flat_map (placed (telling M)) z
 lines_are M [] = refl
 lines_are M (z ∷ zs) = line_more z (M z.0 z.1) (messages_at M zs) (flat_map (placed (telling M)) zs) (lines_are M zs)
 
--- what is known of a message: a label that is not empty, of few generals
+-- What is known of a message: its label is not empty and has few generals.
 record IsSmall (x : Message) : Type 0 where
   some : (g : ℕ) × (gs : List ℕ) × (x.label ≡ g ∷ gs)
   few : AreFew x.label
@@ -77,7 +77,7 @@ lines_lack : (xs : List Message) → AllByRecursion IsSmall xs → AllByRecursio
 lines_lack [] a = tt
 lines_lack (x ∷ xs) a = (tell_lacks x.label x.receiver x.order a.0.few a.0.receiver a.0.order, lines_lack xs a.1)
 
--- a message is about no other place
+-- A message is about no other place.
 elsewhere : (z y : Place) (v : ℕ) → z ≢ y → is_about y.0 y.1 (message z v) ≡ false
 elsewhere z y v ne = elim (cases_Bool (is_about y.0 y.1 (message z v))) [
   | inl it ↦
@@ -89,7 +89,7 @@ elsewhere z y v ne = elim (cases_Bool (is_about y.0 y.1 (message z v))) [
   | inr fails ↦ fails
 ]
 
--- no later message is about the place of an earlier one
+-- No later message is about the place of an earlier one.
 abbrev Apart : List Message → Type 0
 Apart [] = Unit {0}
 Apart (x ∷ xs) = AllByRecursion (λ y. is_about y.label y.receiver x ≡ false) xs × Apart xs
@@ -105,7 +105,7 @@ are_apart M (z ∷ zs) d =
     (λ v e. all_messages M (λ y. is_about y.label y.receiver (message z v) ≡ false) zs (weaker (λ y. z ≢ y) (λ y. (u : ℕ) → M y.0 y.1 ≡ Some u → is_about y.0 y.1 (message z v) ≡ false) zs (λ y ne u i. elsewhere z y v ne) d.0))
     (are_apart M zs d.1)
 
--- no message is about the place of one of these
+-- No message is about the place of one of these.
 abbrev AreNew : List Message → List Message → Type 0
 AreNew messages xs = AllByRecursion (λ x. list_any (is_about x.label x.receiver) messages ≡ false) xs
 
@@ -123,7 +123,7 @@ none_before (x ∷ xs) = (refl, none_before xs)
 abbrev with_all : MessageTable → List Message → MessageTable
 with_all t more = record t { messages = t.messages ++ more }
 
--- the lines are told one after the other
+-- The lines are read one after the other.
 lines_are_told : (xs : List Message) (t : MessageTable) (number : ℕ)
     → AllByRecursion (λ x. is_place t x.label x.receiver ≡ true) xs → AllByRecursion IsSmall xs → Apart xs → AreNew t.messages xs → lines_told t number (map tell_of xs) ≡ Ok (with_all t xs)
 lines_are_told [] t number places smalls apart new = ap (λ ms. Ok (record t { messages = ms })) (sym (append-nil t.messages))
@@ -133,7 +133,7 @@ lines_are_told (x ∷ xs) t number places smalls apart new =
     let rest : lines_told next (suc number) (map tell_of xs) ≡ Ok (with_all next xs) = lines_are_told xs next (suc number) places.1 smalls.1 apart.1 (new_more t.messages x xs new.1 apart.0) in
     rw good (rest ∙ ap (λ ms. Ok (record t { messages = ms })) (append_assoc t.messages (x ∷ []) xs))
 
--- the place itself
+-- The place itself.
 same_place : (z : Place) (w : List ℕ) (p : ℕ) → (z.1 == p && bytes_eq z.0 w) ≡ true → (z.0 ≡ w) × (z.1 ≡ p)
 same_place z w p it =
     let both = and_parts (z.1 == p) (bytes_eq z.0 w) it in
@@ -143,7 +143,7 @@ nothing : (b : Bool) (o : Option ℕ) → o ≡ None → cond b o None ≡ None
 nothing true o e = e
 nothing false o e = refl
 
--- one place more
+-- One more place.
 found_more : (M : Messages) (w : List ℕ) (p : ℕ) (z : Place) (zs : List Place) (o : Option ℕ) (ms : List Message) → M z.0 z.1 ≡ o → told ms w p ≡ cond (is_in w p zs) (M w p) None → told (told_more z o ms) w p ≡ cond (is_in w p (z ∷ zs)) (M w p) None
 unfolding told
 found_more M w p z zs None ms e rest = elim (cases_Bool (z.1 == p && bytes_eq z.0 w)) [
@@ -169,7 +169,7 @@ unfolding told
 found M w p [] = refl
 found M w p (z ∷ zs) = found_more M w p z zs (M z.0 z.1) (messages_at M zs) refl (found M w p zs)
 
--- labels are places
+-- Labels begin with the commander.
 begins_from : (c : ℕ) (w : List ℕ) → BeginsWith c w → begins_with c w ≡ true
 begins_from c [] b = absurd b
 begins_from c (x ∷ xs) b = eq-eqb x c b
@@ -186,14 +186,14 @@ place_from n m c w p label general off short =
     (and_from (is_distinct w && begins_with c w) (list_all (λ x. nat_lt x n) w) (and_from (is_distinct w) (begins_with c w) label.distinct (begins_from c w label.first)) (below_from n w label.below))
     (le-leb (length w) (m + 1) short)) (lt-ltb p n general)) (rw off refl)
 
--- the commander alone
+-- The label that consists of the commander.
 pub first_label : (n c : ℕ) → c < n → IsLabel n c (c ∷ [])
 first_label n c l = record { first = refl; below = (l, tt); distinct = refl }
 
 pub apart_first : (c p : ℕ) → p ≢ c → on (c ∷ []) p ≡ false
 apart_first c p ne = or_from (c == p) false (ne_eqb c p (λ e. ne (sym e))) refl
 
--- decisions read no more than what is told at places
+-- Decisions depend only on what is received at places.
 pub decides_same : (f : List ℕ → ℕ) (n m c p : ℕ) (M N : Messages) → c < n → p < n → p ≢ c → ((w : List ℕ) (q : ℕ) → is_place_of n m c w q ≡ true → M w q ≡ N w q) → om f n M m (c ∷ []) p ≡ om f n N m (c ∷ []) p
 decides_same f n m c p M N lc lp ne same =
     om-same f n c (m + 1) p M N (λ w label off short. ap order_of (same w p (place_from n m c w p label lp off short))) m (c ∷ []) (first_label n c lc) (apart_first c p ne) (omega arith)
@@ -211,7 +211,7 @@ within n m c w =
     (and_from (nat_le n 13 && nat_le m 4) (nat_le (m + 2) n) (and_from (nat_le n 13) (nat_le m 4) (le-leb n 13 w.few) (le-leb m 4 w.rounds)) (le-leb (m + 2) n w.relays))
     (lt-ltb c n w.present)
 
--- the table is read again
+-- The table is read again.
 pub read_again : (M : Messages) → AreOrders M → (n m c : ℕ) (rule : Rule) → is_within n m c ≡ true → table_told (table_text M n m c rule) ≡ Ok (collected M n m c rule)
 unfolding table_told
 read_again M orders n m c rule inside =
@@ -235,11 +235,11 @@ read_again M orders n m c rule inside =
     let all = lines_are_told (messages_at M (places n m c)) empty 2 there smalls (are_apart M (places n m c) (places_differ n m c)) (none_before (messages_at M (places n m c))) in
     rw (lines, head_read n m c rule ln lm lc, inside) all
 
--- what it tells at the places of the campaign
+-- What it has at the places of the campaign.
 pub collected_tells : (M : Messages) (n m c : ℕ) (w : List ℕ) (p : ℕ) → is_place_of n m c w p ≡ true → told (messages_at M (places n m c)) w p ≡ M w p
 collected_tells M n m c w p e = found M w p (places n m c) ∙ cond-true (is_in w p (places n m c)) (M w p) None (all_found n m c w p e)
 
--- the law, as specs/Laws states it
+-- The law, as specs/WrittenLaws states it.
 pub proved_tables_are_read : TablesAreRead
 unfolding decision_of
 proved_tables_are_read M orders n m c rule inside = (

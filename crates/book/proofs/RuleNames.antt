@@ -1,4 +1,4 @@
--- The words of rules in a line.
+-- The words of a rule in a line.
 use Rattle.std.proofs.Common.{ℕ, ◌≡◌, Bool, not, true, arith}
 use Rattle.std.proofs.lemmas.Bool.Decides.{nat_tests}
 use Rattle.combine.proofs.RuleLaws.{names_law}
@@ -10,7 +10,7 @@ use Rattle.text.specs.declared.stop.Stop.{Stop}
 use Rattle.text.proofs.BytesLemmas.{all-weaker}
 use Rattle.text.proofs.CutLemmas.{Lacks}
 
--- small letters are no stops
+-- Small letters are not among the characters at which a line is split.
 name_lacks : (stop : Stop) → ((c : ℕ) → is_small c ≡ true → not (is_stop stop c) ≡ true) → (rule : Rule) → Lacks stop (rule_name rule)
 name_lacks stop h rule = all-weaker is_small (λ c. not (is_stop stop c)) h (rule_name rule) (names_law.letters rule)
 

@@ -1,4 +1,4 @@
--- Lines of a table that is written, and what is read of them.
+-- The lines of a table that is written, and what is read from them.
 use Rattle.std.proofs.Common.{ℕ, ◌^◌, ◌<◌, ◌≡◌, Bool, true, false, not, List, [], ◌∷◌, ◌++◌, refl, sym, ap, ◌∙◌, arith, append_assoc, append-nil, Option, Some}
 use Rattle.std.specs.Prelude.{codes, if◌then◌else◌}
 use Rattle.std.specs.Fmt.{decimal}
@@ -20,11 +20,11 @@ use Rattle.book.proofs.RuleNames.{name_lacks_feed, name_lacks_space}
 use Rattle.book.proofs.FormLemmas.{AreFew, digits_lack, dotted_lack, no_feed, no_space, tell}
 use Rattle.book.specs.Written.{rule_words}
 
--- a message's line, without its LF
+-- The line of a message, without its line feed.
 abbrev pub tell_of : Message → List ℕ
 tell_of x = tell x.label x.receiver x.order
 
--- it has no further line
+-- It contains no line feed.
 pub tell_lacks : (w : List ℕ) (p v : ℕ) → AreFew w → p < 13 → v < 2 ^ 32 → Lacks feed (tell w p v)
 tell_lacks w p v few lp lv =
     let T : ℕ → Bool = λ c. not (is_stop feed c) in
@@ -36,11 +36,11 @@ tell_lacks w p v few lp lv =
     (all-append T (codes "tell " ++ dotted w) (codes " ") (all-append T (codes "tell ") (dotted w) refl (dotted_lack feed no_feed refl w few)) refl)
     (digits_lack feed no_feed p first)) refl) (digits_lack feed no_feed v second)
 
--- the first line, without its LF
+-- The first line, without its line feed.
 abbrev pub head : ℕ → ℕ → ℕ → Rule → List ℕ
 head n m c rule = codes "generals " ++ decimal n ++ codes " bound " ++ decimal m ++ codes " commander " ++ decimal c ++ rule_words rule
 
--- its front, up to the commander's number, and that number with what is behind it
+-- Its beginning, up to the commander's number, and the words from there on.
 front_parted : (n m : ℕ) (rest : List ℕ) → codes "generals " ++ decimal n ++ codes " bound " ++ decimal m ++ codes " commander " ++ rest ≡ codes "generals" ++ 32 ∷ (decimal n ++ 32 ∷ (codes "bound" ++ 32 ∷ (decimal m ++ 32 ∷ (codes "commander" ++ 32 ∷ rest))))
 front_parted n m rest = simp append_assoc
 
@@ -60,7 +60,7 @@ pieces_front n m rest ln lm =
 rule_parted : (n m c : ℕ) (words : List ℕ) → codes "generals " ++ decimal n ++ codes " bound " ++ decimal m ++ codes " commander " ++ decimal c ++ words ≡ codes "generals " ++ decimal n ++ codes " bound " ++ decimal m ++ codes " commander " ++ (decimal c ++ words)
 rule_parted n m c words = append_assoc (codes "generals " ++ decimal n ++ codes " bound " ++ decimal m ++ codes " commander ") (decimal c) words
 
--- the number of the commander, and a rule behind it, if there is one
+-- The commander's number, and the rule after it, if there is one.
 pieces_rule : (c : ℕ) (is_none : Bool) (name : List ℕ) → c < 2 ^ 64 → Lacks space name → pieces space (decimal c ++ (if is_none then [] else codes " rule " ++ name)) ≡ decimal c ∷ (if is_none then [] else codes "rule" ∷ name ∷ [])
 pieces_rule c true name l free = ap (pieces space) (append-nil (decimal c)) ∙ pieces-all space (decimal c) (digits_lack space no_space c l)
 pieces_rule c false name l free =
@@ -68,7 +68,7 @@ pieces_rule c false name l free =
     ∙ ap (λ ps. decimal c ∷ ps)
     (pieces-append space (codes "rule") 32 name refl refl ∙ ap (λ ps. codes "rule" ∷ ps) (pieces-all space name free))
 
--- what is behind the commander's number
+-- The words after the commander's number.
 abbrev rule_parts_of : Rule → List (List ℕ)
 rule_parts_of rule = if is_default rule then [] else codes "rule" ∷ rule_name rule ∷ []
 
@@ -78,7 +78,7 @@ pieces_head n m c rule ln lm lc =
     ∙ (pieces_front n m (decimal c ++ rule_words rule) ln lm
     ∙ ap (λ ps. codes "generals" ∷ decimal n ∷ codes "bound" ∷ decimal m ∷ codes "commander" ∷ ps) (pieces_rule c (is_default rule) (rule_name rule) lc (name_lacks_space rule)))
 
--- which rule is told there
+-- The rule that is read there.
 rule_read : (rule : Rule) → rule_parts (rule_parts_of rule) ≡ Some rule
 rule_read rule = told_by (is_default rule) refl
   where
@@ -89,11 +89,11 @@ rule_read rule = told_by (is_default rule) refl
 parts_read : (n m c : ℕ) (parts : List (List ℕ)) (rule : Rule) → rule_parts parts ≡ Some rule → head_parts (codes "generals" ∷ decimal n ∷ codes "bound" ∷ decimal m ∷ codes "commander" ∷ decimal c ∷ parts) ≡ Some (decimal n, decimal m, decimal c, rule)
 parts_read n m c parts rule e = ap (λ (o : Option Rule). o >>= λ told. Some (decimal n, decimal m, decimal c, told)) e
 
--- the numbers of a first line's parts, as `head_of` takes them
+-- The numbers of a first line's words, as `head_of` takes them.
 abbrev numbers_of : List ℕ × List ℕ × List ℕ × Rule → Option (ℕ × ℕ × ℕ × Rule)
 numbers_of parts = decimal_of parts.0 >>= λ n. decimal_of parts.1 >>= λ m. decimal_of parts.2 >>= λ c. Some (n, m, c, parts.3)
 
--- what a first line that is written says
+-- What is read from a first line that was written.
 pub head_read : (n m c : ℕ) (rule : Rule) → n < 2 ^ 64 → m < 2 ^ 64 → c < 2 ^ 64 → head_of (head n m c rule) ≡ Some (n, m, c, rule)
 unfolding head_of
 head_read n m c rule ln lm lc =

@@ -21,7 +21,7 @@ use Rattle.book.proofs.Steps.{others-more_yes}
 use Rattle.book.proofs.ToldLemmas.{told_also_is, told_others}
 use Rattle.book.proofs.WholeLemmas.{place_message}
 
--- a tree by its parts
+-- A tree, by its parts.
 pub tree_is : (t : LieutenantTree) (n m c p : ℕ) (M : Messages) → t.generals ≡ n → t.bound ≡ m → t.commander ≡ c → t.general ≡ p → IsFilled t M → t ≡ tree_of n m c M p
 tree_is t n m c p M en em ec ep full =
     let T : List (List (Option ℕ)) → LieutenantTree = λ ls. record { generals = t.generals; bound = t.bound; commander = t.commander; general = t.general; levels = ls } in
@@ -36,13 +36,13 @@ unfolding levels_from
 levels_same n c p M N k zero same = refl
 levels_same n c p M N k (suc l) same = rw (map_same M N p same (labels n c p k), levels_same n c p M N (suc k) l same) refl
 
--- a tree has no more of the messages than its lieutenant's
+-- A tree depends only on the messages to its lieutenant.
 pub tree_same : (n m c p : ℕ) (M N : Messages) → ((w : List ℕ) → M w p ≡ N w p) → tree_of n m c M p ≡ tree_of n m c N p
 tree_same n m c p M N same =
     let T : List (List (Option ℕ)) → LieutenantTree = λ ls. record { generals = n; bound = m; commander = c; general = p; levels = ls } in
     ap T (levels_same n c p M N 1 (m + 1) same)
 
--- an element of a map is written, and the others agree
+-- One item of a mapped list is set, and the others agree.
 set_map : (F G : ℕ → LieutenantTree) (ps : List ℕ) (i p : ℕ) (y : LieutenantTree) → slice_get ps i ≡ Some p → y ≡ G p → ((j q : ℕ) → slice_get ps j ≡ Some q → j ≢ i → F q ≡ G q) → set (map F ps) i y ≡ map G ps
 set_map F G [] i p y at e same = cc
 set_map F G (x ∷ xs) zero p y at e same =
@@ -57,16 +57,16 @@ set_map F G (x ∷ xs) (suc i) p y at e same =
     let first : F x ≡ G x = same 0 x refl (λ z. absurd (omega arith)) in
     rw (first, set_map F G xs i p y at e (λ j q h ne. same (suc j) q h (λ z. ne (omega arith)))) refl
 
--- a lieutenant stands at his place
+-- A lieutenant is at his position.
 pub lieutenant_at : (n c p place : ℕ) → p < n → p ≢ c → place ≡ length (others p (c ∷ [])) → slice_get (lieutenants n c) place ≡ Some p
 lieutenant_at n c p place within ne e = others_here n (c ∷ []) place p within (or_from (c == p) false (ne_eqb c p (λ h. ne (sym h))) refl) e
 
--- his tree stands there too
+-- His tree is there too.
 pub tree_at : (n m c p place : ℕ) (M : Messages) (trees : List LieutenantTree) → p < n → p ≢ c → place ≡ length (others p (c ∷ [])) → trees ≡ map (tree_of n m c M) (lieutenants n c) → slice_get trees place ≡ Some (tree_of n m c M p)
 tree_at n m c p place M trees within ne e is =
     ap (λ xs. slice_get xs place) is ∙ (slice_get-map (tree_of n m c M) (lieutenants n c) place ∙ ap (option_map (tree_of n m c M)) (lieutenant_at n c p place within ne e))
 
--- a message more is written into the tree of its receiver
+-- One more message is stored in the tree of its receiver.
 pub written : (n m c place : ℕ) (messages : List Message) (said : Message) (trees : List LieutenantTree) (tree : LieutenantTree) → said.receiver < n → said.receiver ≢ c → place ≡ length (others said.receiver (c ∷ [])) → list_any (is_about said.label said.receiver) messages ≡ false
     → trees ≡ map (tree_of n m c (told messages)) (lieutenants n c) → tree ≡ tree_of n m c (told_also (told messages) said.label (Some said.order)) said.receiver
     → set trees place tree ≡ map (tree_of n m c (told (messages ++ said ∷ []))) (lieutenants n c)
@@ -76,7 +76,7 @@ written n m c place messages said trees tree within ne e fresh is new =
     (λ j q at other. tree_same n m c q (told messages) (told (messages ++ said ∷ [])) (told_others messages said q
     (λ same. other (others-place n (c ∷ []) j q at ∙ (ap (λ (x : ℕ). length (others x (c ∷ []))) (sym same) ∙ sym e))))))
 
--- a place of the table is a place of the receiver's tree
+-- A place of the table is one of the receiver's tree.
 pub place_of_tree : (t : MessageTable) (M : Messages) (w : List ℕ) (p : ℕ) → is_place t w p ≡ true → IsPlace (tree_of t.generals t.bound t.commander M p) w × (p < t.generals) × (p ≢ t.commander)
 place_of_tree t M w p e =
     let said : IsMessage t.generals t.bound t.commander (record { label = w; receiver = p; order = 0 }) = place_message t (record { label = w; receiver = p; order = 0 }) e (omega arith) in
@@ -86,17 +86,17 @@ place_of_tree t M w p e =
     apart [] p c b o = absurd b
     apart (x ∷ xs) p c b o = λ same. eqb-false x p (or_parts (x == p) (on xs p) o).0 (b ∙ sym same)
 
--- one lieutenant more
+-- One more lieutenant.
 pub tree_more : (n m c p : ℕ) (M : Messages) (trees longer : List LieutenantTree) (tree : LieutenantTree) → p ≢ c → trees ≡ map (tree_of n m c M) (others p (c ∷ [])) → tree ≡ tree_of n m c M p → longer ≡ trees ++ tree ∷ [] → longer ≡ map (tree_of n m c M) (others (p + 1) (c ∷ []))
 tree_more n m c p M trees longer tree ne is new e =
     rw (e, is, new, others-more_yes (c ∷ []) p (or_from (c == p) false (ne_eqb c p (λ h. ne (sym h))) refl)) (sym (map-append (tree_of n m c M) (others p (c ∷ [])) (p ∷ [])))
 
--- of no messages nothing is told
+-- Without messages, nothing is received.
 pub told_none : (n m c p : ℕ) → tree_of n m c silence p ≡ tree_of n m c (told []) p
 unfolding told
 told_none n m c p = refl
 
--- a tree into which a message was filled
+-- A tree in which a message was stored.
 pub refilled : (old new : LieutenantTree) (n m c p : ℕ) (M : Messages) (w : List ℕ) (v : Option ℕ) → old ≡ tree_of n m c M p → SameCampaign old new → ((N : Messages) → IsFilled old N → IsFilled new (told_also N w v)) → new ≡ tree_of n m c (told_also M w v) p
 refilled old new n m c p M w v e same filled =
     let full : IsFilled old M = rw e refl in

@@ -1,4 +1,4 @@
--- A table that is told is whole.
+-- A table that is read is well-formed.
 use Rattle.std.proofs.Common.{◌≡◌, ◌+◌, ◌^◌, ◌<◌, ℕ, suc, Bool, true, false, not, ◌&&◌, List, [], ◌∷◌, ◌++◌, length, Option, Some, None, refl, ap, subst, ◌∙◌, arith}
 use Rattle.std.specs.Prelude.{Result, Ok, Err, nat_lt, nat_le, bytes_eq, if◌then◌else◌}
 use Rattle.std.specs.List.{list_all, list_any, AllByRecursion}
@@ -21,12 +21,12 @@ use Rattle.book.specs.Table.{MessageTable, AreNumbersWithin, is_about}
 use Rattle.book.specs.Grammar.{head_of, is_within, opened, tell_parts, numbers_of, order_in, message_of, is_place, checked, at_line, faultless, with_message, lines_told, told_by_lines, table_told}
 use Rattle.book.specs.Laws.{IsMessage, EachOnce, IsWholeTable, ToldTablesAreWhole}
 
--- a step behind another
+-- A step after another.
 no_fault : {A B : Type 0} (r : Result A TableError) (f : A → Result B TableError) (u : B) → faultless r f ≡ Ok u → (x : A) × (r ≡ Ok x) × (f x ≡ Ok u)
 no_fault (Ok x) f u e = (x, refl, e)
 no_fault (Err x) f u e = cc
 
--- a line without a fault
+-- A line without a fault.
 pub line_ok : {A : Type 0} (number : ℕ) (r : Result A TableFault) (x : A) → at_line number r ≡ Ok x → r ≡ Ok x
 line_ok number (Ok y) x e = let same : y ≡ x = cc in ap Ok same
 line_ok number (Err fault) x e = cc
@@ -57,7 +57,7 @@ picked said x true true e = cc
 picked said x true false e = (cc, refl, refl)
 picked said x false again e = cc
 
--- a message that passes says a place that no earlier one is about
+-- A message without a fault is about a place that no earlier one is about.
 pub checked_parts : (t : MessageTable) (o : Option Message) (x : Message) → checked t o ≡ Ok x
     → (o ≡ Some x) × (is_place t x.label x.receiver ≡ true) × (list_any (is_about x.label x.receiver) t.messages ≡ false)
 checked_parts t None x e = cc
@@ -149,7 +149,7 @@ told_whole (line ∷ lines) t e =
     let s = no_fault (opened (head_of line)) (λ u. lines_told u 2 lines) t e in
     lines_whole lines 2 s.0 t (opened_whole (head_of line) s.0 s.1) s.2
 
--- the law, as specs/Laws states it
+-- The law, as specs/Laws states it.
 pub proved_told_tables_are_whole : ToldTablesAreWhole
 unfolding table_told
 proved_told_tables_are_whole text t e = told_whole (lines_of text) t e

@@ -10,11 +10,11 @@ use Rattle.book.specs.declared.conditions.Obedience.TheVariants.{Traitor, Unlike
 use Rattle.book.specs.Table.{MessageTable, told}
 use Rattle.book.specs.Decisions.{decision_of}
 
--- Returns the loyal lieutenants, ascending: those that are not named as traitors.
+-- Returns the loyal lieutenants, ascending: those who are not named as traitors.
 abbrev pub loyal : MessageTable → List ℕ → List ℕ
 loyal t traitors = others t.generals (t.commander ∷ traitors)
 
--- Returns what the loyal lieutenants decide, in ascending order of the lieutenants.
+-- Returns the decisions of the loyal lieutenants, in ascending order of the lieutenants.
 unfoldable pub loyal_decisions : MessageTable → List ℕ → List ℕ
 loyal_decisions t traitors = map (decision_of t) (loyal t traitors)
 
@@ -23,29 +23,29 @@ abbrev pub are_alike : List ℕ → Bool
 are_alike [] = true
 are_alike (x ∷ xs) = list_all (λ y. y == x) xs
 
--- Returns what the commander sent to each lieutenant, in ascending order of the lieutenants.
+-- Returns the order that the commander sent to each lieutenant, if any, in ascending order of the lieutenants.
 unfoldable pub sent : MessageTable → List (Option ℕ)
 sent t = map (told t.messages (t.commander ∷ [])) (lieutenants t.generals t.commander)
 
--- Checks whether an order was received and is equal to `order`.
+-- Checks whether an order was received, and it is `order`.
 abbrev pub is_told : ℕ → Option ℕ → Bool
 is_told order None = false
 is_told order (Some other) = other == order
 
--- Returns the order that all lieutenants received, if they all received the same order. Returns `None` for the empty
--- list.
+-- Returns the order that all lieutenants received, if they all received the same one. There is none for the empty list.
 abbrev pub same_order : List (Option ℕ) → Option ℕ
 same_order [] = None
 same_order (None ∷ rest) = None
 same_order (Some order ∷ rest) = if list_all (is_told order) rest then Some order else None
 
--- Says whether a commander who is not named as a traitor is obeyed. `Some order` is the order that all lieutenants
--- received from him. `None` means that he did not send the same order to all.
+-- Returns whether the lieutenants obey a commander who is not named as a traitor. The option is the order that he sent
+-- to all, if he sent the same to all.
 abbrev pub obedience_to : Option ℕ → List ℕ → Obedience
 obedience_to None decisions = Unlike
 obedience_to (Some order) decisions = if list_all (λ d. d == order) decisions then Obeyed order else Disobeyed order
 
--- Says whether the commander is obeyed, or that he is named as a traitor.
+-- Returns whether the lieutenants obey the commander. `named` says that he is named as a traitor. The option is the
+-- order that he sent to all, if he sent the same to all.
 abbrev pub obedience_in : Bool → Option ℕ → List ℕ → Obedience
 obedience_in named order decisions = if named then Traitor else obedience_to order decisions
 
@@ -53,7 +53,7 @@ obedience_in named order decisions = if named then Traitor else obedience_to ord
 abbrev pub named_in : MessageTable → List ℕ → ℕ
 named_in t traitors = count_by (on traitors) (generals t.generals)
 
--- Returns what a table shows about IC1 and IC2 if these generals are named as traitors.
+-- Returns whether the bound, IC1 and IC2 hold in a table if these generals are named as traitors.
 unfoldable pub judged : MessageTable → List ℕ → Conditions
 judged t traitors = record {
   named = named_in t traitors;

@@ -6,7 +6,7 @@ use Rattle.book.specs.declared.fault.TableFault.TheVariants.{Line, Range, Place,
 use Rattle.book.specs.declared.fault.TableError.{TableError}
 use Rattle.book.specs.declared.fault.TableError.TheVariants.{At, Memory}
 
--- Returns the two-character code of a fault.
+-- Returns the code of a fault, B1 to B4.
 abbrev pub code_of : TableFault → List ℕ
 code_of Line = codes "B1"
 code_of Range = codes "B2"

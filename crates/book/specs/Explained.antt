@@ -1,5 +1,5 @@
--- The text that explains how the lieutenants of a table decide: the list that each combines at each label (TOPLAS 1982,
--- algorithm OM(m)), the result of the list, and whether the conditions IC1 and IC2 hold.
+-- The text that explains how the lieutenants of a table decide: the list of orders that each combines at each label
+-- (TOPLAS 1982, algorithm OM(m)), what results from the list, and whether the bound, IC1 and IC2 hold.
 use Rattle.std.specs.Prelude.{ℕ, zero, suc, ◌==◌, ◌&&◌, not, nat_lt, Bool, if◌then◌else◌, cond, List, [], ◌∷◌, ◌++◌, map, codes, Option, None, Some}
 use Rattle.std.specs.Fmt.{decimal}
 use Rattle.std.specs.List.{flat_map}
@@ -15,47 +15,45 @@ use Rattle.book.specs.Table.{MessageTable, told}
 use Rattle.book.specs.Decisions.{decision_of}
 use Rattle.book.specs.Conditions.{judged}
 
--- Writes a label: its generals in decimal, joined by dots.
+-- Writes a label: the numbers of its generals, joined by dots.
 abbrev pub dotted : List ℕ → List ℕ
 dotted [] = []
 dotted (g ∷ gs) = decimal g ++ flat_map (λ h. codes "." ++ decimal h) gs
 
--- Writes an order in decimal, or the word `nothing` if no order was received.
+-- Writes an order in decimal, or `nothing` if no order was received.
 abbrev pub order_words : Option ℕ → List ℕ
 order_words None = codes "nothing"
 order_words (Some order) = decimal order
 
--- Returns what `p` decides about the label `w` with `k` relays left.
+-- Returns what `p` decides about the label `w`, if the label can still grow by `k` generals.
 abbrev pub decided : MessageTable → ℕ → List ℕ → ℕ → ℕ
 decided t k w p = om (combined_by t.rule) t.generals (told t.messages) k w p
 
--- Returns the element that general `j`, who is off the label `w`, contributes to the list that `p` combines. For `p`
--- himself it is the order that he received for `w`. For another general it is what `p` decides about `w` extended by
--- `j`, with `k` relays left.
+-- Returns the order that `p` has in his list at the label `w` for general `j`, who is not on it. For himself it is the
+-- order that he took for `w`, and for another general what he decides about `w` extended by `j`.
 abbrev pub element : MessageTable → ℕ → List ℕ → ℕ → ℕ → ℕ
 element t k w p j = cond (j == p) (taken (told t.messages) w p) (decided t k (w ++ j ∷ []) p)
 
--- Returns the list that `p` combines at the label `w` with `suc k` relays left, in the order of the generals.
+-- Returns the list of orders that `p` combines at the label `w`, one for each general who is not on it, ascending.
 abbrev pub list_of : MessageTable → ℕ → List ℕ → ℕ → List ℕ
 list_of t k w p = map (element t k w p) (others t.generals w)
 
--- Returns the order that `p` holds for the label `w`. With no relays left it is the order that he received, if any.
--- Otherwise it is what he decides about the label.
+-- Returns the order that `p` holds for the label `w`: what he decides about it or, if the label cannot grow, the order
+-- that he received, if any.
 unfoldable pub held : MessageTable → ℕ → List ℕ → ℕ → Option ℕ
 held t zero w p = told t.messages w p
 held t (suc k) w p = Some (decided t (suc k) w p)
 
--- Writes a part of a list: a comma, a space, a label, and the order that a general holds for it, if any.
+-- Writes one entry of a list: a label, and the order that a lieutenant holds for it, if any.
 abbrev pub part_words : List ℕ → Option ℕ → List ℕ
 part_words w order = codes ", " ++ dotted w ++ codes " " ++ order_words order
 
--- Writes the part that another general `j` contributes: the label `w` extended by `j`, and the order that `p` holds for
--- it.
+-- Writes the entry for another general `j`: the label `w` extended by `j`, and the order that `p` holds for it.
 abbrev pub part : MessageTable → ℕ → List ℕ → ℕ → ℕ → List ℕ
 part t k w p j = part_words (w ++ j ∷ []) (held t k (w ++ j ∷ []) p)
 
--- Writes the line of a label: the order that was received, the parts of the other generals, and the outcome of the
--- combined list.
+-- Writes the line of a label: the order that was received for it, the entries for the other generals, and the outcome
+-- of the list.
 abbrev pub list_words : List ℕ → Option ℕ → List ℕ → List ℕ → List ℕ
 list_words w order parts outcome =
     dotted w ++ codes ": received " ++ order_words order ++ parts ++ codes ": " ++ outcome ++ codes "\n"
@@ -65,27 +63,27 @@ abbrev pub list_line : MessageTable → ℕ → List ℕ → ℕ → List ℕ
 list_line t k w p = list_words w (told t.messages w p) (flat_map (part t k w p) (others t.generals (p ∷ w)))
     (outcome_words (outcome_of t.rule (list_of t k w p)))
 
--- Writes the lines of the label `w` and of all longer labels that begin with it, with `k` relays left. Each line comes
--- after the lines of the labels that it is combined from.
+-- Writes the lines of the label `w` and of the longer labels that begin with it. `k` is the number of generals by which
+-- the label can still grow. The line of a label comes after those of the longer ones.
 unfoldable pub list_lines : MessageTable → ℕ → List ℕ → ℕ → List ℕ
 list_lines t zero w p = []
 list_lines t (suc k) w p =
     flat_map (λ j. list_lines t k (w ++ j ∷ []) p) (others t.generals (p ∷ w)) ++ list_line t k w p
 
--- Writes the first line of a lieutenant's part.
+-- Writes the first line about a lieutenant.
 abbrev pub head_line : ℕ → List ℕ
 head_line p = codes "lieutenant " ++ decimal p ++ codes "\n"
 
--- Returns the text between the number and the order of a decision, which says whether the lieutenant is named as a
--- traitor.
+-- Returns the text between the lieutenant's number and his order: ` traitor ` if he is named as a traitor, and
+-- otherwise a space.
 abbrev pub mark : Bool → List ℕ
 mark named = if named then codes " traitor " else codes " "
 
--- Writes the line of a decision: the lieutenant, the mark of a traitor, and the order.
+-- Writes the line of a lieutenant's decision.
 abbrev pub decision_line : ℕ → Bool → ℕ → List ℕ
 decision_line p named order = codes "decision " ++ decimal p ++ mark named ++ decimal order ++ codes "\n"
 
--- Writes the part of a lieutenant: his first line, the lines of his lists, and his decision.
+-- Writes the lines about a lieutenant: the first line, his lists, and his decision.
 unfoldable pub lieutenant_lines : MessageTable → List ℕ → ℕ → List ℕ
 lieutenant_lines t traitors p =
     head_line p ++ list_lines t t.bound (t.commander ∷ []) p ++ decision_line p (on traitors p) (decision_of t p)
@@ -94,25 +92,25 @@ lieutenant_lines t traitors p =
 unfoldable pub yes_no : Bool → List ℕ
 yes_no is_so = if is_so then codes "yes" else codes "no"
 
--- Returns the words that compare the number of generals with three times the bound.
+-- Returns the words before the bound in `more than 3 times M` or `not more than 3 times M`.
 unfoldable pub enough_words : Bool → List ℕ
 enough_words is_so = if is_so then codes "more than 3 times " else codes "not more than 3 times "
 
--- Returns the words that compare the number of named traitors with the bound.
+-- Returns the words before the bound in `at most M` or `more than M`.
 unfoldable pub few_words : Bool → List ℕ
 few_words is_so = if is_so then codes "at most " else codes "more than "
 
--- Writes whether the bound holds, and whether there are more generals than three times the bound.
+-- Writes whether the bound holds, and whether there are enough generals.
 abbrev pub enough_part : MessageTable → Conditions → List ℕ
 enough_part t met = codes "bound " ++ yes_no met.bound ++ codes ": " ++ decimal t.generals ++ codes " generals, "
     ++ enough_words met.enough ++ decimal t.bound
 
--- Writes how many generals are named as traitors, and whether they are at most the bound.
+-- Writes how many generals are named as traitors, and whether this is few enough.
 abbrev pub few_part : MessageTable → Conditions → List ℕ
 few_part t met = codes "; " ++ decimal met.named ++ codes " named as traitors, " ++ few_words met.few ++ decimal t.bound
     ++ codes "\n"
 
--- Writes the line of the bound, with the numbers that decide whether it holds.
+-- Writes the line that says whether the bound holds, and why.
 abbrev pub bound_line : MessageTable → Conditions → List ℕ
 bound_line t met = enough_part t met ++ few_part t met
 
@@ -136,8 +134,8 @@ obedience_line (Disobeyed order) =
 unfoldable pub condition_lines : MessageTable → Conditions → List ℕ
 condition_lines t met = bound_line t met ++ alike_line met.alike ++ obedience_line met.obedience
 
--- Writes the whole explanation of a table if these generals are named as traitors: a part for each lieutenant,
--- ascending, and the lines of the conditions.
+-- Writes the explanation of a table if these generals are named as traitors: the lines about each lieutenant,
+-- ascending, and whether the bound, IC1 and IC2 hold.
 unfoldable pub explained : MessageTable → List ℕ → List ℕ
 explained t traitors =
     flat_map (lieutenant_lines t traitors) (lieutenants t.generals t.commander) ++ condition_lines t (judged t traitors)
@@ -146,10 +144,10 @@ explained t traitors =
 abbrev pub is_lieutenant : MessageTable → ℕ → Bool
 is_lieutenant t g = nat_lt g t.generals && not (g == t.commander)
 
--- Writes the part of general `g` if he is a lieutenant, and nothing otherwise.
+-- Writes the lines about general `g` if he is a lieutenant, and otherwise nothing.
 abbrev pub part_of : MessageTable → List ℕ → ℕ → List ℕ
 part_of t traitors g = if is_lieutenant t g then lieutenant_lines t traitors g else []
 
--- Writes the explanation of a table for general `g` only: his part and the lines of the conditions.
+-- Writes the explanation for general `g` only: the lines about him, and whether the bound, IC1 and IC2 hold.
 unfoldable pub explained_one : MessageTable → List ℕ → ℕ → List ℕ
 explained_one t traitors g = part_of t traitors g ++ condition_lines t (judged t traitors)

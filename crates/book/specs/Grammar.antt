@@ -16,21 +16,21 @@ use Rattle.book.specs.declared.fault.TableError.{TableError}
 use Rattle.book.specs.declared.fault.TableError.TheVariants.{At}
 use Rattle.book.specs.Table.{MessageTable, is_about}
 
--- Returns the rule that ends a first line, or the default rule if the line names none.
+-- Returns the rule named at the end of a first line, or the default rule if none is named.
 abbrev pub rule_parts : List (List ℕ) → Option Rule
 rule_parts [] = Some default_rule
 rule_parts (word ∷ name ∷ []) = if bytes_eq word (codes "rule") then rule_named name else None
 rule_parts _ = None
 
--- Splits a first line into the three numbers of `generals N bound M commander C` and the rule of an optional suffix
--- ` rule NAME`.
+-- Returns the words for the three numbers in `generals N bound M commander C`, and the rule that may follow as `rule
+-- NAME`.
 abbrev pub head_parts : List (List ℕ) → Option (List ℕ × List ℕ × List ℕ × Rule)
 head_parts (first ∷ n ∷ second ∷ m ∷ third ∷ c ∷ rest) =
     if bytes_eq first (codes "generals") && bytes_eq second (codes "bound") && bytes_eq third (codes "commander")
     then (rule_parts rest >>= λ rule. Some (n, m, c, rule)) else None
 head_parts _ = None
 
--- Returns the three numbers of a first line and its rule, or `None` if the line has another shape.
+-- Returns the three numbers of a first line and its rule, or `None` if the line does not have the required form.
 unfoldable pub head_of : List ℕ → Option (ℕ × ℕ × ℕ × Rule)
 head_of line = head_parts (pieces space line) >>= λ parts. decimal_of parts.0 >>= λ n. decimal_of parts.1 >>= λ m.
     decimal_of parts.2 >>= λ c. Some (n, m, c, parts.3)
@@ -48,48 +48,48 @@ opened (Some head) =
     then Ok (record { generals = head.0; bound = head.1; commander = head.2; rule = head.3; messages = [] })
     else Err (At Range 1)
 
--- Splits a line `tell LABEL RECEIVER V` into the three parts after its first word.
+-- Returns the words for the label, the receiver and the order in a line `tell LABEL RECEIVER V`.
 abbrev pub tell_parts : List (List ℕ) → Option (List ℕ × List ℕ × List ℕ)
 tell_parts (word ∷ label ∷ receiver ∷ order ∷ []) =
     if bytes_eq word (codes "tell") then Some (label, receiver, order) else None
 tell_parts _ = None
 
--- Returns the decimal numbers of all parts, or `None` if a part is not a decimal number.
+-- Returns the decimal numbers that these words are, or `None` if one is not a decimal number.
 abbrev pub numbers_of : List (List ℕ) → Option (List ℕ)
 numbers_of [] = Some []
 numbers_of (part ∷ parts) = decimal_of part >>= λ n. numbers_of parts >>= λ ns. Some (n ∷ ns)
 
--- Returns an order of 32 bits, or `None` if the part is not a decimal number below 2^32.
+-- Returns the order that a word is, or `None` if it is not a decimal number below 2^32.
 unfoldable pub order_in : List ℕ → Option ℕ
 order_in part = decimal_of part >>= λ v. if nat_lt v (2 ^ 32) then Some v else None
 
--- Returns the message of a line, or `None` if the line has another shape. A label is written as its generals joined by
--- dots. Whether the label and the receiver are a place of the campaign is not checked here.
+-- Returns the message of a line, or `None` if the line does not have the required form. Whether there is such a label
+-- and receiver in the campaign is not checked.
 unfoldable pub message_of : List ℕ → Option Message
 message_of line = tell_parts (pieces space line) >>= λ parts. numbers_of (pieces dot parts.0) >>= λ w.
     decimal_of parts.1 >>= λ p. order_in parts.2 >>= λ v.
     Some (record { label = w; receiver = p; order = v })
 
--- Checks whether `w` and `p` are a place of the table's campaign: a label with at most `bound + 1` generals, and a
--- general who is not on it.
+-- Checks whether `w` is a label of the campaign with at most `bound + 1` generals, and `p` is a general who is not on
+-- it.
 abbrev pub is_place : MessageTable → List ℕ → ℕ → Bool
 is_place t w p =
     is_distinct w && begins_with t.commander w && list_all (λ x. nat_lt x t.generals) w
     && nat_le (length w) (t.bound + 1) && nat_lt p t.generals && not (on w p)
 
--- Checks a further line: returns its message, or the first of its faults. The faults are, in this order: the line has
--- the wrong shape, its label and receiver are not a place, or an earlier line has the same place.
+-- Returns the message of a line after the first, or its first fault. The faults are, in this order: the line does not
+-- have the required form, there is no such label or receiver in the campaign, or an earlier line has both.
 abbrev pub checked : MessageTable → Option Message → Result Message TableFault
 checked t None = Err Line
 checked t (Some said) = if is_place t said.label said.receiver
     then (if list_any (is_about said.label said.receiver) t.messages then Err Twice else Ok said) else Err Place
 
--- Adds the line's number to the fault of a line.
+-- Adds the line's number to a fault.
 abbrev pub at_line : {A : Type 0} → ℕ → Result A TableFault → Result A TableError
 at_line number (Ok x) = Ok x
 at_line number (Err fault) = Err (At fault number)
 
--- Runs the next step of reading if the step before it found no fault.
+-- Applies the next step of reading to the value of a result, or returns the fault.
 abbrev pub faultless : {A B : Type 0} → Result A TableError → (A → Result B TableError) → Result B TableError
 faultless (Ok x) f = f x
 faultless (Err e) f = Err e
@@ -98,18 +98,17 @@ faultless (Err e) f = Err e
 abbrev pub with_message : MessageTable → Message → MessageTable
 with_message t said = record t { messages = t.messages ++ said ∷ [] }
 
--- Reads the further lines into the table, in order. `number` is the number of the first of them.
+-- Reads the lines after the first into the table, in order. `number` is the number of the first of them.
 abbrev pub lines_told : MessageTable → ℕ → List (List ℕ) → Result MessageTable TableError
 lines_told t number [] = Ok t
 lines_told t number (line ∷ lines) = faultless (at_line number (checked t (message_of line)))
     (λ said. lines_told (with_message t said) (suc number) lines)
 
--- Reads a table from its lines: returns the table, or the first fault in the order of the lines. An empty text has no
--- first line and is rejected.
+-- Returns the table that these lines are, or the first fault. An empty text has no first line and is rejected.
 abbrev pub told_by_lines : List (List ℕ) → Result MessageTable TableError
 told_by_lines [] = Err (At Line 1)
 told_by_lines (line ∷ lines) = faultless (opened (head_of line)) (λ t. lines_told t 2 lines)
 
--- Reads a table from the bytes of its text: returns the table, or the first fault in the order of the lines.
+-- Returns the table that a text is, or the first fault.
 unfoldable pub table_told : List ℕ → Result MessageTable TableError
 table_told text = told_by_lines (lines_of text)

@@ -1,4 +1,4 @@
--- What holds for every table that is read from a text. The statement is the contract of a function of this crate.
+-- What is true of every table that is read from a text. A function of this crate has the statement as its contract.
 use Rattle.std.specs.Prelude.{ℕ, ◌+◌, ◌^◌, ◌<◌, ◌≤◌, ◌≡◌, false, List, [], ◌∷◌, length, Ok}
 use Rattle.std.specs.List.{list_any, AllByRecursion}
 use Rattle.label.specs.Labels.{on}
@@ -7,8 +7,8 @@ use Rattle.book.specs.declared.message.Message.{Message}
 use Rattle.book.specs.Table.{MessageTable, AreNumbersWithin, is_about}
 use Rattle.book.specs.Grammar.{table_told}
 
--- States that a message belongs to a campaign: its label is a label of the campaign with at most `m + 1` generals, its
--- receiver is a general who is not on the label, and its order has 32 bits.
+-- States that a message is one of a campaign. Its label is a label of the campaign with at most `m + 1` generals, its
+-- receiver is a general who is not on the label, and its order has at most 32 bits.
 pub record IsMessage (n m c : ℕ) (message : Message) : Type 0 where
   pub label : IsLabel n c message.label
   pub rounds : length message.label ≤ m + 1
@@ -21,8 +21,8 @@ abbrev pub EachOnce : List Message → Type 0
 EachOnce [] = Unit {0}
 EachOnce (message ∷ later) = (list_any (is_about message.label message.receiver) later ≡ false) × EachOnce later
 
--- States that a table is well-formed: its numbers are within their limits, its messages belong to the campaign, and no
--- two have the same label and receiver.
+-- States that a table is well-formed: its numbers are within their limits, its messages are ones of the campaign, and
+-- no two have the same label and receiver.
 pub record IsWholeTable (t : MessageTable) : Type 0 where
   pub within : AreNumbersWithin t.generals t.bound t.commander
   pub messages : AllByRecursion (IsMessage t.generals t.bound t.commander) t.messages

@@ -1,4 +1,4 @@
-//! Writes the message table of a campaign with a question mark for each order, to be filled in.
+//! Writes a message table to fill in: a question mark is in place of each order.
 ghost use Rattle.std.specs.Prelude.{◌≡◌, ◌≢◌, ◌≤◌, ◌+◌, ◌++◌, true, false, length, IfOk, IfErr, OnOk, string_bytes};
 ghost use Rattle.book.specs.declared.fault.TableFault.TheVariants.{Range};
 ghost use Rattle.book.specs.declared.fault.TableError.TheVariants.{At, Memory};
@@ -11,14 +11,14 @@ use crate::reader::is_within;
 use label::Label;
 use std::alloc::{AllocError, Global};
 
-/// Returns the message table of a campaign, to fill in. It has a first line and a line for each label and receiver, the
-/// shorter labels first, with a question mark for the order. `read_table` rejects each such line until the mark is
-/// replaced by an order.
+/// Returns the message table of a campaign with a question mark in place of each order, to fill in. After the first
+/// line comes a line for each label and receiver, such as `tell 0.2 3 ?`, the shorter labels first. `read_table`
+/// rejects such a line until an order replaces the mark.
 ///
 /// # Errors
 ///
-/// Fails with `Range` at line 1 if the numbers are out of their limits, as `read_table` does for such a first line.
-/// Fails with `Memory` if there is no memory for the text.
+/// `Range` at line 1 if the numbers are out of their limits, which are those of the first line of a table. `Memory` if
+/// out of memory.
 pub fn form(alloc: Global, generals: u64, bound: u64, commander: u64) -> Result<String, TableError>
     ensures form { IfOk result (λ text. string_bytes text ≡ form_text generals bound commander) }
     ensures within { IfOk result (λ _. is_within generals bound commander ≡ true) }
@@ -39,7 +39,8 @@ pub fn form(alloc: Global, generals: u64, bound: u64, commander: u64) -> Result<
     Ok(text)
 }
 
-/// Appends the lines of the labels that have `more` generals more than this one and begin with it.
+/// Appends a line with a question mark for each receiver of each label that begins with `label` and has `more` further
+/// generals.
 fn push_blanks(
     alloc: Global,
     text: &mut String,
@@ -62,7 +63,7 @@ fn push_blanks(
     Ok(())
 }
 
-/// Appends the lines of a label, one for each general who is not on the label.
+/// Appends a line with a question mark for each receiver of a label: each general who is not on it.
 fn push_receivers(
     alloc: Global,
     text: &mut String,
@@ -79,7 +80,7 @@ fn push_receivers(
     Ok(())
 }
 
-/// Appends the line of a label and a receiver, with a question mark for the order.
+/// Appends the line of a label and a receiver, with a question mark in place of the order, such as `tell 0.2 3 ?`.
 fn push_blank(
     alloc: Global,
     text: &mut String,

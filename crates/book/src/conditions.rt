@@ -1,27 +1,27 @@
-//! The result of judging a message table: whether the bound, IC1 and IC2 hold.
-/// Whether the loyal lieutenants obey the commander's order (TOPLAS 1982, IC2).
+//! What a message table shows: whether the bound, IC1 and IC2 hold.
+/// Whether the loyal lieutenants obey the commander's order, which is IC2 (TOPLAS 1982).
 #[derive(Clone, Copy)]
 pub enum Obedience {
-    /// The commander is named as a traitor.
+    /// The commander is named as a traitor, so IC2 requires nothing.
     Traitor,
-    /// The commander is not named as a traitor, but he did not send the same order to all lieutenants.
+    /// The commander is not named as a traitor, but did not send the same order to all lieutenants.
     Unlike,
-    /// All lieutenants received this order, and each loyal lieutenant decides on it.
+    /// The commander sent this order to all lieutenants, and each loyal lieutenant decides on it.
     Obeyed(u32),
-    /// All lieutenants received this order, but not each loyal lieutenant decides on it.
+    /// The commander sent this order to all lieutenants, but not each loyal lieutenant decides on it.
     Disobeyed(u32),
 }
 
-/// What a message table shows about interactive consistency if some generals are named as traitors.
+/// Whether a message table satisfies IC1 and IC2 if some generals are named as traitors, and whether the bound holds.
 #[derive(Clone, Copy)]
 pub struct Conditions {
-    /// How many generals are named as traitors.
+    /// The number of generals who are named as traitors.
     pub named: u8,
-    /// Whether there are more generals than three times the bound.
+    /// Whether the number of generals is more than three times the bound.
     pub enough: bool,
-    /// Whether at most as many generals as the bound are named as traitors.
+    /// Whether at most `bound` generals are named as traitors.
     pub few: bool,
-    /// Whether `enough` and `few` both hold, which is the bound of the agreement theorem.
+    /// Whether the bound holds, as the agreement theorem requires: `enough` and `few` are both true.
     pub bound: bool,
     /// Whether all loyal lieutenants decide alike (IC1).
     pub alike: bool,

@@ -1,4 +1,4 @@
-//! Prints the decisions of a message table that is read from a text, or explains them.
+//! Reads a message table from a text, and prints or explains the decisions of its lieutenants.
 ghost use Rattle.std.specs.Prelude.{◌≡◌, ◌≢◌, ◌<◌, ◌++◌, IfOk, IfErr, OnOk, Err, string_bytes};
 ghost use Rattle.book.specs.Decisions.{decisions_of, TableAgrees};
 ghost use Rattle.book.specs.Grammar.{table_told};
@@ -13,11 +13,12 @@ use crate::recursion::decisions;
 use crate::table::Table;
 use std::alloc::{AllocError, Global};
 
-/// Returns the decisions of the lieutenants of the message table, a line for each.
+/// Returns a line with the decision of each lieutenant in the message table `text`, such as `decision 2 1`, in
+/// ascending order.
 ///
 /// # Errors
 ///
-/// Fails with the first fault of the table, or with `Memory` if it runs out of memory.
+/// The table's first fault with its line, or `Memory` if out of memory.
 pub fn decided(alloc: Global, text: &str) -> Result<String, TableError>
     ensures decided { IfOk result (λ lines. DecidesTable text.now (string_bytes lines)) }
     ensures refused { IfErr result (λ e. e ≢ Memory → table_told text.now ≡ Err e) }
@@ -26,11 +27,12 @@ pub fn decided(alloc: Global, text: &str) -> Result<String, TableError>
     Ok(decisions_text(alloc, &table)?)
 }
 
-/// Returns how the lieutenants of the message table decide if these generals are named as traitors.
+/// Returns an explanation of how the lieutenants in the message table `text` decide, and whether the bound, IC1 and IC2
+/// hold if `traitors` are named as traitors.
 ///
 /// # Errors
 ///
-/// Fails with the first fault of the table, or with `Memory` if it runs out of memory.
+/// The table's first fault with its line, or `Memory` if out of memory.
 pub fn explained(alloc: Global, text: &str, traitors: &[u8]) -> Result<String, TableError>
     ensures explained { IfOk result (λ lines. ExplainsTable text.now traitors.now (string_bytes lines)) }
     ensures refused { IfErr result (λ e. e ≢ Memory → table_told text.now ≡ Err e) }
@@ -39,7 +41,7 @@ pub fn explained(alloc: Global, text: &str, traitors: &[u8]) -> Result<String, T
     Ok(explain(alloc, &table, traitors)?)
 }
 
-/// Returns a line for each lieutenant, ascending: his number and the order that he decides on.
+/// Returns a line for each lieutenant, ascending: his number and the order on which he decides, such as `decision 2 1`.
 fn decisions_text(alloc: Global, table: &Table) -> Result<String, AllocError>
     ensures lines { IfOk result (λ lines. string_bytes lines ≡ decision_lines table.now) }
     ensures agree { IfOk result (λ _. TableAgrees table.now (decisions_of table.now)) }
@@ -57,7 +59,7 @@ fn decisions_text(alloc: Global, table: &Table) -> Result<String, AllocError>
     Ok(lines)
 }
 
-/// Appends the line of a lieutenant's decision.
+/// Appends the line of a lieutenant's decision, such as `decision 2 1`.
 fn push_decision(
     alloc: Global,
     lines: &mut String,

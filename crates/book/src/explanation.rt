@@ -1,4 +1,4 @@
-//! Explains in text how the lieutenants of a message table decide, and whether the bound, IC1 and IC2 hold.
+//! Explains how the lieutenants of a message table decide, and whether the bound, IC1 and IC2 hold.
 ghost use Rattle.std.specs.Prelude.{◌≡◌, ◌≢◌, ◌<◌, ◌++◌, IfOk, OnOk, string_bytes};
 ghost use Rattle.book.specs.Conditions.{judged};
 ghost use Rattle.book.specs.Explained.{alike_line, bound_line, condition_lines, decision_line, enough_part, enough_words, explained, explained_one};
@@ -11,13 +11,13 @@ use crate::message_source::Heard;
 use label::Label;
 use std::alloc::{AllocError, Global};
 
-/// Returns how the lieutenants decide. The text has the list that each lieutenant combines at each label, and his
-/// decision, in ascending order of the lieutenants. Then it says whether the bound and the conditions hold if these
-/// generals are named as traitors.
+/// Returns an explanation of all decisions. For each lieutenant, ascending, it has the list of orders that he combines
+/// at each label, and his decision. Then it says whether the bound, IC1 and IC2 hold if `traitors` are named as
+/// traitors.
 ///
 /// # Errors
 ///
-/// Fails with `AllocError` if there is no memory for the text.
+/// `AllocError` if out of memory.
 pub fn explain<H: Heard>(alloc: Global, table: &H, traitors: &[u8]) -> Result<String, AllocError>
     ensures { IfOk result (λ text. string_bytes text ≡ explained (H.seen table.now) traitors.now) }
 {
@@ -31,11 +31,13 @@ pub fn explain<H: Heard>(alloc: Global, table: &H, traitors: &[u8]) -> Result<St
     Ok(lines)
 }
 
-/// Returns how one general decides: his lists and his decision if he is a lieutenant, then the conditions.
+/// Returns an explanation of one general's decision: the list of orders that he combines at each label, and his
+/// decision. If he is not a lieutenant, this part is missing. Then it says whether the bound, IC1 and IC2 hold if
+/// `traitors` are named as traitors.
 ///
 /// # Errors
 ///
-/// Fails with `AllocError` if there is no memory for the text.
+/// `AllocError` if out of memory.
 #[tactic(auto, unfolding(crate::specs::Explained::explained_one))]
 pub fn explain_one<H: Heard>(
     alloc: Global,
@@ -51,7 +53,7 @@ pub fn explain_one<H: Heard>(
     Ok(lines)
 }
 
-/// Returns the lines of this general, or an empty text if he is not a lieutenant.
+/// Returns the lines that explain how a general decides, or an empty text if he is not a lieutenant.
 fn part<H: Heard>(
     alloc: Global,
     table: &H,
@@ -68,14 +70,15 @@ fn part<H: Heard>(
     Ok(lines)
 }
 
-/// Checks whether the general is one of the lieutenants.
+/// Checks whether a general is a lieutenant: he exists and is not the commander.
 fn is_lieutenant<H: Heard>(table: &H, general: u8) -> bool
     ensures { result ≡ is_lieutenant (H.seen table.now) general }
 {
     general < table.generals() && general != table.commander()
 }
 
-/// Appends the lines of a lieutenant: his number, his lists and his decision.
+/// Appends the lines that explain how a lieutenant decides: his number, the list of orders that he combines at each
+/// label, and his decision.
 fn push_lieutenant<H: Heard>(
     alloc: Global,
     lines: &mut String,
@@ -101,7 +104,7 @@ fn push_lieutenant<H: Heard>(
     )
 }
 
-/// Appends the line of a lieutenant's decision.
+/// Appends the line of a lieutenant's decision, such as `decision 2 1` or `decision 2 traitor 1`.
 fn push_decision(
     lines: &mut String,
     general: u8,
@@ -114,15 +117,15 @@ fn push_decision(
     write!(lines, "decision {general}{mark}{order}\n")
 }
 
-/// Returns the text between the number and the order of a decision, which says whether the lieutenant is named as a
-/// traitor.
+/// Returns the text between a lieutenant's number and his order: ` traitor ` if he is named as a traitor, and otherwise
+/// a space.
 fn mark(named: bool) -> &'static str
     ensures { result.now ≡ mark named }
 {
     if named { " traitor " } else { " " }
 }
 
-/// Appends the lines that say whether the bound and the conditions hold.
+/// Appends the lines that say whether the bound, IC1 and IC2 hold.
 fn push_conditions<H: Heard>(
     alloc: Global,
     lines: &mut String,
@@ -139,7 +142,7 @@ fn push_conditions<H: Heard>(
     lines.push_str(obedience.as_str())
 }
 
-/// Returns the line that says whether the bound holds, with its numbers.
+/// Returns the line that says whether the bound holds, and why.
 fn bound_line<H: Heard>(alloc: Global, table: &H, met: &Conditions) -> Result<String, AllocError>
     ensures { IfOk result (λ text. string_bytes text ≡ bound_line (H.seen table.now) met.now) }
 {
@@ -149,7 +152,7 @@ fn bound_line<H: Heard>(alloc: Global, table: &H, met: &Conditions) -> Result<St
     Ok(line)
 }
 
-/// Returns the first part of the bound's line: whether the bound holds, and whether there are enough generals.
+/// Returns the first half of the bound's line: whether the bound holds, and whether there are enough generals.
 fn enough_part<H: Heard>(alloc: Global, table: &H, met: &Conditions) -> Result<String, AllocError>
     ensures { IfOk result (λ text. string_bytes text ≡ enough_part (H.seen table.now) met.now) }
 {
@@ -160,7 +163,8 @@ fn enough_part<H: Heard>(alloc: Global, table: &H, met: &Conditions) -> Result<S
     format!(in alloc; "bound {holds}: {generals} generals, {enough}{bound}")
 }
 
-/// Returns the second part of the bound's line: whether few enough generals are named as traitors.
+/// Returns the second half of the bound's line: how many generals are named as traitors, and whether this is few
+/// enough.
 fn few_part<H: Heard>(alloc: Global, table: &H, met: &Conditions) -> Result<String, AllocError>
     ensures { IfOk result (λ text. string_bytes text ≡ few_part (H.seen table.now) met.now) }
 {
@@ -178,7 +182,7 @@ fn yes_no(is_so: bool) -> &'static str
     if is_so { "yes" } else { "no" }
 }
 
-/// Returns the words that compare the number of generals with three times the bound.
+/// Returns the words before the bound in `more than 3 times M` or `not more than 3 times M`.
 #[tactic(auto, unfolding(crate::specs::Explained::enough_words))]
 fn enough_words(is_so: bool) -> &'static str
     ensures { result.now ≡ enough_words is_so }
@@ -190,7 +194,7 @@ fn enough_words(is_so: bool) -> &'static str
     }
 }
 
-/// Returns the words that compare the number of named traitors with the bound.
+/// Returns the words before the bound in `at most M` or `more than M`.
 #[tactic(auto, unfolding(crate::specs::Explained::few_words))]
 fn few_words(is_so: bool) -> &'static str
     ensures { result.now ≡ few_words is_so }
@@ -198,7 +202,7 @@ fn few_words(is_so: bool) -> &'static str
     if is_so { "at most " } else { "more than " }
 }
 
-/// Returns the line of IC1: whether the loyal lieutenants decide alike.
+/// Returns the line that says whether IC1 holds: whether the loyal lieutenants decide alike.
 fn alike_line(alike: bool) -> &'static str
     ensures { result.now ≡ alike_line alike }
 {
@@ -209,7 +213,7 @@ fn alike_line(alike: bool) -> &'static str
     }
 }
 
-/// Returns the line of IC2: whether the loyal lieutenants obey the commander.
+/// Returns the line that says whether IC2 holds: whether the loyal lieutenants obey the commander.
 fn obedience_line(alloc: Global, obedience: Obedience) -> Result<String, AllocError>
     ensures { IfOk result (λ text. string_bytes text ≡ obedience_line obedience) }
 {

@@ -1,4 +1,4 @@
-//! Why a text is not a message table: the fault of a line, and its text.
+//! Why a text is not a message table.
 ghost use Rattle.std.specs.Prelude.{◌≡◌};
 ghost use Rattle.book.specs.declared.fault.TableError.TheVariants.{Memory};
 
@@ -9,14 +9,13 @@ use std::fmt;
 /// What is wrong with a line of a message table.
 #[derive(Clone, Copy, Debug, PartialEq, Eq, Drop)]
 pub enum TableFault {
-    /// The line has the wrong shape, or its order is above 2^32 - 1.
+    /// B1: the line does not have the required form, or its order is above 2^32 - 1.
     Line,
-    /// The numbers of the first line are out of their limits.
+    /// B2: the numbers of the first line are out of their limits.
     Range,
-    /// The label is not a label of the campaign or is too long for its rounds, or the receiver is not a general who is
-    /// off the label.
+    /// B3: the label is not one of the campaign's labels, or the receiver is not a general or is on the label.
     Place,
-    /// An earlier line has the same label and receiver.
+    /// B4: an earlier line has the same label and receiver.
     Twice,
 }
 
@@ -38,12 +37,12 @@ impl fmt::Display for TableFault {
 
 impl Error for TableFault {}
 
-/// Why a text is not a message table: the first fault with its line, or too little memory.
+/// Why a text is not read as a message table: its first fault, or too little memory.
 #[derive(Clone, Copy, Debug, PartialEq, Eq, Drop)]
 pub enum TableError {
-    /// The line of this number, counted from 1, has this fault.
+    /// The line with this number, counted from 1, has this fault.
     At(TableFault, u64),
-    /// There is no memory for the table.
+    /// The memory does not suffice.
     Memory,
 }
 

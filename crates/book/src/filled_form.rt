@@ -1,4 +1,4 @@
-//! Writes the message table of a campaign in which all generals but at most one send the same order.
+//! Writes a message table in which all generals send the same order. One general's orders may be left open.
 ghost use Rattle.std.specs.Prelude.{◌≡◌, ◌≢◌, IfOk, IfErr, Err, Some, string_bytes};
 ghost use Rattle.combine.specs.Names.{default_rule};
 ghost use Rattle.book.specs.Grammar.{opened};
@@ -14,12 +14,12 @@ use combine::Rule;
 use std::alloc::Global;
 use text::decimal;
 
-/// Returns the message table of a campaign with these numbers, in which all generals send this order. If a liar is
-/// given, the orders that he sends are question marks, to be filled in.
+/// Returns the message table of a campaign in which all generals send `order`. If a liar is given, his orders are
+/// question marks, to be filled in.
 ///
 /// # Errors
 ///
-/// Fails with the fault of a first line with these numbers, or with `Memory` if it runs out of memory.
+/// The fault that a first line with these numbers has, or `Memory` if out of memory.
 pub fn filled(
     alloc: Global,
     generals: &str,
@@ -38,11 +38,11 @@ pub fn filled(
     Ok(write(alloc, &marks, generals, bound, commander, Rule::DEFAULT)?)
 }
 
-/// Returns how many generals a campaign with these numbers has.
+/// Returns the number of generals of a campaign with these three numbers.
 ///
 /// # Errors
 ///
-/// Fails with the fault of a first line with these numbers.
+/// The fault that a first line with these numbers has.
 pub fn generals_in(generals: &str, bound: &str, commander: &str) -> Result<u8, TableError>
     ensures told { IfOk result (HasGenerals generals.now bound.now commander.now) }
     ensures refused { IfErr result (λ e. opened (numbers_in generals.now bound.now commander.now) ≡ Err e) }
@@ -52,12 +52,12 @@ pub fn generals_in(generals: &str, bound: &str, commander: &str) -> Result<u8, T
     Ok(generals)
 }
 
-/// Returns the numbers of a campaign, checked like those of the first line of a table.
+/// Returns the three numbers of a campaign, which are given as text. They must be within the limits of the first line
+/// of a message table.
 ///
 /// # Errors
 ///
-/// Fails with `Line` if a word is not a decimal number, and with `Range` if the numbers are out of their limits. Both
-/// are at line 1.
+/// At line 1, `Line` if a number is not decimal, and `Range` if the numbers are out of their limits.
 #[tactic(auto, unfolding(crate::specs::Numbers::numbers_in))]
 fn numbers(generals: &str, bound: &str, commander: &str) -> Result<(u8, u8, u8), TableError>
     ensures told { IfOk result

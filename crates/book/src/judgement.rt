@@ -10,7 +10,7 @@ use crate::recursion::decision;
 use arrayvec::ArrayVec;
 use label::Label;
 
-/// Returns whether the bound and the conditions hold in a table. These generals are named as traitors, and all others
+/// Returns whether the bound, IC1 and IC2 hold in a message table, if `traitors` are named as traitors. All others
 /// count as loyal.
 #[tactic(auto, unfolding(crate::specs::Conditions::judged))]
 pub fn judge<H: Heard>(table: &H, traitors: &[u8]) -> Conditions
@@ -40,7 +40,7 @@ pub(crate) fn is_named(traitors: &[u8], general: u8) -> bool
     traitors.iter().any(|x| *x == general)
 }
 
-/// Returns how many of the generals `0..all` are named as traitors.
+/// Returns how many of the generals below `all` are named as traitors.
 fn named_among(traitors: &[u8], all: u8) -> u8
     ensures count { result ≡ count_by (on traitors.now) (generals all) }
     ensures few { result ≤ all }
@@ -54,7 +54,7 @@ fn named_among(traitors: &[u8], all: u8) -> u8
     named
 }
 
-/// Returns what the lieutenants who are not named as traitors decide, in ascending order of the lieutenants.
+/// Returns the decisions of the lieutenants who are not named as traitors, in ascending order of the lieutenants.
 fn loyal_decisions<H: Heard>(table: &H, traitors: &[u8]) -> ArrayVec<u32, 13>
     ensures { result.items ≡ loyal_decisions (H.seen table.now) traitors.now }
 {
@@ -68,7 +68,8 @@ fn loyal_decisions<H: Heard>(table: &H, traitors: &[u8]) -> ArrayVec<u32, 13>
     decisions
 }
 
-/// Returns what the commander sent to the lieutenants, in ascending order of the lieutenants.
+/// Returns the order that the commander sent to each lieutenant, or `None` if he sent none, in ascending order of the
+/// lieutenants.
 fn sent<H: Heard>(table: &H) -> ArrayVec<Option<u32>, 13>
     ensures { result.items ≡ sent (H.seen table.now) }
 {
@@ -83,7 +84,7 @@ fn sent<H: Heard>(table: &H) -> ArrayVec<Option<u32>, 13>
     orders
 }
 
-/// Checks whether all decisions are the same.
+/// Checks whether all decisions are the same order.
 fn are_alike(decisions: &[u32]) -> bool
     ensures { result ≡ are_alike decisions.now }
 {
@@ -93,14 +94,14 @@ fn are_alike(decisions: &[u32]) -> bool
     }
 }
 
-/// Checks whether each decision is this order.
+/// Checks whether all decisions are this order.
 fn all_are(decisions: &[u32], order: u32) -> bool
     ensures { result ≡ list_all (λ d. d == order) decisions.now }
 {
     decisions.iter().all(|decision| *decision == order)
 }
 
-/// Returns the order that all lieutenants received, if they all received the same order.
+/// Returns the order that all lieutenants received, or `None` if not all received the same order.
 fn same_order(orders: &[Option<u32>]) -> Option<u32>
     ensures { result ≡ same_order orders.now }
 {
@@ -110,14 +111,14 @@ fn same_order(orders: &[Option<u32>]) -> Option<u32>
     }
 }
 
-/// Checks whether each lieutenant received this order.
+/// Checks whether each lieutenant received this order. `orders` is what each received.
 fn all_told(orders: &[Option<u32>], order: u32) -> bool
     ensures { result ≡ list_all (is_told order) orders.now }
 {
     orders.iter().all(|told| is_told(*told, order))
 }
 
-/// Checks whether this order was received.
+/// Checks whether `told`, what a lieutenant received, is this order.
 fn is_told(told: Option<u32>, order: u32) -> bool
     ensures { result ≡ is_told order told }
 {
@@ -127,8 +128,8 @@ fn is_told(told: Option<u32>, order: u32) -> bool
     }
 }
 
-/// Returns whether a commander is obeyed who is not named as a traitor. `order` is the order that all lieutenants
-/// received, if they received the same.
+/// Returns whether the lieutenants obey a commander who is not named as a traitor. `order` is the order that he sent to
+/// all, or `None` if he did not send one order to all.
 fn obedience_to(order: Option<u32>, decisions: &[u32]) -> Obedience
     ensures { result ≡ obedience_to order decisions.now }
 {
@@ -144,7 +145,8 @@ fn obedience_to(order: Option<u32>, decisions: &[u32]) -> Obedience
     }
 }
 
-/// Returns whether the commander is obeyed, or that he is named as a traitor.
+/// Returns whether the lieutenants obey the commander. `order` is the order that he sent to all, or `None` if he did
+/// not send one order to all. `is_named` says that he is named as a traitor.
 fn obedience_in(is_named: bool, order: Option<u32>, decisions: &[u32]) -> Obedience
     ensures { result ≡ obedience_in is_named order decisions.now }
 {

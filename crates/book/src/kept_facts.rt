@@ -1,4 +1,4 @@
-//! Facts about lieutenants' trees for use in proofs. Each function does nothing, and its contract recalls what the
+//! Functions that do nothing. The contract of each gives the caller's proof a fact about lieutenants' trees that their
 //! types guarantee.
 ghost use Rattle.std.specs.Prelude.{◌≡◌, ◌<◌, ◌^◌, ℕ, All, Some, slice_get};
 ghost use Rattle.book.specs.Hearing.{heard};
@@ -7,7 +7,7 @@ ghost use Rattle.tree.specs.LieutenantTree.{level_of};
 
 use tree::Tree;
 
-/// Does nothing. Its contract says that the orders in the trees have 32 bits.
+/// Does nothing. Its contract states that the orders in these trees have at most 32 bits.
 pub fn recall_orders(trees: &[Tree])
     ensures { AreOrders (heard trees.now) }
 {
@@ -16,7 +16,7 @@ pub fn recall_orders(trees: &[Tree])
     }
 }
 
-/// Does nothing. Its contract says that the orders in a tree have 32 bits.
+/// Does nothing. Its contract states that the orders in a tree have at most 32 bits.
 fn recall_tree(tree: &Tree)
     ensures { (k i v : ℕ) → slice_get (level_of tree.now k) i ≡ Some (Some v) → v < 2 ^ 32 }
 {
@@ -26,7 +26,7 @@ fn recall_tree(tree: &Tree)
     }
 }
 
-/// Does nothing. Its contract says that the orders in a level have 32 bits.
+/// Does nothing. Its contract states that the orders in a level of a tree have at most 32 bits.
 fn recall_level(level: &[u32])
     ensures { All (λ order. order < 2 ^ 32) level.now }
 {

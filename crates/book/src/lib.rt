@@ -1,7 +1,8 @@
-//! Oral messages by the book: message tables, their decisions by OM(m), and the agreement theorem (TOPLAS 1982).
+//! Oral messages by the book: message tables, the decisions that follow from them by OM(m), and the agreement theorem
+//! (TOPLAS 1982).
 //!
-//! The crate reads and writes message tables. It prints their decisions, explains them, and makes tables to fill in or
-//! filled in with one order.
+//! The crate reads and writes message tables, prints and explains decisions, and makes tables to fill in. A message
+//! table lists for each label and receiver the order that was sent.
 #![tactic(auto)]
 
 mod blanks;

@@ -1,4 +1,4 @@
-//! Writes the lists that a lieutenant combines, label by label, for the explanation of his decision.
+//! Writes the list of orders that a lieutenant combines at each label, for the explanation of his decision.
 ghost use Rattle.std.specs.Prelude.{◌≡◌, ◌≤◌, ◌+◌, ◌++◌, ◌∷◌, [], ℕ, List, true, length, IfOk, OnOk, None, string_bytes};
 ghost use Rattle.std.specs.Fmt.{decimal};
 ghost use Rattle.book.specs.Grammar.{is_place};
@@ -9,7 +9,7 @@ use arrayvec::ArrayVec;
 use label::Label;
 use std::alloc::{AllocError, Global};
 
-/// Returns a label as text: its generals in decimal, joined by dots.
+/// Returns a label as text: the numbers of its generals joined by dots, such as `0.2.3`.
 pub(crate) fn dotted(alloc: Global, label: &Label) -> Result<String, AllocError>
     ensures { IfOk result (λ text. string_bytes text ≡ dotted label.now) }
 {
@@ -19,7 +19,7 @@ pub(crate) fn dotted(alloc: Global, label: &Label) -> Result<String, AllocError>
     }
 }
 
-/// Returns the label of `first` and the generals `rest` as text, joined by dots.
+/// Returns the label of `first` and then the generals `rest` as text, such as `0.2.3`.
 fn joined(alloc: Global, first: u8, rest: &[u8]) -> Result<String, AllocError>
     ensures { IfOk result (λ text. string_bytes text ≡ dotted (first ∷ rest.now)) }
 {
@@ -31,16 +31,15 @@ fn joined(alloc: Global, first: u8, rest: &[u8]) -> Result<String, AllocError>
     Ok(text)
 }
 
-/// The capacity in bytes for the beginning of a label of five generals: a number of two digits and a dot for each of
-/// the first four.
+/// The bytes reserved for the text of a label's first four generals, such as `10.11.12.9.`.
 const ROOM_AHEAD: usize = 12;
 
-/// The capacity in bytes for the parts of a list: eight labels of five generals of two digits, each with an order of
-/// ten digits.
+/// The bytes reserved for the text of a list: eight labels of five generals of two digits, each with an order of ten
+/// digits.
 const ROOM_FOR_PARTS: usize = 216;
 
-/// Returns the text with which the labels one general longer than `label` begin. `label` is written as `front` and its
-/// last general `last`.
+/// Returns the text with which the labels begin that have one general more than `label`, such as `0.2.`. The text of
+/// `label` is `front` and then the number `last`.
 fn behind(alloc: Global, label: &Label, front: &str, last: u8) -> Result<String, AllocError>
     requires { front.now ++ decimal last ≡ dotted label.now }
     ensures { IfOk result (λ text. (other : ℕ) →
@@ -52,8 +51,8 @@ fn behind(alloc: Global, label: &Label, front: &str, last: u8) -> Result<String,
     Ok(text)
 }
 
-/// Appends the part that a general contributes to a list: a label, and the order that is held of it. The label is
-/// written as `front` and the general's number.
+/// Appends one entry of a list: a label, and the order that the lieutenant holds for it or `nothing`, such as `, 0.2
+/// 1`. The text of the label is `front` and then the number `general`.
 fn push_part(
     parts: &mut String,
     front: &str,
@@ -69,8 +68,8 @@ fn push_part(
     }
 }
 
-/// Appends the line of a label for which no order was received. The label is written as `front` and its last general
-/// `last`.
+/// Appends the line of a label for which the lieutenant received no order: the entries `parts` of its list, and the
+/// outcome `order` after `words`. The text of the label is `front` and then the number `last`.
 fn push_silent_list(
     lines: &mut String,
     front: &str,
@@ -87,8 +86,8 @@ fn push_silent_list(
     write!(lines, "nothing{parts}: {words}{order}\n")
 }
 
-/// Appends the line of a label: the order that was received for it, the parts of its list, and the outcome. The label
-/// is written as `front` and its last general `last`.
+/// Appends the line of a label: the order that the lieutenant received for it, the entries `parts` of its list, and the
+/// outcome `order` after `words`. The text of the label is `front` and then the number `last`.
 fn push_list(
     lines: &mut String,
     front: &str,
@@ -111,11 +110,11 @@ fn push_list(
     }
 }
 
-/// Appends the lines of a label and of the longer labels that begin with it, with `relays` relays left. The label is
-/// written as `front` and its last general `last`.
+/// Appends the lines of a label and of the longer labels that begin with it. `relays` is the number of generals by
+/// which a label can still grow. The text of the label is `front` and then the number `last`.
 ///
-/// Returns what lieutenant `general` then holds of the label: his decision about it, or with no relays left the order
-/// that he received, if any.
+/// Returns the order that lieutenant `general` then holds for the label: what he decides about it or, if `relays` is 0,
+/// the order that he received, if any.
 pub(crate) fn push_lists<H: Heard>(
     alloc: Global,
     lines: &mut String,

@@ -1,11 +1,11 @@
-//! The marks of a message table in which all generals but at most one send the same order.
+//! Chooses what to write for each order in a message table in which all generals send the same one.
 ghost use Rattle.std.specs.Prelude.{◌≡◌};
 ghost use Rattle.book.specs.Written.{ends_in};
 
 use crate::mark::{Marks, TableMark};
 use label::Label;
 
-/// The marks of a table in which all generals send `order`, and in which the orders that the liar sends are left open.
+/// The marks of a message table: `order` for each message, or a question mark if the liar sends it.
 #[derive(Clone, Copy)]
 pub(crate) struct LoyalMarks {
     pub(crate) order: u32,
@@ -25,7 +25,7 @@ impl Marks for LoyalMarks {
     }
 }
 
-/// Checks whether the general is the last of the label.
+/// Checks whether a general is the last on a label.
 fn ends_in(label: &[u8], general: u8) -> bool
     ensures { result ≡ ends_in label.now general }
 {

@@ -1,19 +1,19 @@
-//! The marks at the places of a message table: an order, a question mark, or no line.
+//! The mark of a message in a message table: an order, a question mark, or no line at all.
 
 use label::Label;
 
-/// The mark at a place of a message table.
+/// What a message table has for a label and a receiver of it.
 #[derive(Clone, Copy)]
 pub enum TableMark {
     /// An order, where 0 is RETREAT.
     Order(u32),
-    /// A question mark, to be replaced by an order.
+    /// A question mark, which an order is to replace.
     Open,
-    /// Nothing was received at the place, and it has no line.
+    /// No line, because nothing was received.
     Silence,
 }
 
-/// A source of marks: it has one for each place of a message table.
+/// A source of marks: it says what to write for each label and receiver of a message table.
 pub(crate) trait Marks {
     ghost use Rattle.std.specs.Prelude.{◌≡◌};
     ghost use Rattle.book.specs.Written.{Marking};
@@ -21,7 +21,7 @@ pub(crate) trait Marks {
     // The mark of each label and receiver.
     ghost marking: { Self → Marking };
 
-    /// Returns the mark of the message that the last general of the label sends to this receiver.
+    /// Returns what to write for the message that the last general on `label` sends to `receiver`.
     fn mark(&self, label: &Label, receiver: u8) -> TableMark
         ensures { result ≡ marking self.now label.now receiver };
 }

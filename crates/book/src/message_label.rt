@@ -1,4 +1,4 @@
-//! Reads the label of a message from a line of a message table.
+//! Reads the label in a line of a message table.
 ghost use Rattle.std.specs.Prelude.{◌≡◌, ◌≤◌, ◌<◌, ◌+◌, ◌&&◌, not, nat_le, nat_lt, length, Err, None};
 ghost use Rattle.std.specs.Bool.{OnTrue};
 ghost use Rattle.text.specs.Stop.{dot};
@@ -14,13 +14,12 @@ use crate::table::Table;
 use label::Label;
 use text::{decimal, piece};
 
-/// Returns the label that a part of a line contains: numbers joined by dots, the commander first. Each number is read
-/// once.
+/// Reads a label: numbers joined by dots, the commander first, such as `0.2.3`.
 ///
 /// # Errors
 ///
-/// Fails with `Line` if one of the parts between dots is not a decimal number. Otherwise fails with `Place` if the
-/// numbers are not a label of the campaign.
+/// `Line` if something between the dots is not a decimal number, and otherwise `Place` if the numbers are not a label
+/// of the campaign.
 #[tactic(auto, unfolding(crate::specs::Reading::label_read, crate::specs::Reading::begun_label))]
 pub fn label_in(table: &Table, part: &[u8]) -> Result<Label, TableFault>
     ensures label { result ≡ label_read table.now part.now }
@@ -38,11 +37,12 @@ pub fn label_in(table: &Table, part: &[u8]) -> Result<Label, TableFault>
     }
 }
 
-/// Returns the label extended by the generals in the rest of the part.
+/// Returns `label` extended by the generals in `rest`, which are numbers joined by dots, or `label` if `rest` is
+/// `None`.
 ///
 /// # Errors
 ///
-/// Fails with `Line` if one of them is not a decimal number. Otherwise fails with `Place` if one is not a general, is
+/// `Line` if something between the dots is not a decimal number. Otherwise `Place` if a number is not a general, is
 /// already on the label, or makes the label longer than `bound + 1` generals.
 #[tactic(auto, unfolding(crate::specs::Reading::prolonged_label))]
 fn prolonged(table: &Table, label: Label, rest: Option<&[u8]>) -> Result<Label, TableFault>
@@ -64,8 +64,8 @@ fn prolonged(table: &Table, label: Label, rest: Option<&[u8]>) -> Result<Label, 
     }
 }
 
-/// Returns the fault of a line whose label cannot be extended: `Place` if the rest of the part contains only numbers,
-/// and `Line` otherwise.
+/// Returns the fault of a label with a number that is not allowed there: `Place` if `rest`, the text after this number,
+/// has only decimal numbers between its dots, and otherwise `Line`.
 fn no_label(rest: Option<&[u8]>) -> TableFault
     ensures { Err result ≡ numbers_or (λ ns. None) (numbers_of (left dot rest.entry)) }
 {
@@ -76,7 +76,8 @@ fn no_label(rest: Option<&[u8]>) -> TableFault
     }
 }
 
-/// Checks whether the label can be extended by this general.
+/// Checks whether a label can be extended by the general `next`: he exists, is not on the label, and the label has at
+/// most `bound` generals.
 fn is_next(table: &Table, label: &Label, next: u128) -> bool
     ensures small { OnTrue result ((next < 13) × (length label.now < 13)) }
     ensures value { result ≡ (nat_le (length label.now) table.now.bound && nat_lt next table.now.generals
@@ -87,7 +88,7 @@ fn is_next(table: &Table, label: &Label, next: u128) -> bool
         && !label.has(next as u8)
 }
 
-/// Checks whether the receiver is a general who is not on the label.
+/// Checks whether `receiver` is a general who is not on the label.
 pub fn can_hear(table: &Table, label: &Label, receiver: u128) -> bool
     ensures small { OnTrue result (receiver < 13) }
     ensures value { result ≡ (nat_lt receiver table.now.generals && not (on label.now receiver)) }

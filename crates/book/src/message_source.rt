@@ -1,10 +1,10 @@
-//! The trait of sources of messages: a campaign's numbers, its rule, and what each lieutenant received.
+//! The trait of message tables: a campaign's numbers, its rule, and what each lieutenant received.
 
 use combine::Rule;
 use label::Label;
 use tree::Tree;
 
-/// A campaign's numbers and rule, and what each of its lieutenants received.
+/// A message table: a campaign's numbers, the rule by which orders are combined, and what each lieutenant received.
 pub trait Heard {
     ghost use Rattle.std.specs.Prelude.{◌≡◌, ◌≢◌, ◌<◌, true};
     ghost use Rattle.book.specs.Grammar.{is_place};
@@ -14,7 +14,7 @@ pub trait Heard {
     // The table that contains the same messages.
     ghost seen: { Self → MessageTable };
 
-    /// Returns how many generals there are, 2 to 13.
+    /// Returns the number of generals, 2 to 13.
     fn generals(&self) -> u8
         ensures value { result ≡ (seen self.now).generals }
         ensures within { AreNumbersWithin (seen self.now).generals (seen self.now).bound (seen self.now).commander };
@@ -33,12 +33,13 @@ pub trait Heard {
     fn rule(&self) -> Rule
         ensures { result ≡ (seen self.now).rule };
 
-    /// Returns the order that the receiver received for the label, if any. The receiver must not be on the label.
+    /// Returns the order that `receiver` received for the label, or `None` if he received none. He must not be on the
+    /// label.
     fn told(&self, label: &Label, receiver: u8) -> Option<u32>
         requires { is_place (seen self.now) label.now receiver ≡ true }
         ensures { result ≡ told (seen self.now).messages label.now receiver };
 
-    /// Returns a reference to the tree of a lieutenant, filled from the messages.
+    /// Returns a reference to the tree of a lieutenant, which contains the orders that he received.
     fn tree(&self, general: u8) -> &Tree
         requires general { general < (seen self.now).generals }
         requires lieutenant { general ≢ (seen self.now).commander }

@@ -1,4 +1,4 @@
-//! Splits the lines of a message table into their parts.
+//! Splits the lines of a message table into words and numbers.
 ghost use Rattle.std.specs.Prelude.{◌≡◌, ◌≤◌, ◌<◌, ◌^◌, IfSome, option_map, is_some};
 ghost use Rattle.text.specs.Stop.{space, dot};
 ghost use Rattle.text.specs.Parts.{pieces, left};
@@ -10,10 +10,11 @@ use text::{Stop, decimal, piece};
 
 const SPACE: Stop = Stop::Byte(b' ');
 
-/// The stop between the generals of a label.
+/// The character between the generals of a label.
 pub const DOT: Stop = Stop::Byte(b'.');
 
-/// Returns the three numbers of the first line and its rule, or `None` if the line has another shape.
+/// Reads a first line such as `generals 4 bound 1 commander 0`, which may end in ` rule NAME`. Returns its three
+/// numbers and the rule, or `None` if the line does not have this form.
 #[tactic(auto, unfolding(crate::specs::Grammar::head_of))]
 pub fn head(line: &[u8]) -> Option<(u128, u128, u128, Rule)>
     ensures value { result ≡ head_of line.now }
@@ -26,7 +27,8 @@ pub fn head(line: &[u8]) -> Option<(u128, u128, u128, Rule)>
     Some((generals, bound, commander, rule))
 }
 
-/// Returns the parts of `generals N bound M commander C` that are numbers, and the rule of an optional ` rule NAME`.
+/// Splits a first line such as `generals 4 bound 1 commander 0`, which may end in ` rule NAME`. Returns the texts of
+/// the three numbers and the rule, or `None` if the line does not have this form.
 fn cut_head(line: &[u8]) -> Option<(&[u8], &[u8], &[u8], Rule)>
     ensures { option_map (λ p. (p.0.now, p.1.now, p.2.now, p.3)) result ≡ head_parts (pieces space line.now) }
 {
@@ -56,7 +58,8 @@ fn cut_head(line: &[u8]) -> Option<(&[u8], &[u8], &[u8], Rule)>
     }
 }
 
-/// Returns the rule of ` rule NAME`, or the default rule if nothing is left of the line.
+/// Reads `rule NAME`, the end of a first line, and returns the rule. Returns the default rule if `rest` is `None`, and
+/// `None` if the text does not have this form or no rule has this name.
 #[tactic(auto, using(crate::proofs::PartLemmas::rule_too_long))]
 fn rule(rest: Option<&[u8]>) -> Option<Rule>
     ensures { result ≡ rule_parts (left space rest.entry) }
@@ -77,7 +80,8 @@ fn rule(rest: Option<&[u8]>) -> Option<Rule>
     }
 }
 
-/// Returns the label, the receiver and the order of a line `tell LABEL RECEIVER V` as text.
+/// Splits a line such as `tell 0.2 3 1`. Returns the texts of its label, receiver and order, or `None` if the line does
+/// not have this form.
 #[tactic(auto, using(crate::proofs::PartLemmas::tell_too_long))]
 fn cut_tell(line: &[u8]) -> Option<(&[u8], &[u8], &[u8])>
     ensures { option_map (λ p. (p.0.now, p.1.now, p.2.now)) result ≡ tell_parts (pieces space line.now) }
@@ -101,7 +105,7 @@ fn cut_tell(line: &[u8]) -> Option<(&[u8], &[u8], &[u8])>
     }
 }
 
-/// Checks whether the rest of a label consists of decimal numbers joined by dots. Without a rest it returns true.
+/// Checks whether the text consists of decimal numbers joined by dots. Returns true if `rest` is `None`.
 pub fn are_numbers(rest: Option<&[u8]>) -> bool
     ensures { result ≡ is_some (numbers_of (left dot rest.entry)) }
 {
@@ -116,7 +120,7 @@ pub fn are_numbers(rest: Option<&[u8]>) -> bool
     true
 }
 
-/// Returns an order of 32 bits, or `None` if the part is not a decimal number below 2^32.
+/// Returns the order in a text, or `None` if the text is not a decimal number below 2^32.
 #[tactic(auto, unfolding(crate::specs::Grammar::order_in))]
 fn order(part: &[u8]) -> Option<u32>
     ensures { result ≡ order_in part.now }
@@ -129,7 +133,8 @@ fn order(part: &[u8]) -> Option<u32>
     }
 }
 
-/// Returns the label of a line as text, its receiver and its order, or `None` if the line has another shape.
+/// Reads a line such as `tell 0.2 3 1`. Returns the text of its label, its receiver and its order, or `None` if the
+/// line does not have this form.
 #[tactic(auto, unfolding(crate::specs::Reading::shape_of))]
 pub fn shape(line: &[u8]) -> Option<(&[u8], u128, u32)>
     ensures { option_map (λ s. (s.0.now, s.1, s.2)) result ≡ shape_of line.now }

@@ -1,4 +1,4 @@
-//! Computes a lieutenant's decision by the recursion of OM(m) over the messages of a table, without his tree.
+//! Computes a lieutenant's decision from the list of messages, by the recursion of OM(m), without his tree.
 ghost use Rattle.std.specs.Prelude.{◌≡◌, ◌≢◌, ◌<◌, ◌+◌, true, length};
 ghost use Rattle.combine.specs.Rule.{combined_by};
 ghost use Rattle.label.specs.Oral.{om, taken};
@@ -12,8 +12,8 @@ use arrayvec::ArrayVec;
 use combine::Combine;
 use label::Label;
 
-/// Returns what a lieutenant decides by the table's rule, by the recursion of OM(m) over the messages of the table
-/// (TOPLAS 1982). Each order is searched for in the list of messages, which is slow.
+/// Returns the decision of a lieutenant. It is computed from the messages of the table by the recursion of OM(m)
+/// (TOPLAS 1982), with the table's rule. Each order is searched for in the list of messages, which is slow.
 ///
 /// `decision` computes the same from the lieutenant's tree.
 #[tactic(auto, unfolding(crate::specs::Decisions::decision_of))]
@@ -26,8 +26,8 @@ pub fn plain_decision(table: &Table, general: u8) -> u32
     decide(table, general, &label, table.bound())
 }
 
-/// Returns whether `decision` and `plain_decision` return the same for a lieutenant. The contract says that they do, for
-/// every table.
+/// Returns whether `decision` and `plain_decision` return the same order for a lieutenant. The contract says that they
+/// do in every table.
 pub fn decides_plainly(table: &Table, general: u8) -> bool
     requires general { general < table.now.generals }
     requires lieutenant { general ≢ table.now.commander }
@@ -36,11 +36,12 @@ pub fn decides_plainly(table: &Table, general: u8) -> bool
     decision(table, general) == plain_decision(table, general)
 }
 
-/// Returns what the lieutenant decides about the label, with `relays` relays left.
+/// Returns what lieutenant `general` decides about a label. `relays` is the number of generals by which the label can
+/// still grow.
 ///
-/// With no relays left it is the order that he took for the label. Otherwise he combines a list with an order for each
-/// general who is off the label: for himself the order that he took, and for another general what he decides about the
-/// label extended by that general.
+/// If `relays` is 0, it is the order that he took for the label. Otherwise he combines a list of orders, one for each
+/// general who is not on the label: for himself the order that he took, and for another general what he decides about
+/// the label extended by that general.
 #[tactic(auto, unfolding(label::specs::Oral::om))]
 fn decide(table: &Table, general: u8, label: &Label, relays: u8) -> u32
     requires room { length label.now + relays < 13 }
@@ -65,8 +66,7 @@ fn decide(table: &Table, general: u8, label: &Label, relays: u8) -> u32
     table.rule().combine(orders.as_slice())
 }
 
-/// Returns the order that the receiver took for the label: that of the first message about them, or RETREAT if there is
-/// none.
+/// Returns the order that `receiver` took for the label: the one that he received, or RETREAT, 0, if he received none.
 fn taken(messages: &[Message], label: &Label, receiver: u8) -> u32
     ensures { result ≡ taken (told messages.now) label.now receiver }
 {

@@ -1,4 +1,4 @@
-//! Reads a message table from a text, line by line.
+//! Reads a message table from a text.
 ghost use Rattle.std.specs.Prelude.{◌≡◌, ◌≢◌, ◌≤◌, ◌++◌, ◌∷◌, [], IfOk, IfErr, Ok, Err};
 ghost use Rattle.book.specs.declared.fault.TableError.TheVariants.{Memory};
 ghost use Rattle.book.specs.Grammar.{opened, head_of, checked, at_line, message_of, is_within, table_told};
@@ -11,12 +11,11 @@ use crate::table::Table;
 use std::alloc::Global;
 use text::line;
 
-/// Returns the message table that a text contains.
+/// Reads a message table from a text.
 ///
 /// # Errors
 ///
-/// Fails with the first fault in the order of the lines, with the number of its line. Fails with `Memory` if there is
-/// no memory for the table.
+/// The first fault in the order of the lines, with the number of its line, or `Memory` if out of memory.
 #[tactic(auto, unfolding(crate::specs::Grammar::table_told))]
 pub fn read_table(alloc: Global, text: &str) -> Result<Table, TableError>
     ensures told { IfOk result (λ t. table_told text.now ≡ Ok t) }
@@ -37,12 +36,12 @@ pub fn read_table(alloc: Global, text: &str) -> Result<Table, TableError>
     Ok(table)
 }
 
-/// Returns the table of a first line, without messages.
+/// Returns the table, without messages, that begins with this first line.
 ///
 /// # Errors
 ///
-/// Fails with `Line` at line 1 if the line has another shape, with `Range` at line 1 if its numbers are out of their
-/// limits, and with `Memory` if there is no memory for the table.
+/// At line 1, `Line` if the line does not have the required form, and `Range` if its numbers are out of their limits.
+/// `Memory` if out of memory.
 fn read_head(alloc: Global, line: &[u8]) -> Result<Table, TableError>
     ensures told { IfOk result (λ t. opened (head_of line.now) ≡ Ok t) }
     ensures fault { IfErr result (λ e. e ≢ Memory → opened (head_of line.now) ≡ Err e) }
@@ -57,18 +56,19 @@ fn read_head(alloc: Global, line: &[u8]) -> Result<Table, TableError>
     }
 }
 
-/// Checks whether a campaign's numbers are within their limits.
+/// Checks whether the numbers of a campaign are within their limits: at most 13 generals, a bound of at most 4 that
+/// leaves two other generals, and a commander who exists.
 pub(crate) fn is_within(generals: u128, bound: u128, commander: u128) -> bool
     ensures { result ≡ is_within generals bound commander }
 {
     generals <= 13 && bound <= 4 && bound + 2 <= generals && commander < generals
 }
 
-/// Returns the message of a further line.
+/// Returns the message of a line after the first.
 ///
 /// # Errors
 ///
-/// Fails with the first fault of the line, at the line's number.
+/// The first fault of the line, with `number`, the number of the line.
 fn message_at(table: &Table, number: u64, line: &[u8]) -> Result<Message, TableError>
     ensures { result ≡ at_line number (checked table.now (message_of line.now)) }
 {
@@ -78,11 +78,12 @@ fn message_at(table: &Table, number: u64, line: &[u8]) -> Result<Message, TableE
     }
 }
 
-/// Returns the message of a further line.
+/// Returns the message of a line after the first.
 ///
 /// # Errors
 ///
-/// Fails with the first fault of the line.
+/// `Line` if the line does not have the required form, `Place` if there is no such label or receiver, and `Twice` if an
+/// earlier line has both.
 fn read_message(table: &Table, line: &[u8]) -> Result<Message, TableFault>
     ensures { result ≡ checked table.now (message_of line.now) }
 {

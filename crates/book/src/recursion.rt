@@ -1,4 +1,4 @@
-//! Computes the decisions of a message table's lieutenants.
+//! Computes the decisions of a message table's lieutenants from their trees.
 ghost use Rattle.std.specs.Prelude.{◌≡◌, ◌≢◌, ◌<◌};
 ghost use Rattle.book.specs.Decisions.{decision_of, decisions_of, TableAgrees};
 
@@ -8,8 +8,7 @@ use crate::theorem::agreement;
 use arrayvec::ArrayVec;
 use resolve::resolve;
 
-/// Returns what a lieutenant decides by the table's rule: the decision of OM(m) from the messages of the table (TOPLAS
-/// 1982).
+/// Returns the decision of a lieutenant by OM(m), with the table's rule (TOPLAS 1982).
 #[tactic(auto, unfolding(crate::specs::Decisions::decision_of))]
 pub fn decision<H: Heard>(table: &H, general: u8) -> u32
     requires general { general < (H.seen table.now).generals }
@@ -19,8 +18,9 @@ pub fn decision<H: Heard>(table: &H, general: u8) -> u32
     resolve(table.tree(general), &table.rule())
 }
 
-/// Returns what the lieutenants decide, in ascending order of the lieutenants. The loyal lieutenants decide alike if
-/// the bound holds and all loyal generals relay faithfully what they received.
+/// Returns the decisions of the lieutenants, in ascending order of the lieutenants. The contract includes the agreement
+/// theorem: the loyal lieutenants decide alike if the bound holds and each loyal general sends on the order that he
+/// took.
 pub fn decisions(table: &Table) -> ArrayVec<u32, 12>
     ensures values { result.items ≡ decisions_of table.now }
     ensures agree { TableAgrees table.now result.items }

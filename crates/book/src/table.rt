@@ -14,10 +14,10 @@ use std::alloc::{AllocError, Global};
 use std::marker::Model;
 use tree::Tree;
 
-/// A message table: a campaign's numbers, its rule of combination, and its messages.
+/// A message table: the numbers of a campaign, the rule by which orders are combined, and the messages.
 ///
-/// In addition to the messages it has a tree for each lieutenant, filled from them. The order that a lieutenant
-/// received for a label is looked up there by the label's rank.
+/// It also has a tree for each lieutenant, filled from the messages, in which the order that he received for a label is
+/// found by the label's rank.
 #[derive(Drop)]
 pub struct Table {
     generals: u8,
@@ -46,7 +46,7 @@ impl Model for Table {
     ghost invariant = { λ t. AreTableTrees t.generals t.bound t.commander t.messages.items t.trees.items };
 }
 
-/// Returns the position of a lieutenant in the ascending list of the lieutenants.
+/// Returns the index of a lieutenant in the ascending list of lieutenants, which does not contain the commander.
 fn place(commander: u8, general: u8) -> usize
     requires { general ≢ commander }
     ensures { result ≡ length (others general (commander ∷ [])) }
@@ -59,7 +59,8 @@ fn place(commander: u8, general: u8) -> usize
 }
 
 impl Table {
-    /// Returns the table of a campaign, without messages.
+    /// Returns the table of a campaign with these numbers and this rule, without messages. Fails with `AllocError` if
+    /// out of memory.
     pub(crate) fn open(
         alloc: Global,
         generals: u8,
@@ -92,7 +93,8 @@ impl Table {
         })
     }
 
-    /// Returns the table with one message appended. The table must not yet have a message with this label and receiver.
+    /// Returns the table with `message` appended. The table must not have a message with the same label and receiver
+    /// yet. Fails with `AllocError` if out of memory.
     pub(crate) fn with(mut self, message: Message) -> Result<Table, AllocError>
         requires place { is_place self message.label message.receiver ≡ true }
         requires fresh { list_any (is_about message.label message.receiver) self.messages ≡ false }
@@ -104,7 +106,7 @@ impl Table {
         Ok(self)
     }
 
-    /// Returns a reference to the tree of a lieutenant, filled from the messages.
+    /// Returns a reference to the tree of a lieutenant, which contains the orders that he received.
     pub(crate) fn tree(&self, general: u8) -> &Tree
         requires general { general < self.now.generals }
         requires lieutenant { general ≢ self.now.commander }
@@ -114,7 +116,8 @@ impl Table {
         &self.trees[place(self.commander, general)]
     }
 
-    /// Returns the order that the receiver received for the label, if any. The receiver must not be on the label.
+    /// Returns the order that `receiver` received for the label, or `None` if he received none. He must not be on the
+    /// label.
     pub fn told(&self, label: &Label, receiver: u8) -> Option<u32>
         requires { is_place self.now label.now receiver ≡ true }
         ensures { result ≡ told self.now.messages label.now receiver }
@@ -122,7 +125,7 @@ impl Table {
         self.tree(receiver).value(label)
     }
 
-    /// Returns how many generals there are, 2 to 13.
+    /// Returns the number of generals, 2 to 13.
     pub fn generals(&self) -> u8
         ensures value { result ≡ self.now.generals }
         ensures within { AreNumbersWithin self.now.generals self.now.bound self.now.commander }
@@ -153,7 +156,7 @@ impl Table {
         self.rule
     }
 
-    /// Returns the messages in the order of the text.
+    /// Returns the messages in the order of the text's lines.
     pub fn messages(&self) -> &[Message]
         ensures { result.now ≡ self.now.messages }
     {

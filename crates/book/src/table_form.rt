@@ -1,4 +1,4 @@
-//! Makes the message table to fill in from a campaign's numbers, given as text.
+//! Makes a message table to fill in, for a campaign whose numbers are given as text.
 ghost use Rattle.std.specs.Prelude.{◌≡◌, ◌≢◌, IfOk, IfErr, Err, min, string_bytes};
 ghost use Rattle.book.specs.Grammar.{opened};
 ghost use Rattle.book.specs.declared.fault.TableError.TheVariants.{Memory};
@@ -10,11 +10,12 @@ use crate::fault::{TableError, TableFault};
 use std::alloc::Global;
 use text::decimal;
 
-/// Returns the message table to fill in, of a campaign with these numbers.
+/// Returns the message table of a campaign with a question mark in place of each order, to fill in. The campaign's
+/// numbers are given as text.
 ///
 /// # Errors
 ///
-/// Fails with the fault of a first line with these numbers, or with `Memory` if it runs out of memory.
+/// The fault that a first line with these numbers has, or `Memory` if out of memory.
 #[tactic(auto, unfolding(crate::specs::Numbers::numbers_in))]
 pub fn formed(
     alloc: Global,
@@ -43,7 +44,7 @@ pub fn formed(
     )?)
 }
 
-/// Returns the number, or 2^64 - 1 if it has more than 64 bits. Numbers this large are out of every limit.
+/// Returns the number, or 2^64 - 1 if it is greater. A number this large is out of every limit.
 fn narrowed(number: u128) -> u64
     ensures { result ≡ min number 18446744073709551615 }
 {

@@ -1,4 +1,4 @@
-//! A message table that reads its messages from lieutenants' trees and keeps no list of them.
+//! A message table that reads its messages from lieutenants' trees, without a list of them.
 ghost use Rattle.std.specs.Prelude.{◌≡◌, ◌≢◌, ◌∷◌, [], Ok, length, map};
 ghost use Rattle.label.specs.Labels.{others};
 ghost use Rattle.label.specs.Lieutenants.{lieutenants};
@@ -16,8 +16,8 @@ use label::Label;
 use std::marker::Model;
 use tree::Tree;
 
-/// A message table made from lieutenants' trees. It has the messages of their labels, in the order in which the table
-/// would be written.
+/// A message table made from lieutenants' trees. Contracts see it as a table with a list of messages, in the order in
+/// which the table would be written.
 #[derive(Drop)]
 pub struct TreeTable<'a> {
     generals: u8,
@@ -41,7 +41,7 @@ impl<'a> Model for TreeTable<'a> {
         (collected (heard t.trees.now) t.generals t.bound t.commander t.rule).messages t.trees.now };
 }
 
-/// Returns the position of a lieutenant in the ascending list of the lieutenants.
+/// Returns the index of a lieutenant in the ascending list of lieutenants, which does not contain the commander.
 fn place(commander: u8, general: u8) -> usize
     requires { general ≢ commander }
     ensures { result ≡ length (others general (commander ∷ [])) }
@@ -54,9 +54,9 @@ fn place(commander: u8, general: u8) -> usize
 }
 
 impl<'a> TreeTable<'a> {
-    /// Returns the message table with the messages that `trees` contain. `trees` has one tree for each lieutenant, in
-    /// ascending order, and all of them are filled from the same messages. The result is the table that `read_table`
-    /// returns for this table's text.
+    /// Returns the message table that `trees` contain. `trees` has one tree for each lieutenant, in ascending order,
+    /// and all are filled from the same messages. The result is what `read_table` returns if the table is first written
+    /// as text.
     pub fn of(
         trees: &'a [Tree],
         generals: u8,

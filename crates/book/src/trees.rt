@@ -1,4 +1,4 @@
-//! Writes lieutenants' trees as a message table.
+//! Writes what lieutenants received, which their trees contain, as a message table.
 ghost use Rattle.std.specs.Prelude.{◌≡◌, IfOk, Ok, Some, string_bytes};
 ghost use Rattle.book.specs.Grammar.{table_told};
 ghost use Rattle.book.specs.Table.{AreNumbersWithin, MessageTable};
@@ -14,12 +14,12 @@ use label::Label;
 use std::alloc::{AllocError, Global};
 use tree::Tree;
 
-/// Returns the message table of a campaign with these numbers and this rule, with the messages that the lieutenants'
-/// trees contain. It is read back as a table with the same numbers, messages and decisions.
+/// Returns the message table, as text, of a campaign with these numbers, this rule, and the messages that the
+/// lieutenants' trees contain. It is read back as a table with the same numbers, messages and decisions.
 ///
 /// # Errors
 ///
-/// Fails with `AllocError` if there is no memory for the text.
+/// `AllocError` if out of memory.
 pub fn table_of(
     alloc: Global,
     trees: &[Tree],
@@ -45,8 +45,8 @@ pub fn table_of(
     )
 }
 
-/// The marks of a message table that is made from lieutenants' trees: at each place the order that the receiver's tree
-/// contains.
+/// The marks of a message table that is made from lieutenants' trees: for each label, the order that the receiver's
+/// tree contains.
 #[derive(Clone, Copy)]
 struct TreeMarks<'a> {
     trees: &'a [Tree],
@@ -66,7 +66,8 @@ impl<'a> Marks for TreeMarks<'a> {
     }
 }
 
-/// Returns the order that the receiver's tree contains for the label, or `None` if he has no tree.
+/// Returns the order that the receiver's tree contains for the label. Returns `None` if it contains none, or the
+/// receiver has no tree.
 #[tactic(auto, unfolding(crate::specs::Hearing::heard))]
 fn heard(trees: &[Tree], label: &Label, receiver: u8) -> Option<u32>
     ensures { result ≡ heard trees.now label.now receiver }
@@ -79,7 +80,7 @@ fn heard(trees: &[Tree], label: &Label, receiver: u8) -> Option<u32>
     None
 }
 
-/// Returns the order that a tree contains for a label.
+/// Returns the order that a tree contains for a label, or `None` if it contains none.
 fn value(tree: &Tree, label: &Label) -> Option<u32>
     ensures { result ≡ value_of (Some tree.now) label.now }
 {

@@ -1,4 +1,4 @@
-//! Writes a message table as text, line by line, from a source of marks.
+//! Writes a message table as text, line by line.
 ghost use Rattle.std.specs.Prelude.{◌≡◌, ◌≤◌, ◌+◌, ◌++◌, ◌∷◌, [], length, IfOk, OnOk, string_bytes};
 ghost use Rattle.book.specs.Explained.{dotted};
 ghost use Rattle.book.specs.Table.{AreNumbersWithin};
@@ -9,12 +9,12 @@ use combine::Rule;
 use label::Label;
 use std::alloc::{AllocError, Global};
 
-/// Returns the table of a campaign with these numbers and this rule: its first line, and a line for each place that has
-/// a mark, the shorter labels first.
+/// Returns the message table, as text, of a campaign with these numbers and this rule. It has a first line, and then a
+/// line for each label and receiver for which `marks` has an order or a question mark, the shorter labels first.
 ///
 /// # Errors
 ///
-/// Fails with `AllocError` if there is no memory for the text.
+/// `AllocError` if out of memory.
 pub(crate) fn write<M: Marks>(
     alloc: Global,
     marks: &M,
@@ -43,14 +43,14 @@ pub(crate) fn write<M: Marks>(
     Ok(text)
 }
 
-/// Returns the text of the label of one general.
+/// Returns the text of the label that consists of one general, such as `0`.
 fn alone(alloc: Global, general: u8) -> Result<String, AllocError>
     ensures { IfOk result (λ name. string_bytes name ≡ dotted (general ∷ [])) }
 {
     format!(in alloc; "{general}")
 }
 
-/// Returns the text of a label extended by one general. `name` is the text of the label.
+/// Returns the text of `label` extended by `general`, such as `0.2.3`. `name` is the text of `label`.
 fn prolonged(alloc: Global, label: &Label, name: &str, general: u8) -> Result<String, AllocError>
     requires { name.now ≡ dotted label.now }
     ensures { IfOk result (λ name. string_bytes name ≡ dotted (label.now ++ general ∷ [])) }
@@ -59,7 +59,8 @@ fn prolonged(alloc: Global, label: &Label, name: &str, general: u8) -> Result<St
     format!(in alloc; "{name}.{general}")
 }
 
-/// Returns the first line: the campaign's numbers and its rule. The default rule is left out.
+/// Returns the first line, such as `generals 4 bound 1 commander 0`. The rule is written only if it is not the default
+/// one.
 fn first_line(
     alloc: Global,
     generals: u8,
@@ -74,7 +75,8 @@ fn first_line(
     format!(in alloc; "generals {generals} bound {bound} commander {commander}{rule}\n")
 }
 
-/// Returns the words of the rule after the numbers of the first line, or an empty text for the default rule.
+/// Returns the words of the rule at the end of the first line, such as ` rule NAME`, or an empty text for the default
+/// rule.
 fn rule_words(alloc: Global, rule: Rule) -> Result<String, AllocError>
     ensures { IfOk result (λ words. string_bytes words ≡ rule_words rule) }
 {
@@ -85,8 +87,8 @@ fn rule_words(alloc: Global, rule: Rule) -> Result<String, AllocError>
     format!(in alloc; " rule {name}")
 }
 
-/// Appends the lines of the labels that have `more` generals more than this one and begin with it. `name` is the text
-/// of this label.
+/// Appends a line for each receiver of each label that begins with `label` and has `more` further generals. `name` is
+/// the text of `label`.
 fn push_labels<M: Marks>(
     alloc: Global,
     text: &mut String,
@@ -123,7 +125,7 @@ fn push_labels<M: Marks>(
     Ok(())
 }
 
-/// Appends the lines of a label, one for each general who is not on the label. `name` is the text of the label.
+/// Appends a line for each receiver of a label: each general who is not on it. `name` is the text of the label.
 fn push_receivers<M: Marks>(
     alloc: Global,
     text: &mut String,
@@ -144,7 +146,8 @@ fn push_receivers<M: Marks>(
     Ok(())
 }
 
-/// Appends the line of a label and a receiver, unless nothing was received there.
+/// Appends the line of a label and a receiver, such as `tell 0.2 3 1`. Appends nothing if the receiver received no
+/// order.
 fn push_line(
     alloc: Global,
     text: &mut String,

@@ -1,4 +1,4 @@
--- What the bytes of a well-formed instruction begin with: its units, and so no other instruction.
+-- The bytes of a well-formed instruction begin with its units, so no other instruction begins there.
 use Rattle.std.proofs.Common.{◌≡◌, ◌≤◌, ◌<◌, ◌+◌, ◌*◌, ◌/◌, ◌%◌, ◌^◌, ℕ, ℤ, List, [], ◌∷◌, ◌++◌, length, take, drop, get_or, refl, sym, ap, subst, ◌∙◌, arith}
 use Rattle.std.proofs.lemmas.List.{append_cancel_left, get_or-drop}
 use Rattle.std.proofs.Math.Facts.{Fits-of_z, Fits-lt-pow}
@@ -23,7 +23,7 @@ use Rattle.codec.specs.Reading.{fields_of, AreUnits}
 use Rattle.codec.proofs.Reading.{same_insn}
 use Rattle.codec.proofs.UnitLemmas.{IsUnit, fields_back, bytes_back}
 
--- as many units as the instruction takes
+-- An instruction has as many units as `units_of` says.
 pub length-spelling : (insn : Insn) → length (spelling insn) ≡ units_of insn
 length-spelling (i.Arithmetic w o dst (Immediate n)) = refl
 length-spelling (i.Arithmetic w o dst (Register src)) = refl
@@ -42,7 +42,7 @@ length-spelling (i.Store size base offset (Register src)) = refl
 length-spelling (i.Call helper) = refl
 length-spelling i.Exit = refl
 
--- an instruction of one unit, or the wide one
+-- An instruction has one unit, or two if it is the wide one.
 pub units_few : (insn : Insn) → (1 ≤ units_of insn) × (units_of insn ≤ 2)
 units_few (i.Arithmetic w o dst operand) = (omega arith, omega arith)
 units_few (i.Negate w dst) = (omega arith, omega arith)
@@ -93,7 +93,7 @@ word z fits = Fits-lt-pow {w = w32} (Fits-of_z {w = w32} fits)
 unit : (f : Fields) → f.dst ≤ 10 → f.src ≤ 10 → f.offset < 2 ^ 16 → f.imm < 2 ^ 32 → IsUnit f
 unit f d s o m = record { dst = omega arith; src = omega arith; offset = o; imm = m }
 
--- the fields of a well-formed instruction fit their bits
+-- The fields of a well-formed instruction fit in their bits.
 pub spelling_fits : (insn : Insn) → IsInsn insn → AllByRecursion IsUnit (spelling insn)
 spelling_fits (i.Arithmetic w o dst (Immediate n)) p = (unit _ p.0 (omega arith) (small_offset o) (word n p.1), tt)
 spelling_fits (i.Arithmetic w o dst (Register src)) p = (unit _ p.0 p.1 (small_offset o) (omega arith), tt)
@@ -115,7 +115,7 @@ spelling_fits (i.Store size base offset (Register src)) p = (unit _ p.0 p.2 (hal
 spelling_fits (i.Call helper) p = (unit _ (omega arith) (omega arith) (omega arith) (word helper p), tt)
 spelling_fits i.Exit p = (unit _ (omega arith) (omega arith) (omega arith) (omega arith), tt)
 
--- one or two units are read back from the front of bytes
+-- One or two units are read back from the beginning of bytes.
 front : (fs : List Fields) (rest : List ℕ) → 1 ≤ length fs → length fs ≤ 2 → AllByRecursion IsUnit fs →
     AreUnits fs (fields_of (flat_map unit_bytes fs ++ rest)) (drop 8 (flat_map unit_bytes fs ++ rest))
 front [] rest some few fits = absurd (omega arith)
@@ -129,7 +129,7 @@ insn_front insn rest p =
     let few = units_few insn in
     front (spelling insn) rest (omega arith) (omega arith) (spelling_fits insn p)
 
--- two units from the front, whatever they are
+-- The first two units of bytes, whatever they are.
 abbrev two : List ℕ → List Fields
 two bytes = fields_of bytes ∷ fields_of (drop 8 bytes) ∷ []
 
@@ -139,14 +139,14 @@ two_front (f ∷ []) bytes units = (fields_of (drop 8 bytes) ∷ [], rw units re
 two_front (f ∷ g ∷ []) bytes units = ([], rw (units.0, units.2) refl)
 two_front (f ∷ g ∷ h ∷ fs) bytes units = absurd units
 
--- what begins with the bytes of two instructions, begins with one
+-- If bytes begin with the bytes of two instructions, the two are the same.
 pub same_front : (a b : Insn) (xs ys : List ℕ) → IsInsn a → IsInsn b → instruction_bytes a ++ xs ≡ instruction_bytes b ++ ys → a ≡ b
 same_front a b xs ys p q e =
     let left = two_front (spelling a) (instruction_bytes a ++ xs) (insn_front a xs p) in
     let right = two_front (spelling b) (instruction_bytes b ++ ys) (insn_front b ys q) in
     same_insn a b left.0 right.0 p q (sym left.1 ∙ ap two e ∙ right.1)
 
--- and what stands behind them is the same
+-- The bytes after them are the same too.
 pub same_behind : (a b : Insn) (xs ys : List ℕ) → a ≡ b → instruction_bytes a ++ xs ≡ instruction_bytes b ++ ys → xs ≡ ys
 same_behind a b xs ys same e = append_cancel_left (instruction_bytes a) xs ys (e ∙ ap (λ (i : Insn). instruction_bytes i ++ ys) (sym same))
 
@@ -157,7 +157,7 @@ length-units (f ∷ fs) = omega (arith, length-units fs)
 pub length-instruction_bytes : (insn : Insn) → length (instruction_bytes insn) ≡ 8 * units_of insn
 length-instruction_bytes insn = length-units (spelling insn) ∙ ap (λ (n : ℕ). 8 * n) (length-spelling insn)
 
--- bytes that read as units are written by them
+-- Bytes that are read as units are written by these units.
 written : (fs : List Fields) (bytes : List ℕ) → 8 ≤ length bytes → ((k : ℕ) → get_or bytes k 0 < 256) → AreUnits fs (fields_of bytes) (drop 8 bytes) → take (8 * length fs) bytes ≡ flat_map unit_bytes fs
 written [] bytes long small units = absurd units
 written (f ∷ []) bytes long small units = sym (bytes_back bytes long small) ∙ ap unit_bytes (sym units)

@@ -1,4 +1,4 @@
--- What an opcode stands for follows from what instructions are spelled with.
+-- What an opcode means follows from the encodings of instructions.
 use Rattle.std.proofs.Common.{◌≡◌, ◌≢◌, ◌≤◌, ◌<◌, ◌+◌, ◌*◌, ◌/◌, ◌%◌, ℕ, pos, List, [], ◌∷◌, ◌++◌, Bool, true, false, refl, sym, ap, subst, ◌∙◌, arith, inl, inr}
 use Rattle.std.proofs.Common.{drop, length}
 use Rattle.std.specs.Prelude.{Option, Some, None, ◌==◌, ◌||◌, if◌then◌else◌, nat_lt, FitsSigned}
@@ -47,7 +47,7 @@ jump_opcode w q = grind (arith, nat_tests)
 jump_register_opcode : (w : Width) (q : ℕ) → IsOpcode (jump_register_form w q) (16 * q + (8 + jump_class w))
 jump_register_opcode w q = grind (arith, nat_tests)
 
--- where the low four bits are these, the high four are the code
+-- If the low four bits are these, the rest of the opcode is 16 times the high four.
 at_class : (n k : ℕ) → n % 16 == k ≡ true → 16 * (n / 16) + k ≡ n
 at_class n k e = let low : n % 16 ≡ k = grind (arith, nat_tests) in omega arith
 
@@ -116,7 +116,7 @@ used forms.Exit n is known = (i.Exit, tt, sym is)
 used forms.LeftOut n is known = absurd known
 used forms.Unknown n is known = absurd known
 
--- the form of an opcode with which an instruction is spelled is known
+-- The opcode of an encoded instruction is known.
 opcode_is : (fs : List Fields) (f : Fields) (behind : List ℕ) → AreUnits fs f behind → opcode_in fs ≡ f.opcode
 opcode_is [] f behind are = absurd are
 opcode_is (a ∷ []) f behind are = ap (λ (g : Fields). g.opcode) are
@@ -154,7 +154,7 @@ known_of n u =
     let same : f.opcode ≡ n = sym (opcode_is (spelling u.0) f (drop 8 bytes) are) ∙ u.2 in
     subst (λ m. IsKnown (form_of m)) same (faultless (form_of f.opcode) f (drop 8 bytes) none)
 
--- ---- opcodes that are left out
+-- ---- opcodes that are not supported
 
 abbrev is_left_form : Form → Bool
 is_left_form forms.LeftOut = true
@@ -222,7 +222,7 @@ here_none is g fault rest more t true named same bad behind e = absurd cc
 here_none is g fault rest more true false named same none behind e = let first : fault ≡ g = cc in let absent : true ≡ false = sym named ∙ sym (ap is first) ∙ same in absurd cc
 here_none is g fault rest more false false named same none behind e = behind none e
 
--- a fault that absent check names is not the first
+-- A fault that no check names is not the first.
 none_of : (is : CodecFault → Bool) (g : CodecFault) (checks : List (Bool × CodecFault)) → is g ≡ true → list_any (λ (c : Bool × CodecFault). is c.1) checks ≡ false → first_fault checks ≡ Some g → ⊥
 none_of is g [] named absent e = absurd cc
 none_of is g (c ∷ checks) named absent e = here_none is g c.1 (first_fault checks) (list_any (λ (d : Bool × CodecFault). is d.1) checks) c.0 (is c.1) named refl absent (λ rest more. none_of is g checks named rest more) e
@@ -283,7 +283,7 @@ unknown_of forms.Exit h e = absurd (h tt)
 unknown_of forms.LeftOut h e = absurd cc
 unknown_of forms.Unknown h e = refl
 
--- what the two that are told by the source register refuse
+-- When the instructions that the source register makes unsupported are rejected.
 number_left : (a b c d e : Bool) → first_fault ((a, faults.Register) ∷ (b, faults.LeftOut) ∷ (c, faults.Reserved) ∷ (d, faults.WideCut) ∷ (e, faults.Reserved) ∷ []) ≡ Some faults.LeftOut → (a ≡ false) × (b ≡ true)
 number_left true b c d e h = absurd cc
 number_left false true c d e h = (refl, refl)

@@ -1,4 +1,4 @@
--- Bytes spell one program at most, and have one first fault at most, which is none where they spell a program.
+-- Bytes encode at most one program, and have at most one first fault, and none if they encode a program.
 use Rattle.std.proofs.Common.{◌≡◌, ◌<◌, ◌*◌, ◌%◌, ℕ, List, [], ◌∷◌, ◌++◌, Some, None, Result, Ok, Err, length, take, drop, refl, sym, ap, ◌∙◌, arith, inl, inr, append_assoc, length-append}
 use Rattle.std.specs.Prelude.{MatchResult, IsErrAnd}
 use Rattle.std.proofs.lemmas.List.{take-append-drop, length-drop, length-take-le}
@@ -16,7 +16,7 @@ use Rattle.codec.proofs.FrontLemmas.{insn_front, same_front, same_behind, length
 use Rattle.codec.proofs.NoFault.{no_fault}
 use Rattle.codec.proofs.ProgramLemmas.{length-program_bytes}
 
--- what begins with a well-formed instruction has no fault there
+-- Bytes that begin with a well-formed instruction have no fault there.
 none_here : (i : Insn) (rest : List ℕ) → IsInsn i → fault_at (instruction_bytes i ++ rest) ≡ None
 none_here i rest p = no_fault i (fields_of (instruction_bytes i ++ rest)) (drop 8 (instruction_bytes i ++ rest)) p (insn_front i rest p)
 
@@ -28,7 +28,7 @@ not_here i rest bytes fault p same found =
     let none : fault_at bytes ≡ None = ap fault_at same ∙ none_here i rest p in
     let bad : None ≡ Some fault = sym none ∙ found in cc
 
--- the two instructions at the front are one, and so is the rest
+-- If the first instructions are the same, so are the others.
 pub same_program : (ps qs : List Insn) → AllByRecursion IsInsn ps → AllByRecursion IsInsn qs → program_bytes ps ≡ program_bytes qs → ps ≡ qs
 same_program [] [] p q e = refl
 same_program [] (j ∷ js) p q e = absurd (omega (arith, some_bytes j (program_bytes js), ap length e))
@@ -38,7 +38,7 @@ same_program (i ∷ is) (j ∷ js) p q e =
     let tail = same_program is js p.1 q.1 (same_behind i j (program_bytes is) (program_bytes js) head e) in
     cc
 
--- no fault stands between the instructions of a program
+-- There is no fault between the instructions of a program.
 none_between : (ps before : List Insn) (rest : List ℕ) (fault : CodecFault) → AllByRecursion IsInsn ps → AllByRecursion IsInsn before → program_bytes ps ≡ program_bytes before ++ rest →
     0 < length rest → fault_at rest ≡ Some fault → ⊥
 none_between [] [] rest fault p q e some found = omega (arith, ap length e)
@@ -50,7 +50,7 @@ none_between (i ∷ is) (j ∷ js) rest fault p q e some found =
     let head = same_front i j (program_bytes is) (program_bytes js ++ rest) p.0 q.0 whole in
     none_between is js rest fault p.1 q.1 (same_behind i j (program_bytes is) (program_bytes js ++ rest) head whole) some found
 
--- the front and what stands behind it
+-- The bytes are the first part and the bytes after it.
 split : (bytes : List ℕ) (n : ℕ) (before : List Insn) → take n bytes ≡ program_bytes before → bytes ≡ program_bytes before ++ drop n bytes
 split bytes n before e = sym (take-append-drop n bytes) ∙ ap (λ (b : List ℕ). b ++ drop n bytes) e
 
@@ -62,7 +62,7 @@ no_first_fault bytes program fault unit s f =
     none_between program found.0 (drop (8 * unit) bytes) fault s.well_formed found.1.well_formed (sym s.spelled ∙ split bytes (8 * unit) found.0 found.1.spelled)
     (omega (arith, found.1.inside, length-drop (8 * unit) bytes)) found.1.found
 
--- the fault and what stands before it
+-- The fault and the instructions before it.
 record AreSame (before after : List Insn) (f g : CodecFault) : Type 0 where
   faults : f ≡ g
   places : program_bytes before ≡ program_bytes after
@@ -108,7 +108,7 @@ one_fault_in bytes f g u v a b even = elim (cases_lt 0 (length bytes)) [
       (left.0 ∙ sym right.0, left.1 ∙ sym right.1)
 ]
 
--- bytes have one first fault at most
+-- Bytes have at most one first fault.
 pub one_first_fault : (bytes : List ℕ) (f g : CodecFault) (u v : ℕ) → IsFirstFault bytes f u → IsFirstFault bytes g v → (f ≡ g) × (u ≡ v)
 one_first_fault bytes f g u v a b = elim (cases_lt 0 (length bytes % 8)) [
   | inl odd ↦
@@ -118,15 +118,15 @@ one_first_fault bytes f g u v a b = elim (cases_lt 0 (length bytes % 8)) [
   | inr even ↦ one_fault_in bytes f g u v a b (omega arith)
 ]
 
--- a program's bytes are whole units
+-- The bytes of a program are whole units.
 pub whole_units : (bytes : List ℕ) (p : List Insn) → SpellsProgram bytes p → length bytes % 8 ≡ 0
 whole_units bytes p s = omega (arith, ap length s.spelled, length-program_bytes p)
 
--- bytes spell one program at most
+-- Bytes encode at most one program.
 pub one_program : (bytes : List ℕ) (p q : List Insn) → SpellsProgram bytes p → SpellsProgram bytes q → p ≡ q
 one_program bytes p q s t = same_program p q s.well_formed t.well_formed (sym s.spelled ∙ t.spelled)
 
--- an answer where the bytes spell a program is want of memory
+-- If the bytes encode a program, the only error is out of memory.
 pub none_answered : (bytes : List ℕ) (p : List Insn) (r : Result (List Insn) CodecError) (e : CodecError) → SpellsProgram bytes p → IsAnswered bytes e → IsErrAnd r (λ f. f ≡ e) →
     MatchResult r (λ q. q ≡ p) (λ f. f ≡ errors.Memory)
 none_answered bytes p (Ok q) e s told err = absurd err

@@ -19,26 +19,26 @@ pub program_bytes-append : (xs ys : List Insn) → program_bytes (xs ++ ys) ≡ 
 program_bytes-append [] ys = refl
 program_bytes-append (x ∷ xs) ys = ap (λ (b : List ℕ). instruction_bytes x ++ b) (program_bytes-append xs ys) ∙ sym (append_assoc (instruction_bytes x) (program_bytes xs) (program_bytes ys))
 
--- eight bytes a unit
+-- A unit has eight bytes.
 pub length-program_bytes : (xs : List Insn) → length (program_bytes xs) ≡ 8 * length (slots_of xs)
 length-program_bytes [] = refl
 length-program_bytes (x ∷ xs) = omega (arith, length-append (instruction_bytes x) (program_bytes xs), length-instruction_bytes x, length-program_bytes xs, length-slots_of-cons x xs)
 
--- the instructions are those of the units so far
+-- The instructions are those of the units before `unit`.
 pub record IsReadTo (bytes : List ℕ) (is : List Insn) (unit units : ℕ) : Type 0 where
   pub counted : length (slots_of is) ≡ unit
   pub spelled : take (8 * unit) bytes ≡ program_bytes is
   pub well_formed : AllByRecursion IsInsn is
   pub inside : unit ≤ units
 
--- a range without an end
+-- A range up to the end of a list.
 pub tail_is : (bytes : List ℕ) (n : ℕ) → take (length bytes - n) (drop n bytes) ≡ drop n bytes
 tail_is bytes n = take_all _ _ (omega (arith, length-drop n bytes))
 
 pub program_bytes-push : (is : List Insn) (i : Insn) → program_bytes (is ++ i ∷ []) ≡ program_bytes is ++ instruction_bytes i
 program_bytes-push is i = program_bytes-append is (i ∷ []) ∙ ap (λ (b : List ℕ). program_bytes is ++ b) (append-nil (instruction_bytes i))
 
--- one instruction more
+-- One more instruction.
 pub read_more : (bytes : List ℕ) (is new : List Insn) (unit next units : ℕ) (i : Insn) (tail : List ℕ) → length bytes ≡ 8 * units → IsReadTo bytes is unit units → tail ≡ take (length bytes - 8 * unit) (drop (8 * unit) bytes) →
     IsInsn i → 8 * units_of i ≤ length tail → take (8 * units_of i) tail ≡ instruction_bytes i → new ≡ is ++ i ∷ [] → next ≡ unit + units_of i → IsReadTo bytes new next units
 read_more bytes is new unit next units i tail whole r tail-is fits long found new-is next-is = record {
@@ -58,13 +58,13 @@ read_more bytes is new unit next units i tail whole r tail-is fits long found ne
     here : take (8 * units_of i) (drop (8 * unit) bytes) ≡ instruction_bytes i
     here = ap (λ (b : List ℕ). take (8 * units_of i) b) (sym same) ∙ found
 
--- the first places have the instructions of the units so far, so there is a place for the next
+-- The first places have the instructions of the units so far, so there is a place for the next one.
 pub record IsFilledTo (bytes : List ℕ) (places : List Insn) (count unit units : ℕ) : Type 0 where
   pub read : IsReadTo bytes (take count places) unit units
   pub behind : count ≤ unit
   pub same : length places ≡ units
 
--- one place more
+-- One more place.
 pub fill_more : (bytes : List ℕ) (places new : List Insn) (count unit next units : ℕ) (i : Insn) (tail : List ℕ) → length bytes ≡ 8 * units → IsFilledTo bytes places count unit units → unit < units →
     tail ≡ take (length bytes - 8 * unit) (drop (8 * unit) bytes) → IsInsn i → 8 * units_of i ≤ length tail → take (8 * units_of i) tail ≡ instruction_bytes i → new ≡ set places count i → next ≡ unit + units_of i →
     IsFilledTo bytes new (count + 1) next units
@@ -76,7 +76,7 @@ fill_more bytes places new count unit next units i tail whole r more tail-is fit
       same = ap length new-is ∙ (length-set places count i ∙ r.same);
     }
 
--- no unit is left
+-- No unit remains.
 pub read_all : (bytes : List ℕ) (is : List Insn) (unit units : ℕ) → length bytes ≡ 8 * units → 0 < units → units ≤ 4096 → units ≤ unit → IsReadTo bytes is unit units → SpellsProgram bytes is
 read_all bytes is unit units whole some few done r = record {
   spelled = sym (take_all (8 * unit) bytes (omega arith)) ∙ r.spelled;
@@ -85,7 +85,7 @@ read_all bytes is unit units whole some few done r = record {
   bound = omega arith;
 }
 
--- a fault at the unit that comes next
+-- The fault is at the next unit.
 pub first_fault_here : (bytes : List ℕ) (is : List Insn) (unit units : ℕ) (tail : List ℕ) (fault : CodecFault) → length bytes ≡ 8 * units → 0 < units → units ≤ 4096 → unit < units → IsReadTo bytes is unit units →
     tail ≡ take (length bytes - 8 * unit) (drop (8 * unit) bytes) → fault_at tail ≡ Some fault → IsFirstFault bytes fault unit
 first_fault_here bytes is unit units tail fault whole some few more r tail-is e = record {
@@ -94,7 +94,7 @@ first_fault_here bytes is unit units tail fault whole some few more r tail-is e 
   by_instruction = λ h k l. (is, record { spelled = r.spelled; well_formed = r.well_formed; inside = omega arith; found = ap fault_at (sym (tail-is ∙ tail_is bytes (8 * unit))) ∙ e });
 }
 
--- the bytes of a program spell it
+-- The bytes of a program encode it.
 pub spells_program : (bytes : List ℕ) (program : List Insn) (units : ℕ) → bytes ≡ program_bytes program → units ≡ length (slots_of program) → 0 < units → units ≤ 4096 → AllByRecursion IsInsn program → SpellsProgram bytes program
 spells_program bytes program units spelled counted some few well_formed = record {
   spelled = spelled;

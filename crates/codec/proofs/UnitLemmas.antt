@@ -6,7 +6,7 @@ use Rattle.codec.specs.declared.fields.Fields.{Fields}
 use Rattle.codec.specs.Spelling.{fields, unit_bytes}
 use Rattle.codec.specs.Reading.{fields_of}
 
--- the registers fit half a byte each, the numbers their bytes
+-- The registers fit in four bits each, and the numbers in their bytes.
 pub record IsUnit (f : Fields) : Type 0 where
   pub dst : f.dst < 16
   pub src : f.src < 16
@@ -16,12 +16,12 @@ pub record IsUnit (f : Fields) : Type 0 where
 same_fields : (f : Fields) (dst src offset imm : ℕ) → dst ≡ f.dst → src ≡ f.src → offset ≡ f.offset → imm ≡ f.imm → fields f.opcode dst src offset imm ≡ f
 same_fields f dst src offset imm d s o i = rw (d, s, o, i) refl
 
--- fields are read back from their bytes
+-- Fields are read back from their bytes.
 pub fields_back : (f : Fields) (rest : List ℕ) → IsUnit f → fields_of (unit_bytes f ++ rest) ≡ f
 fields_back f rest fits =
     same_fields f _ _ _ _ (omega (arith, fits.dst)) (omega (arith, fits.dst)) (from_le_bytes-to_le_bytes_2 f.offset fits.offset) (from_le_bytes-to_le_bytes_4 f.imm fits.imm)
 
--- what stands behind them
+-- The bytes after those of a unit.
 pub behind_unit : (f : Fields) (rest : List ℕ) → drop 8 (unit_bytes f ++ rest) ≡ rest
 behind_unit f rest = refl
 
@@ -40,7 +40,7 @@ four_bytes a b c d p q r s (suc (suc zero)) = r
 four_bytes a b c d p q r s (suc (suc (suc zero))) = s
 four_bytes a b c d p q r s (suc (suc (suc (suc i)))) = omega arith
 
--- the first eight of a list
+-- The first eight items of a list.
 first_eight : (bytes : List ℕ) → 8 ≤ length bytes → take 8 bytes ≡
     slice_index bytes 0 ∷ slice_index bytes 1 ∷ slice_index bytes 2 ∷ slice_index bytes 3 ∷ slice_index bytes 4 ∷ slice_index bytes 5 ∷ slice_index bytes 6 ∷ slice_index bytes 7 ∷ []
 first_eight [] long = absurd (omega arith)
@@ -56,7 +56,7 @@ first_eight (a ∷ b ∷ c ∷ d ∷ e ∷ f ∷ g ∷ h ∷ rest) long = refl
 same_bytes : (o r s : ℕ) (offset offset' imm imm' : List ℕ) → r ≡ s → offset ≡ offset' → imm ≡ imm' → o ∷ r ∷ (offset ++ imm) ≡ o ∷ s ∷ (offset' ++ imm')
 same_bytes o r s offset offset' imm imm' p q t = rw (p, q, t) refl
 
--- eight bytes are written back from their fields
+-- Eight bytes are written back from their fields.
 pub bytes_back : (bytes : List ℕ) → 8 ≤ length bytes → ((i : ℕ) → get_or bytes i 0 < 256) → unit_bytes (fields_of bytes) ≡ take 8 bytes
 bytes_back bytes long small =
     same_bytes _ _ _ _ _ _ _ registers

@@ -6,11 +6,11 @@ use Rattle.codec.specs.declared.fault.CodecFault.{CodecFault}
 use Rattle.codec.specs.Spelling.{spelling}
 use Rattle.codec.specs.Program.{SpellsProgram, IsFirstFault}
 
--- States that two different well-formed instructions have different encodings.
+-- States that two different well-formed instructions never have the same encoding.
 abbrev pub OneInstruction : Type 0
 OneInstruction = (a b : Insn) → IsInsn a → IsInsn b → spelling a ≡ spelling b → a ≡ b
 
--- States that the bytes encode at most one program.
+-- States that bytes encode at most one program.
 abbrev pub OneProgram : Type 0
 OneProgram = (bytes : List ℕ) (p q : List Insn) → SpellsProgram bytes p → SpellsProgram bytes q → p ≡ q
 

@@ -1,5 +1,4 @@
--- The opcodes with which no instruction begins, and the instructions that are not supported (RFC 9669, sections 5.3 to
--- 5.5).
+-- The opcodes of no instruction, and the instructions that are not supported (RFC 9669, sections 5.3 to 5.5).
 use Rattle.std.specs.Prelude.{ℕ, ◌≡◌, ◌≢◌, ◌≤◌, ◌⊎◌, ◌↔◌, List, [], ◌∷◌, Some, Bool, true, false, ◌==◌}
 use Rattle.std.specs.List.{list_any}
 use Rattle.insn.specs.declared.insn.Insn.{Insn}
@@ -18,26 +17,26 @@ opcode_in (first ∷ rest) = first.opcode
 abbrev pub IsUsed : ℕ → Type 0
 IsUsed n = (insn : Insn) × IsInsn insn × (opcode_in (spelling insn) ≡ n)
 
--- The unsupported opcodes: packet access at an absolute and an indirect place (section 5.5), and atomic operations of 4
--- and 8 bytes (section 5.3).
+-- The opcodes that are not supported: packet access at an absolute and at an indirect place (section 5.5), and atomic
+-- operations of 4 and 8 bytes (section 5.3).
 abbrev pub left_out : List ℕ
 left_out = 0x20 ∷ 0x28 ∷ 0x30 ∷ 0x40 ∷ 0x48 ∷ 0x50 ∷ 0xc3 ∷ 0xdb ∷ []
 
--- Returns whether the opcode is one of the unsupported ones.
+-- Returns whether the opcode is one that is not supported.
 abbrev pub is_left_out : ℕ → Bool
 is_left_out n = list_any (λ opcode. n == opcode) left_out
 
--- States that the instruction is not supported. Its opcode is one of the unsupported ones, or its src field is not
--- zero: then a wide instruction loads something other than a number (section 5.4), and a call calls something other
--- than a helper (section 4.3.1).
+-- States that the instruction is not supported: its opcode is not, or its `src` field is not zero. With such a field, a
+-- wide instruction loads something other than a number (section 5.4), and a call calls something other than a helper
+-- (section 4.3.1).
 abbrev pub IsLeftOut : Fields → Type 0
 IsLeftOut f =
     (is_left_out f.opcode ≡ true)
     ⊎ ((f.opcode ≡ 0x18) × (f.dst ≤ 10) × (f.src ≢ 0)
     ⊎ (f.opcode ≡ 0x85) × (f.src ≢ 0))
 
--- States that an opcode is reported as unknown exactly if no well-formed instruction has it and it is not left out as
--- unsupported. An instruction is reported as unsupported exactly if it is an unsupported one.
+-- States when two faults are reported. `Opcode` is reported exactly if the opcode is that of no well-formed instruction
+-- and of none that is not supported. `LeftOut` is reported exactly for the instructions that are not supported.
 pub record OpcodesAreTold : Type 0 where
   pub unknown : (bytes : List ℕ) →
       (fault_at bytes ≡ Some faults.Opcode)

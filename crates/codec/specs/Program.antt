@@ -1,4 +1,4 @@
--- The bytes of a program, and the first fault of bytes that do not encode one.
+-- The bytes of a program, and the first fault of bytes that encode no program.
 use Rattle.std.specs.Prelude.{ℕ, ◌≡◌, ◌≢◌, ◌≤◌, ◌<◌, ◌*◌, ◌/◌, ◌%◌, ◌⊎◌, List, Some, take, drop, length}
 use Rattle.std.specs.List.{AllByRecursion}
 use Rattle.insn.specs.declared.insn.Insn.{Insn}
@@ -18,7 +18,7 @@ pub record SpellsProgram (bytes : List ℕ) (program : List Insn) : Type 0 where
   pub some : 0 < length bytes
   pub bound : length bytes ≤ 8 * most_units
 
--- States that the units before this one encode well-formed instructions, and the instruction at this unit has this
+-- States that the units before this one encode well-formed instructions, and that the instruction at this unit has this
 -- fault.
 pub record IsFaultAt (bytes : List ℕ) (fault : CodecFault) (unit : ℕ) (before : List Insn) : Type 0 where
   pub spelled : take (8 * unit) bytes ≡ program_bytes before
@@ -26,8 +26,8 @@ pub record IsFaultAt (bytes : List ℕ) (fault : CodecFault) (unit : ℕ) (befor
   pub inside : 8 * unit < length bytes
   pub found : fault_at (drop (8 * unit) bytes) ≡ Some fault
 
--- States that this is the first fault of the bytes and its unit. The length is checked first, then the number of units,
--- then the instructions in order.
+-- States that this is the first fault of the bytes, and its unit. The length is checked first, then the number of
+-- units, then the instructions in order.
 pub record IsFirstFault (bytes : List ℕ) (fault : CodecFault) (unit : ℕ) : Type 0 where
   pub by_length : length bytes % 8 ≢ 0 → (fault ≡ faults.Length) × (unit ≡ length bytes / 8)
   pub by_count : length bytes % 8 ≡ 0 → (length bytes ≡ 0) ⊎ (8 * most_units < length bytes) →
@@ -35,7 +35,7 @@ pub record IsFirstFault (bytes : List ℕ) (fault : CodecFault) (unit : ℕ) : T
   pub by_instruction : length bytes % 8 ≡ 0 → 0 < length bytes → length bytes ≤ 8 * most_units →
       (before : List Insn) × IsFaultAt bytes fault unit before
 
--- States that the error names the first fault, unless memory ran out.
+-- States that the error is the first fault, or out of memory.
 abbrev pub IsAnswered : List ℕ → CodecError → Type 0
 IsAnswered bytes (errors.At fault unit) = IsFirstFault bytes fault unit
 IsAnswered bytes errors.Memory = Unit {0}

@@ -1,4 +1,4 @@
--- The first fault of an instruction's bytes.
+-- The first fault of the bytes of an instruction.
 use Rattle.std.specs.Prelude.{ℕ, ◌≡◌, ◌≤◌, ◌/◌, ◌%◌, List, [], ◌∷◌, Bool, true, not, nat_lt, ◌==◌, ◌||◌, if◌then◌else◌, Option, Some, None, slice_index, drop, length}
 use Rattle.std.specs.Int.{w16, w32, from_le_bytes}
 use Rattle.word.specs.declared.Width.{Width}
@@ -10,7 +10,7 @@ use Rattle.codec.specs.declared.form.Form.{Form}
 use Rattle.codec.specs.declared.form.Form.TheVariants as forms
 use Rattle.codec.specs.Form.{form_of}
 
--- Returns the fields of the first eight bytes (RFC 9669, section 3.1).
+-- Returns the fields of the unit in the first 8 bytes (RFC 9669, section 3.1).
 abbrev pub fields_of : List ℕ → Fields
 fields_of bytes = record {
   opcode = slice_index bytes 0;
@@ -24,27 +24,27 @@ fields_of bytes = record {
 abbrev pub is_set : ℕ → Bool
 is_set n = not (n == 0)
 
--- Returns whether the number is above 10, so no register has it.
+-- Returns whether no register has this number, because it is above 10.
 abbrev pub is_past : ℕ → Bool
 is_past r = nat_lt 10 r
 
--- Returns whether the offset chooses neither a plain move, which is 0, nor a sign extension of this width (section 4.1:
--- 8, 16, and 32 at 64 only).
+-- Returns whether an `offset` field of a move selects neither a plain move (0) nor a sign extension of this width
+-- (section 4.1: 8 or 16 and, at 64 bits, also 32).
 abbrev pub is_no_part : Width → ℕ → Bool
 is_no_part W32 n = not (n == 0 || n == 8 || n == 16)
 is_no_part W64 n = not (n == 0 || n == 8 || n == 16 || n == 32)
 
--- Returns whether there is no swap of this number of bits (section 4.2).
+-- Returns whether no byte swap has this number of bits (section 4.2).
 abbrev pub is_no_swap : ℕ → Bool
 is_no_swap n = not (n == 16 || n == 32 || n == 64)
 
--- Returns whether a reserved field in the second half of a wide instruction is not zero: its first 32 bits are reserved
--- (section 3.2).
+-- Returns whether a field of the second unit of a wide instruction that must be zero is not: its first 32 bits are
+-- reserved (section 3.2).
 abbrev pub is_reserved_set : Fields → Bool
 is_reserved_set f = is_set f.opcode || is_set f.dst || is_set f.src || is_set f.offset
 
--- Returns the checks of an instruction of a known opcode, in order: the registers it uses, whether it is supported, the
--- operands that choose, the unused fields, and the second half.
+-- Returns the checks of an instruction with a known opcode, in order: the registers that it uses, whether it is
+-- supported, the fields that select it, the fields that must be zero, and the second unit.
 abbrev pub checks_of : Form → Fields → List ℕ → List (Bool × CodecFault)
 checks_of (forms.Immediate width operation) f behind =
     (is_past f.dst, faults.Register) ∷ (is_set f.src, faults.Reserved) ∷ (is_set f.offset, faults.Reserved) ∷ []
@@ -97,16 +97,16 @@ abbrev pub first_fault : List (Bool × CodecFault) → Option CodecFault
 first_fault [] = None
 first_fault (check ∷ checks) = if check.0 then Some check.1 else first_fault checks
 
--- Returns the first fault of an instruction's fields and of the bytes after them.
+-- Returns the first fault of an instruction with these fields in its first unit and these bytes after it.
 abbrev pub fault_in : Fields → List ℕ → Option CodecFault
 fault_in f behind = first_fault (checks_of (form_of f.opcode) f behind)
 
--- Returns the first fault of the instruction with which the bytes begin.
+-- Returns the first fault of the instruction at the beginning of the bytes.
 abbrev pub fault_at : List ℕ → Option CodecFault
 fault_at bytes = fault_in (fields_of bytes) (drop 8 bytes)
 
--- States that the units are one unit with these fields, or a wide instruction that has these fields and continues in
--- the bytes after them.
+-- States that an instruction's units are one with these fields, or two, of which the second is at the beginning of the
+-- bytes after it.
 abbrev pub AreUnits : List Fields → Fields → List ℕ → Type 0
 AreUnits [] f behind = ⊥
 AreUnits (first ∷ []) f behind = first ≡ f

@@ -1,4 +1,4 @@
-//! Decodes arithmetic instructions: operations, divisions, moves, negation and byte swaps.
+//! Decodes arithmetic instructions from the fields of a unit: operations, divisions, moves, negations and byte swaps.
 ghost use Rattle.std.specs.Prelude.{◌≡◌, ◌≤◌, ◌<◌, ◌+◌, ◌*◌, true, false, [], ◌∷◌, IfOk, IfErr, Some, ℕ, List};
 ghost use Rattle.insn.specs.Insn.{IsInsn};
 ghost use Rattle.word.specs.Arithmetic.{swapped_bytes};
@@ -13,7 +13,7 @@ use crate::form::Division;
 use insn::{Insn, Operand};
 use word::{ByteOrder, Narrow, Operation, SwapSize, Width};
 
-/// Decodes an arithmetic instruction whose operand is a number.
+/// Decodes an arithmetic instruction whose operand is a number. Fails with `Register` or `Reserved`.
 pub fn immediate(width: Width, operation: Operation, fields: Fields) -> Result<Insn, CodecFault>
     requires opcode { fields.opcode ≡ operation_code operation + alu_class width }
     requires offset { operation_offset operation ≡ 0 }
@@ -33,7 +33,7 @@ pub fn immediate(width: Width, operation: Operation, fields: Fields) -> Result<I
     })
 }
 
-/// Decodes an arithmetic instruction whose operand is a register.
+/// Decodes an arithmetic instruction whose operand is a register. Fails with `Register` or `Reserved`.
 pub fn register(width: Width, operation: Operation, fields: Fields) -> Result<Insn, CodecFault>
     requires opcode { fields.opcode ≡ operation_code operation + 8 + alu_class width }
     requires offset { operation_offset operation ≡ 0 }
@@ -54,8 +54,8 @@ pub fn register(width: Width, operation: Operation, fields: Fields) -> Result<In
     })
 }
 
-/// Returns the operation that the offset chooses: unsigned if it is 0, signed if it is 1 (section 4.1). It fails with
-/// `Operand` for any other offset.
+/// Returns the division that the `offset` field selects: unsigned if it is 0, signed if it is 1 (RFC 9669, section
+/// 4.1). Fails with `Operand` for any other value.
 fn chosen(division: Division, offset: u16) -> Result<Operation, CodecFault>
     ensures found { IfOk result (λ o. (offset ≤ 1) × (o ≡ divided division offset)) }
     ensures fault { IfErr result (λ e. (e ≡ CodecFault.Operand) × (1 < offset)) }
@@ -73,7 +73,7 @@ fn chosen(division: Division, offset: u16) -> Result<Operation, CodecFault>
     }
 }
 
-/// Decodes a division by a number.
+/// Decodes a division by a number. Fails with `Register`, `Operand` or `Reserved`.
 pub fn divide_immediate(
     width: Width,
     division: Division,
@@ -97,7 +97,7 @@ pub fn divide_immediate(
     })
 }
 
-/// Decodes a division by a register.
+/// Decodes a division by a register. Fails with `Register`, `Operand` or `Reserved`.
 pub fn divide_register(width: Width, division: Division, fields: Fields) -> Result<Insn, CodecFault>
     requires opcode { fields.opcode ≡ operation_code (divided division 0) + 8 + alu_class width }
     ensures found { IfOk result (λ i. IsInsn i × (spelling i ≡ fields ∷ [])) }
@@ -118,8 +118,8 @@ pub fn divide_register(width: Width, division: Division, fields: Fields) -> Resu
     })
 }
 
-/// Returns the part of the source that the offset selects for sign extension, or `None` for a plain move. It fails with
-/// `Operand` if the offset selects neither.
+/// Returns which low bits of the source a move sign-extends, as its `offset` field says: 8, 16 or 32. Returns `None` if
+/// the field is 0, for a plain move. Fails with `Operand` for any other value, and for 32 in a 32-bit move.
 fn part(width: Width, offset: u16) -> Result<Option<Narrow>, CodecFault>
     ensures found { IfOk result (λ p. (is_no_part width offset ≡ false) × IsMoved width p offset) }
     ensures fault { IfErr result (λ e. (e ≡ CodecFault.Operand) × (is_no_part width offset ≡ true)) }
@@ -136,7 +136,7 @@ fn part(width: Width, offset: u16) -> Result<Option<Narrow>, CodecFault>
     }
 }
 
-/// Decodes a move from a register, either plain or with sign extension.
+/// Decodes a move from a register, plain or with sign extension. Fails with `Register`, `Operand` or `Reserved`.
 pub fn move_register(width: Width, fields: Fields) -> Result<Insn, CodecFault>
     requires opcode { fields.opcode ≡ 0xb8 + alu_class width }
     ensures found { IfOk result (λ i. IsInsn i × (spelling i ≡ fields ∷ [])) }
@@ -165,7 +165,7 @@ pub fn move_register(width: Width, fields: Fields) -> Result<Insn, CodecFault>
     })
 }
 
-/// Decodes the negation of a register.
+/// Decodes the negation of a register. Fails with `Register` or `Reserved`.
 pub fn negate(width: Width, fields: Fields) -> Result<Insn, CodecFault>
     requires opcode { fields.opcode ≡ 0x80 + alu_class width }
     ensures found { IfOk result (λ i. IsInsn i × (spelling i ≡ fields ∷ [])) }
@@ -179,8 +179,8 @@ pub fn negate(width: Width, fields: Fields) -> Result<Insn, CodecFault>
     Ok(Insn::Negate { width, dst })
 }
 
-/// Returns the swap size that the `imm` field chooses: 16, 32 or 64 bits (section 4.2). It fails with `Operand` for any
-/// other number.
+/// Returns the size of a byte swap that the `imm` field selects: 16, 32 or 64 bits (RFC 9669, section 4.2). Fails with
+/// `Operand` for any other value.
 fn swap_size(bits: u32) -> Result<SwapSize, CodecFault>
     ensures found { IfOk result (λ s. (is_no_swap bits ≡ false) × (bits ≡ 8 * swapped_bytes s)) }
     ensures fault { IfErr result (λ e. (e ≡ CodecFault.Operand) × (is_no_swap bits ≡ true)) }
@@ -193,7 +193,7 @@ fn swap_size(bits: u32) -> Result<SwapSize, CodecFault>
     }
 }
 
-/// Decodes a byte swap of a register.
+/// Decodes a byte swap of a register. Fails with `Register`, `Operand` or `Reserved`.
 pub fn swap(order: ByteOrder, fields: Fields) -> Result<Insn, CodecFault>
     requires opcode { fields.opcode ≡ swap_code order }
     ensures found { IfOk result (λ i. IsInsn i × (spelling i ≡ fields ∷ [])) }

@@ -1,4 +1,4 @@
-//! Decodes bytes to instructions and programs, and finds the first fault of bytes that do not encode one.
+//! Decodes bytes to instructions and programs, and finds the first fault of bytes that encode no program.
 ghost use Rattle.std.specs.Prelude.{◌≡◌, ◌≤◌, ◌<◌, ◌+◌, ◌*◌, ◌/◌, length, take, drop, IfOk, IfErr, MatchOption, MatchResult, Ok, Err, Some, List};
 ghost use Rattle.insn.specs.declared.insn.Insn.{Insn as InsnValue};
 ghost use Rattle.insn.specs.Insn.{IsInsn, units_of};
@@ -15,8 +15,8 @@ use insn::{Insn, Operand, Program, Reg};
 use std::alloc::{AllocError, Global};
 use word::{Operation, Width};
 
-/// Stores a decoded instruction in the place, and returns the number of its units. If decoding failed, it stores
-/// nothing and fails with the same fault.
+/// Stores a decoded instruction in `place`, and returns the number of its units, 1 or 2. If `read` is a fault, fails
+/// with it and stores nothing.
 #[inline(always)]
 fn put(place: &mut Insn, read: Result<Insn, CodecFault>) -> Result<u16, CodecFault>
     ensures { MatchResult result (λ n. (read ≡ Ok place.new) × (n ≡ units_of place.new)) (λ e. read ≡ Err e) }
@@ -30,8 +30,8 @@ fn put(place: &mut Insn, read: Result<Insn, CodecFault>) -> Result<u16, CodecFau
     }
 }
 
-/// Decodes the instruction with which the bytes begin into the place, and returns the number of its units. Each case
-/// reads the fields itself, so that no field is read where it is not used.
+/// Decodes the instruction at the beginning of `bytes` into `place`, and returns the number of its units, 1 or 2. Fails
+/// with its first fault. Each case reads the fields of the unit itself, so that only those that it uses are read.
 #[inline(always)]
 fn meaning(place: &mut Insn, bytes: &[u8]) -> Result<u16, CodecFault>
     requires { 8 ≤ length bytes.now }
@@ -87,8 +87,8 @@ fn meaning(place: &mut Insn, bytes: &[u8]) -> Result<u16, CodecFault>
     }
 }
 
-/// Decodes the instruction with which the bytes begin into the place, and returns the number of its units. Any bytes
-/// may follow the instruction.
+/// Decodes the instruction at the beginning of `bytes` into `place`, and returns the number of its units, 1 or 2. Fails
+/// with its first fault. Any bytes may follow the instruction.
 #[inline(always)]
 fn read(place: &mut Insn, bytes: &[u8]) -> Result<u16, CodecFault>
     requires { 8 ≤ length bytes.now }
@@ -101,11 +101,11 @@ fn read(place: &mut Insn, bytes: &[u8]) -> Result<u16, CodecFault>
     meaning(place, bytes)
 }
 
-/// Decodes the instruction with which the bytes begin. Any bytes may follow it.
+/// Decodes the instruction at the beginning of `bytes`. Any bytes may follow it.
 ///
 /// # Errors
 ///
-/// The first fault of the first unit, or of the wide instruction that begins there.
+/// The instruction's first fault.
 pub fn instruction(bytes: &[u8]) -> Result<Insn, CodecFault>
     requires { 8 ≤ length bytes.now }
     ensures well_formed { IfOk result (λ i. IsInsn i) }
@@ -120,7 +120,8 @@ pub fn instruction(bytes: &[u8]) -> Result<Insn, CodecFault>
     }
 }
 
-/// Makes a list of `units` blank instructions. Each consists of zero bytes only, so that all are made at once.
+/// Returns `units` blank instructions. Their bytes are all zero, so that they are made at once. Fails with `AllocError`
+/// if out of memory.
 fn blank_places(alloc: Global, units: usize) -> Result<Vec<Insn>, AllocError>
     ensures { IfOk result (λ v. length v.items ≡ units) }
 {
@@ -136,8 +137,8 @@ fn blank_places(alloc: Global, units: usize) -> Result<Vec<Insn>, AllocError>
     vec![in alloc; blank; units]
 }
 
-/// Decodes the instructions of the bytes into the first places, and returns their number. It fails with the first fault
-/// of the bytes.
+/// Decodes the instructions of `bytes` into the first items of `places`, and returns how many there are. Fails with the
+/// first fault and its unit.
 #[inline(never)]
 fn fill(places: &mut [Insn], bytes: &[u8]) -> Result<usize, CodecError>
     requires whole { length bytes.now ≡ 8 * length places.old }
@@ -161,8 +162,8 @@ fn fill(places: &mut [Insn], bytes: &[u8]) -> Result<usize, CodecError>
     Ok(count)
 }
 
-/// Decodes the instructions of bytes that have `units` units. It fails with the first fault of the bytes, or when out
-/// of memory.
+/// Decodes the instructions of `bytes`, which have `units` units of 8 bytes. Fails with the first fault and its unit,
+/// or with `Memory`.
 fn instructions(alloc: Global, bytes: &[u8], units: usize) -> Result<Vec<Insn>, CodecError>
     requires whole { length bytes.now ≡ 8 * units }
     requires some { 0 < units }
@@ -202,8 +203,8 @@ pub fn decode(alloc: Global, bytes: &[u8]) -> Result<Program, CodecError>
     Ok(Program::of_units(alloc, instructions(alloc, bytes, units)?, units)?)
 }
 
-/// Returns the first fault of the bytes and its unit, as `decode` reports it, or `None` exactly if the bytes encode a
-/// program. Therefore every list of bytes encodes a program or has a first fault. The function allocates no memory.
+/// Returns the first fault of `bytes` with its unit, as `decode` reports it, or `None` exactly if the bytes encode a
+/// program. The function allocates no memory.
 pub fn first_fault(bytes: &[u8]) -> Option<(CodecFault, usize)>
     ensures { MatchOption result ((p : List InsnValue)
         × SpellsProgram bytes.now p) (λ found. IsFirstFault bytes.now found.0 found.1) }
@@ -218,8 +219,8 @@ pub fn first_fault(bytes: &[u8]) -> Option<(CodecFault, usize)>
     first_fault_of(bytes, units)
 }
 
-/// Returns the first fault of the instructions of bytes that have `units` units, and its unit, or `None` if there is
-/// none.
+/// Returns the first fault of the instructions in `bytes` with its unit, or `None` if there is none. The bytes have
+/// `units` units of 8 bytes.
 fn first_fault_of(bytes: &[u8], units: usize) -> Option<(CodecFault, usize)>
     requires whole { length bytes.now ≡ 8 * units }
     requires some { 0 < units }

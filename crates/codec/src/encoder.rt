@@ -8,7 +8,7 @@ use crate::spelling::units;
 use insn::{Insn, Program};
 use std::alloc::{AllocError, Global};
 
-/// Appends the bytes of an instruction.
+/// Appends the 8 or 16 bytes of an instruction. Fails with `AllocError` if out of memory.
 fn push_insn(bytes: &mut Vec<u8>, insn: &Insn) -> Result<(), AllocError>
     ensures { OnOk result (bytes.new.items ≡ bytes.old.items ++ instruction_bytes insn.now) }
 {
@@ -20,7 +20,7 @@ fn push_insn(bytes: &mut Vec<u8>, insn: &Insn) -> Result<(), AllocError>
     Ok(())
 }
 
-/// Encodes a program as bytes, eight for each unit.
+/// Encodes a program as bytes, 8 for each unit.
 ///
 /// # Errors
 ///

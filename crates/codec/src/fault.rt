@@ -6,24 +6,25 @@ use std::alloc::{AllocError, AllocFailed};
 use std::error::Error;
 use std::fmt;
 
-/// What is wrong with the bytes of an instruction, or with the length of a program.
+/// What is wrong with bytes that encode no program.
 #[derive(Clone, Copy, Debug, PartialEq, Eq, Drop)]
 pub enum CodecFault {
     /// C1: the length is not a multiple of 8.
     Length,
     /// C2: no instruction has this opcode.
     Opcode,
-    /// C3: an unused field, or a reserved bit of a wide instruction, is not zero.
+    /// C3: a field that must be zero is not: one that the instruction does not use, or one in the second unit of a wide
+    /// instruction.
     Reserved,
-    /// C4: the second half of a wide instruction is missing.
+    /// C4: the second unit of a wide instruction is missing.
     WideCut,
     /// C5: the instruction uses a register above r10.
     Register,
-    /// C6: the instruction is in the standard, but is not supported.
+    /// C6: the instruction is in RFC 9669, but is not supported.
     LeftOut,
-    /// C7: an operand that chooses the instruction has a value that chooses none.
+    /// C7: the `offset` or `imm` field, which selects the instruction, has a value that selects none.
     Operand,
-    /// C8: the program has no unit, or more than 4,096.
+    /// C8: the program has no units, or more than 4,096.
     Count,
 }
 
@@ -52,8 +53,8 @@ impl Error for CodecFault {}
 /// Why decoding failed: the first fault with its unit, or out of memory.
 #[derive(Clone, Copy, Debug, PartialEq, Eq, Drop)]
 pub enum CodecError {
-    /// The fault at the first unit of an instruction. For a wrong length, this is the incomplete unit, and for a wrong
-    /// number of units it is 0.
+    /// The fault, and the unit where the instruction at fault begins. For `Length`, the unit is the incomplete one, and
+    /// for `Count` it is 0.
     At(CodecFault, usize),
     Memory,
 }

@@ -1,4 +1,4 @@
-//! The fields of a 64-bit unit: reads them from bytes and writes them as bytes.
+//! The fields of a unit, which has 64 bits: reads them from bytes, and writes them as bytes.
 ghost use Rattle.std.specs.Prelude.{◌≡◌, ◌≤◌, ◌<◌, [], ◌∷◌, length, slice_index, IfOk, IfErr, Some, Bool, List};
 ghost use Rattle.std.specs.Int.{w16, w32, from_le_bytes, to_le_bytes};
 ghost use Rattle.codec.specs.declared.fault.CodecFault.{CodecFault as FaultValue};
@@ -24,7 +24,7 @@ pub struct Fields {
     pub imm: u32,
 }
 
-/// Reads the fields of the unit in the first 8 bytes.
+/// Reads the fields of the unit in the first 8 of these bytes.
 #[inline(always)]
 pub fn read_fields(bytes: &[u8]) -> Fields
     requires { 8 ≤ length bytes.now }
@@ -39,7 +39,7 @@ pub fn read_fields(bytes: &[u8]) -> Fields
     }
 }
 
-/// Reads the number in the first two bytes, the lowest byte first.
+/// Returns the little-endian number in the first two bytes.
 fn read_half(bytes: &[u8]) -> u16
     requires { 2 ≤ length bytes.now }
     ensures { result ≡ from_le_bytes w16 (slice_index bytes.now 0 ∷ slice_index bytes.now 1 ∷ []) }
@@ -47,7 +47,7 @@ fn read_half(bytes: &[u8]) -> u16
     LittleEndian::read_u16(bytes)
 }
 
-/// Reads the number in the first four bytes, the lowest byte first.
+/// Returns the little-endian number in the first four bytes.
 fn read_word(bytes: &[u8]) -> u32
     requires { 4 ≤ length bytes.now }
     ensures { result ≡ from_le_bytes w32
@@ -56,7 +56,7 @@ fn read_word(bytes: &[u8]) -> u32
     LittleEndian::read_u32(bytes)
 }
 
-/// Returns the eight bytes of a unit with these fields. The register fields must be below 16.
+/// Returns the 8 bytes of a unit with these fields. `dst` and `src` must be below 16.
 pub fn to_bytes(fields: Fields) -> [u8; 8]
     requires dst { fields.dst < 16 }
     requires src { fields.src < 16 }
@@ -76,7 +76,7 @@ pub fn to_bytes(fields: Fields) -> [u8; 8]
     ]
 }
 
-/// Returns the two bytes of a number, the lowest first.
+/// Returns the two bytes of a number in little-endian order.
 fn half_bytes(n: u16) -> [u8; 2]
     ensures { result ≡ to_le_bytes w16 n }
 {
@@ -85,7 +85,7 @@ fn half_bytes(n: u16) -> [u8; 2]
     bytes
 }
 
-/// Returns the four bytes of a number, the lowest first.
+/// Returns the four bytes of a number in little-endian order.
 fn word_bytes(n: u32) -> [u8; 4]
     ensures { result ≡ to_le_bytes w32 n }
 {
@@ -94,7 +94,7 @@ fn word_bytes(n: u32) -> [u8; 4]
     bytes
 }
 
-/// Returns the register that a field names. It fails with `Register` if the number is above 10.
+/// Returns the register with this number. Fails with `Register` if the number is above 10.
 pub fn used(number: u8) -> Result<Reg, CodecFault>
     ensures found { IfOk result (λ r. (r ≡ number) × (number ≤ 10)) }
     ensures fault { IfErr result (λ e. (e ≡ CodecFault.Register) × (10 < number)) }
@@ -102,8 +102,9 @@ pub fn used(number: u8) -> Result<Reg, CodecFault>
     Reg::new(number).ok_or(CodecFault::Register)
 }
 
-/// Returns the register that `dst` names in an instruction that does not use `src`. The two fields share a byte, so one
-/// comparison checks both. It fails with `Register` if `dst` is above 10, and with `Reserved` if `src` is not zero.
+/// Returns the register in the field `dst` of an instruction that does not use `src`. Fails with `Register` if `dst` is
+/// above 10, and otherwise with `Reserved` if `src` is not zero. The two fields share a byte, so that one comparison
+/// checks both.
 #[inline(always)]
 pub fn alone(fields: Fields) -> Result<Reg, CodecFault>
     ensures found { IfOk result (λ r. (r ≡ fields.dst) × (fields.dst ≤ 10) × (fields.src ≡ 0)) }

@@ -1,25 +1,25 @@
-//! The form of instruction that each opcode selects, as a table.
+//! The kind of instruction that each opcode selects, as a table.
 ghost use Rattle.std.specs.Prelude.{◌≡◌};
 ghost use Rattle.codec.specs.Form.{form_of, IsOpcode};
 
 use insn::Size;
 use word::{ByteOrder, Condition, Narrow, Operation, Width};
 
-/// A division, whose offset field chooses between unsigned and signed (RFC 9669, section 4.1).
+/// A division. The `offset` field says whether it is signed (RFC 9669, section 4.1).
 #[derive(Clone, Copy)]
 pub enum Division {
     Quotient,
     Remainder,
 }
 
-/// The form of instruction that an opcode selects.
+/// The kind of instruction that an opcode selects.
 #[derive(Clone, Copy)]
 pub enum Form {
     Immediate(Width, Operation),
     Register(Width, Operation),
     DivideImmediate(Width, Division),
     DivideRegister(Width, Division),
-    /// A plain move or one with sign extension, as the offset field chooses.
+    /// A plain move or one with sign extension, as the `offset` field says.
     MoveRegister(Width),
     Negate(Width),
     Swap(ByteOrder),
@@ -34,13 +34,14 @@ pub enum Form {
     StoreRegister(Size),
     Call,
     Exit,
-    /// An instruction that is in the standard, but is not supported.
+    /// An instruction that is in RFC 9669, but is not supported.
     LeftOut,
     Unknown,
 }
 
-/// The form that each opcode selects. The low three bits are the class. In arithmetic and jumps, the next bit is the
-/// source bit and the high four bits are the code (section 3.3).
+/// The kind of instruction for each opcode. The low three bits of an opcode are its class. In arithmetic instructions
+/// and jumps, the next bit says whether the operand is a register, and the high four bits are the operation or
+/// condition (RFC 9669, section 3.3).
 static FORMS: [Form; 256] = [
     Form::Unknown, // 0x00
     Form::Unknown, // 0x01
@@ -300,7 +301,7 @@ static FORMS: [Form; 256] = [
     Form::Unknown, // 0xff
 ];
 
-/// Returns the form that the opcode selects.
+/// Returns the kind of instruction that this opcode selects.
 #[inline(always)]
 pub fn form_at(opcode: u8) -> &'static Form
     ensures form { result.now ≡ form_of opcode }

@@ -1,4 +1,4 @@
-//! Decodes jumps, branches, calls and exits.
+//! Decodes jumps, conditional jumps, calls and exits from the fields of a unit.
 ghost use Rattle.std.specs.Prelude.{◌≡◌, ◌+◌, [], ◌∷◌, IfOk, IfErr, Some, ℕ, List};
 ghost use Rattle.insn.specs.Insn.{IsInsn};
 ghost use Rattle.codec.specs.declared.form.Form.TheVariants as forms;
@@ -10,7 +10,7 @@ use crate::fields::{Fields, alone, used};
 use insn::{Insn, Operand};
 use word::{Condition, Width};
 
-/// Decodes a jump whose distance is in the `offset` field.
+/// Decodes a jump whose distance is in the `offset` field. Fails with `Reserved`.
 pub fn near(fields: Fields) -> Result<Insn, CodecFault>
     requires opcode { fields.opcode ≡ 0x05 }
     ensures found { IfOk result (λ i. IsInsn i × (spelling i ≡ fields ∷ [])) }
@@ -24,7 +24,7 @@ pub fn near(fields: Fields) -> Result<Insn, CodecFault>
     })
 }
 
-/// Decodes a jump whose distance is in the `imm` field.
+/// Decodes a jump whose distance is in the `imm` field. Fails with `Reserved`.
 pub fn long(fields: Fields) -> Result<Insn, CodecFault>
     requires opcode { fields.opcode ≡ 0x06 }
     ensures found { IfOk result (λ i. IsInsn i × (spelling i ≡ fields ∷ [])) }
@@ -39,7 +39,7 @@ pub fn long(fields: Fields) -> Result<Insn, CodecFault>
     })
 }
 
-/// Decodes a branch that compares a register with a number.
+/// Decodes a conditional jump that compares a register with a number. Fails with `Register` or `Reserved`.
 pub fn branch_immediate(
     width: Width,
     condition: Condition,
@@ -60,7 +60,7 @@ pub fn branch_immediate(
     })
 }
 
-/// Decodes a branch that compares two registers.
+/// Decodes a conditional jump that compares two registers. Fails with `Register` or `Reserved`.
 pub fn branch_register(
     width: Width,
     condition: Condition,
@@ -85,8 +85,8 @@ pub fn branch_register(
     })
 }
 
-/// Decodes a call of a helper. It fails with `LeftOut` if the `src` field asks for another kind of call, which is not
-/// supported.
+/// Decodes a call of a helper. Fails with `LeftOut` if the `src` field selects another kind of call, which is not
+/// supported, and otherwise with `Reserved`.
 pub fn call(fields: Fields) -> Result<Insn, CodecFault>
     requires opcode { fields.opcode ≡ 0x85 }
     ensures found { IfOk result (λ i. IsInsn i × (spelling i ≡ fields ∷ [])) }
@@ -103,7 +103,7 @@ pub fn call(fields: Fields) -> Result<Insn, CodecFault>
     })
 }
 
-/// Decodes an exit.
+/// Decodes an exit. Fails with `Reserved`.
 pub fn exit(fields: Fields) -> Result<Insn, CodecFault>
     requires opcode { fields.opcode ≡ 0x95 }
     ensures found { IfOk result (λ i. IsInsn i × (spelling i ≡ fields ∷ [])) }

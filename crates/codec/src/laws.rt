@@ -2,17 +2,17 @@
 ghost use Rattle.codec.specs.Laws.{OneInstruction, OneProgram, OneSpelling, OneFirstFault, NoFaultInPrograms};
 ghost use Rattle.codec.specs.Opcodes.{OpcodesAreTold};
 
-/// States that two different well-formed instructions have different encodings.
+/// States that two different well-formed instructions never have the same encoding.
 pub fn one_instruction()
     ensures { OneInstruction }
 {}
 
-/// States that bytes encode at most one program, so decoding an encoded program returns it.
+/// States that bytes encode at most one program, so that an encoded program is decoded to itself.
 pub fn one_program()
     ensures { OneProgram }
 {}
 
-/// States that a program has at most one encoding, so encoding a decoded program returns the same bytes.
+/// States that a program has only one encoding, so that a decoded program is encoded as the same bytes.
 pub fn one_spelling()
     ensures { OneSpelling }
 {}
@@ -27,9 +27,9 @@ pub fn no_fault_in_programs()
     ensures { NoFaultInPrograms }
 {}
 
-/// States when each of two faults of an encoded instruction is reported. `Opcode`, for an unknown opcode, is reported
-/// exactly if no well-formed instruction has this opcode and byzlab does not list it as unsupported. `LeftOut` is
-/// reported exactly if the instruction is an unsupported one.
+/// States when the faults `Opcode` and `LeftOut` are reported. `LeftOut` is reported exactly for the instructions that
+/// are not supported. `Opcode` is reported exactly if the opcode is that of no well-formed instruction and of none that
+/// is not supported.
 pub fn opcodes_are_told()
     ensures { OpcodesAreTold }
 {}

@@ -1,5 +1,5 @@
-//! Decodes and encodes programs as bytes (RFC 9669, section 3). Each program has one encoding, and each encoding
-//! belongs to one program.
+//! Decodes programs from bytes, and encodes them as bytes (RFC 9669, section 3). Each program has exactly one encoding,
+//! and no two programs have the same.
 #![tactic(auto)]
 
 mod arithmetic;

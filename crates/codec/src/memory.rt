@@ -1,4 +1,4 @@
-//! Decodes loads, stores and the wide instruction that loads a 64-bit number.
+//! Decodes loads, stores, and the wide instruction that loads a 64-bit number, from the fields of a unit.
 ghost use Rattle.std.specs.Prelude.{◌≡◌, ◌+◌, ◌≤◌, [], ◌∷◌, length, drop, IfOk, IfErr, Some, ℕ, List};
 ghost use Rattle.insn.specs.Insn.{IsInsn};
 ghost use Rattle.codec.specs.declared.form.Form.TheVariants as forms;
@@ -10,7 +10,7 @@ use crate::fields::{Fields, alone, read_fields, used};
 use insn::{Insn, Operand, Size};
 use word::Narrow;
 
-/// Decodes a load of an unsigned number.
+/// Decodes a load that is not sign-extended. Fails with `Register` or `Reserved`.
 pub fn load(size: Size, fields: Fields) -> Result<Insn, CodecFault>
     requires opcode { fields.opcode ≡ 0x61 + size_code size }
     ensures found { IfOk result (λ i. IsInsn i × (spelling i ≡ fields ∷ [])) }
@@ -30,7 +30,7 @@ pub fn load(size: Size, fields: Fields) -> Result<Insn, CodecFault>
     })
 }
 
-/// Decodes a load of a signed number.
+/// Decodes a sign-extended load. Fails with `Register` or `Reserved`.
 pub fn load_signed(part: Narrow, fields: Fields) -> Result<Insn, CodecFault>
     requires opcode { fields.opcode ≡ 0x81 + part_code part }
     ensures found { IfOk result (λ i. IsInsn i × (spelling i ≡ fields ∷ [])) }
@@ -50,7 +50,7 @@ pub fn load_signed(part: Narrow, fields: Fields) -> Result<Insn, CodecFault>
     })
 }
 
-/// Decodes a store of a number.
+/// Decodes a store of a number. Fails with `Register` or `Reserved`.
 pub fn store_immediate(size: Size, fields: Fields) -> Result<Insn, CodecFault>
     requires opcode { fields.opcode ≡ 0x62 + size_code size }
     ensures found { IfOk result (λ i. IsInsn i × (spelling i ≡ fields ∷ [])) }
@@ -66,7 +66,7 @@ pub fn store_immediate(size: Size, fields: Fields) -> Result<Insn, CodecFault>
     })
 }
 
-/// Decodes a store of a register.
+/// Decodes a store of a register. Fails with `Register` or `Reserved`.
 pub fn store_register(size: Size, fields: Fields) -> Result<Insn, CodecFault>
     requires opcode { fields.opcode ≡ 0x63 + size_code size }
     ensures found { IfOk result (λ i. IsInsn i × (spelling i ≡ fields ∷ [])) }
@@ -86,7 +86,8 @@ pub fn store_register(size: Size, fields: Fields) -> Result<Insn, CodecFault>
     })
 }
 
-/// Decodes the wide instruction, whose second half follows the fields (section 3.2).
+/// Decodes the wide instruction, which loads a 64-bit number (RFC 9669, section 3.2). `fields` are those of its first
+/// unit, and `behind` begins with its second. Fails with `Register`, `LeftOut`, `Reserved` or `WideCut`.
 pub fn load_immediate(fields: Fields, behind: &[u8]) -> Result<Insn, CodecFault>
     requires opcode { fields.opcode ≡ 0x18 }
     ensures found { IfOk result (λ i. IsInsn i × (8 ≤ length behind.now)

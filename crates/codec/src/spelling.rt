@@ -1,4 +1,4 @@
-//! Encodes each instruction as the fields of one or two units.
+//! Encodes each instruction as the fields of one or two units (RFC 9669, section 3).
 ghost use Rattle.std.specs.Prelude.{◌≡◌, ◌≤◌, [], ◌∷◌, IfSome};
 ghost use Rattle.std.specs.Int.{w16, cast_unsigned};
 ghost use Rattle.word.specs.Arithmetic.{swapped_bytes};
@@ -10,7 +10,7 @@ use crate::fields::Fields;
 use insn::{Insn, Operand, Reg, Size};
 use word::{ByteOrder, Condition, Narrow, Operation, SwapSize, Width};
 
-/// Returns the class of arithmetic instructions of this width.
+/// Returns the class of arithmetic instructions of this width: the low three bits of their opcodes.
 fn arithmetic_class(width: Width) -> u8
     ensures class { result ≡ alu_class width }
     ensures few { result ≤ 7 }
@@ -21,7 +21,7 @@ fn arithmetic_class(width: Width) -> u8
     }
 }
 
-/// Returns the class of branches of this width.
+/// Returns the class of conditional jumps of this width: the low three bits of their opcodes.
 fn branch_class(width: Width) -> u8
     ensures class { result ≡ jump_class width }
     ensures few { result ≤ 6 }
@@ -32,7 +32,7 @@ fn branch_class(width: Width) -> u8
     }
 }
 
-/// Returns the opcode's high four bits for an operation.
+/// Returns the high four bits of the opcode of an operation, as a number from 0x00 to 0xc0.
 fn operation_bits(operation: Operation) -> u8
     ensures code { result ≡ operation_code operation }
     ensures few { result ≤ 0xc0 }
@@ -55,7 +55,7 @@ fn operation_bits(operation: Operation) -> u8
     }
 }
 
-/// Returns the `offset` field of an operation: 1 for signed division and modulo, else 0.
+/// Returns the `offset` field of an operation: 1 for signed division and remainder, and otherwise 0.
 fn offset_bits(operation: Operation) -> u16
     ensures { result ≡ operation_offset operation }
 {
@@ -65,7 +65,7 @@ fn offset_bits(operation: Operation) -> u16
     }
 }
 
-/// Returns the opcode's high four bits for a condition.
+/// Returns the high four bits of the opcode of a conditional jump, as a number from 0x10 to 0xd0.
 fn condition_bits(condition: Condition) -> u8
     ensures code { result ≡ condition_code condition }
     ensures few { result ≤ 0xd0 }
@@ -85,7 +85,7 @@ fn condition_bits(condition: Condition) -> u8
     }
 }
 
-/// Returns the size bits of the opcode of a load or store.
+/// Returns the two bits of the opcode of a load or store that encode its size, as a number from 0x00 to 0x18.
 fn size_bits(size: Size) -> u8
     ensures code { result ≡ size_code size }
     ensures few { result ≤ 0x18 }
@@ -98,7 +98,7 @@ fn size_bits(size: Size) -> u8
     }
 }
 
-/// Returns the size bits of the opcode of a sign-extending load.
+/// Returns the two bits of the opcode of a sign-extended load that encode its size, as a number from 0x00 to 0x10.
 fn part_bits(part: Narrow) -> u8
     ensures code { result ≡ part_code part }
     ensures few { result ≤ 0x10 }
@@ -110,7 +110,7 @@ fn part_bits(part: Narrow) -> u8
     }
 }
 
-/// Returns the fields of an arithmetic instruction.
+/// Returns the fields of an arithmetic instruction with two operands.
 fn arithmetic(width: Width, operation: Operation, dst: Reg, operand: Operand) -> Fields
     ensures spelled { spelling (i.Arithmetic width operation dst operand) ≡ result ∷ [] }
     ensures registers { (result.dst ≤ 10) × (result.src ≤ 10) }
@@ -176,7 +176,7 @@ fn swap(order: ByteOrder, size: SwapSize, dst: Reg) -> Fields
     }
 }
 
-/// Returns the fields of a branch.
+/// Returns the fields of a conditional jump.
 fn branch(width: Width, condition: Condition, dst: Reg, operand: Operand, distance: i16) -> Fields
     ensures spelled { spelling (i.Branch width condition dst operand distance) ≡ result ∷ [] }
     ensures registers { (result.dst ≤ 10) × (result.src ≤ 10) }
@@ -228,7 +228,8 @@ fn store(size: Size, base: Reg, offset: i16, source: Operand) -> Fields
     }
 }
 
-/// Returns the fields of a load with this opcode.
+/// Returns the fields of a load with this opcode: into register `dst`, from `offset` after the address in register
+/// `base`.
 fn load(opcode: u8, dst: Reg, base: Reg, offset: i16) -> Fields
     ensures fields { result ≡ fields opcode dst base (cast_unsigned w16 offset) 0 }
     ensures registers { (result.dst ≤ 10) × (result.src ≤ 10) }
@@ -242,7 +243,7 @@ fn load(opcode: u8, dst: Reg, base: Reg, offset: i16) -> Fields
     }
 }
 
-/// Returns the fields of an instruction that uses no registers.
+/// Returns the fields of an instruction without registers.
 fn plain(opcode: u8, offset: u16, imm: u32) -> Fields
     ensures fields { result ≡ fields opcode 0 0 offset imm }
 {
@@ -255,7 +256,7 @@ fn plain(opcode: u8, offset: u16, imm: u32) -> Fields
     }
 }
 
-/// Returns the fields of an instruction's units. Only the wide instruction has a second unit.
+/// Returns the fields of an instruction's first unit, and of its second. Only the wide instruction has a second unit.
 pub fn units(insn: &Insn) -> (Fields, Option<Fields>)
     ensures spelled { spelling insn.now ≡ units_list result }
     ensures first { (result.0.dst ≤ 10) × (result.0.src ≤ 10) }

@@ -1,4 +1,4 @@
--- What is said of a refusal, from its parts.
+-- What is written about a rejection, in its parts.
 use Rattle.std.proofs.Common.{◌≡◌, ◌∙◌, ℕ, suc, ◌+◌, List, ◌++◌, Bool, true, false, Option, Some, Result, Ok, Err, ap, append_assoc, arith, length, subst, sym}
 use Rattle.std.specs.Prelude.{OnOk, if◌then◌else◌}
 use Rattle.insn.specs.declared.insn.Insn.{Insn}
@@ -20,12 +20,12 @@ use Rattle.explain.specs.Helps.{wanted, help_on}
 use Rattle.explain.specs.Units.{Writing}
 use Rattle.explain.specs.Explained.{sentence_of, about_text, told_text, refused_at, refused_text}
 
--- what follows where a call returns
+-- What follows if a call succeeds.
 pub on_ok : {T E : Type 0} (r : Result T E) (P Q : Type 0) → (P → Q) → OnOk r P → OnOk r Q
 on_ok (Ok x) P Q f h = f h
 on_ok (Err e) P Q f h = tt
 
--- ---- cells of which the next holds something else
+-- ---- cells before one with another content
 
 pub runs_apart : (out middle last : List ℕ) (holds : ℕ → Holding) (first : ℕ) (held next : Holding) (place more less : ℕ) → more ≡ suc less → next ≡ holds place → same_holding held next ≡ false →
     middle ≡ out ++ ended_text first place held → last ≡ middle ++ runs_text holds place next (place + 1) less → last ≡ out ++ runs_text holds first held place more
@@ -69,7 +69,7 @@ about_so written out one two last survey program unit i s asked items shown agai
     subst (λ (o : Option Subject). last ≡ out ++ about_text written survey program unit i s o) found
     (parts ∙ λ k. out ++ ((notes_on written program survey asked (first k) unit ++ number_notes written program survey unit (by k)) ++ help_on program unit (best k)))
 
--- ---- a refusal
+-- ---- a rejection
 
 pub refused_so : (written : Writing) (out last : List ℕ) (survey : KnownByUnit) (program : List Insn) (fault : Option VerifyError) (r : Reason) (unit units : ℕ) (i : Insn) (known : Option AbsState) (s : Option Sentence) →
     fault ≡ Some (At r unit) → Some i ≡ instruction_at program unit → units ≡ length (slots_of program) → known ≡ known_by (survey unit) → s ≡ sentence_of units r unit i known →

@@ -1,4 +1,5 @@
--- A refusal of a call has its sentence: the number, an argument, the board, or what the call accesses.
+-- Each rejection of a call has a sentence: about the number, an argument, the board, or the memory that the call
+-- accesses.
 use Rattle.std.proofs.Common.{◌≡◌, ◌∙◌, ℕ, ◌+◌, ◌-◌, ◌*◌, ◌≤◌, List, [], ◌∷◌, length, arith, Bool, true, false, Option, Some, None, refl, sym, ap, ap₂, subst}
 use Rattle.std.specs.Prelude.{ℤ, pos, not, nat_lt, nat_le, IsSome, option_and_then, if◌then◌else◌}
 use Rattle.std.specs.Option.{option_or}
@@ -34,7 +35,7 @@ use Rattle.explain.proofs.ReachesTold.{Accesses, source_told, write_told}
 
 -- ---- arguments
 
--- a reason has its sentence, of these two
+-- If there is a reason, one of these two sentences exists.
 abbrev Says : Option Sentence → Option Sentence → Option Reason → Type 0
 Says unset other None = Unit {0}
 Says unset other (Some reason.Unset) = IsSome unset

@@ -1,4 +1,4 @@
--- With each help that is said the verifier comes past the refused instruction.
+-- With each edit that is offered as a help, the verifier gets past the rejected instruction.
 use Rattle.std.proofs.Common.{◌≡◌, ◌∙◌, ℕ, ◌+◌, ◌<◌, List, [], ◌∷◌, Bool, true, false, Option, Some, None, length, refl, sym, subst}
 use Rattle.std.specs.Prelude.{◌&&◌, nat_lt, nat_le, if◌then◌else◌}
 use Rattle.std.proofs.lemmas.Bool.{ltb-true}
@@ -17,7 +17,7 @@ use Rattle.explain.specs.Laws.{Mends, HelpsMend}
 
 -- ---- a trial
 
--- a trial is not refused: it passes, or is accepted
+-- The trial gets past the fault: it passes or is accepted.
 abbrev IsGood : Trial → Type 0
 IsGood Refused = ⊥
 IsGood Passes = Unit {0}
@@ -39,7 +39,7 @@ come_through unit (Some (At r at)) e = by_test (nat_lt unit at) e
     by_test true k = absurd cc
     by_test false k = absurd cc
 
--- a trial that is not refused is that of the verifier's one function
+-- A trial that gets past the fault is what `judged` says of the edited program.
 come_so : (program : List Insn) (unit : ℕ) → IsGood (tried_with program unit) → tried_with program unit ≡ comes unit (judged program)
 come_so program unit good = by_test (nat_lt 0 (length (slots_of program)) && nat_le (length (slots_of program)) 4096) good
   where
@@ -59,7 +59,7 @@ of_trial program place unit edit trial e good =
 
 -- ---- the best of two
 
--- a help is one of which so is true
+-- If there is a help, its edit gets the verifier past the fault.
 abbrev Helps : List Insn → ℕ → ℕ → Option Help → Type 0
 Helps program place unit None = Unit {0}
 Helps program place unit (Some help) = Mends program place unit help.0 help.1

@@ -1,4 +1,4 @@
--- A reason of the pass has its sentence, by the instruction.
+-- Each reason that the pass finds has a sentence, for each kind of instruction.
 use Rattle.std.proofs.Common.{◌≡◌, ⊎_elim, ℕ, List, [], ◌∷◌, true, false, Option, Some, None, refl}
 use Rattle.std.specs.Prelude.{is_none, IsSome}
 use Rattle.word.specs.declared.Width.{Width}

@@ -1,4 +1,4 @@
--- A refusal of a load or a store has its sentence.
+-- Each rejection of a load or a store has a sentence.
 use Rattle.std.proofs.Common.{◌≡◌, ℕ, List, [], ◌∷◌, Bool, true, false, Option, Some, None, Result, refl, sym, ap, subst}
 use Rattle.std.specs.Prelude.{ℤ, IsSome, if◌then◌else◌}
 use Rattle.std.specs.Result.{result_err}
@@ -75,7 +75,7 @@ signed_load_told a part dst base offset = by_value (known_at a.registers base) r
 
 -- ---- stores
 
--- a pointer that is stored stands in a register
+-- A pointer that is stored is in a register.
 stored_told : (registers : List AbsVal) (base : ℕ) (source : Operand) → is_pointer (operand_known registers source) ≡ true → IsSome (stored_at registers base (of_operand source))
 stored_told registers base (Register r) h = refl
 stored_told registers base (Immediate n) h = absurd cc

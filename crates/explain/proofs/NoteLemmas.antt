@@ -1,4 +1,4 @@
--- The notes grow with the units, and an instruction starts within the units of all.
+-- The notes grow unit by unit, and each instruction starts at a unit of the program.
 use Rattle.std.proofs.Common.{◌≡◌, ◌∙◌, ℕ, zero, suc, ◌+◌, ◌-◌, ◌<◌, List, [], ◌++◌, Option, Some, None, ap, append_assoc, append-nil, arith, length, refl, subst, sym}
 use Rattle.std.specs.Prelude.{IsSome, slice_get}
 use Rattle.insn.specs.declared.insn.Insn.{Insn}
@@ -13,7 +13,7 @@ use Rattle.explain.specs.Units.{Writing}
 use Rattle.explain.specs.Notes.{note_text, notes_below, origin_notes}
 use Rattle.explain.specs.Origins.{origin_of, from_origin}
 
--- one more note
+-- One more note.
 pub notes_more : (written : Writing) (before out new : List ℕ) (program : List Insn) (survey : KnownByUnit) (asked : Subject) (marked : List UnitMark) (n : ℕ) (insn : Option Insn) (known : Option AbsState) (mark : Option UnitMark) →
     insn ≡ instruction_at program n → known ≡ known_by (survey n) → mark ≡ slice_get marked n → out ≡ before ++ notes_below written program survey asked marked n → new ≡ out ++ note_text written asked n insn known mark →
     new ≡ before ++ notes_below written program survey asked marked (n + 1)
@@ -26,7 +26,7 @@ notes_more written before out new program survey asked marked n insn known mark 
 pub starts_within : (program : List Insn) (unit : ℕ) (i : Insn) → Some i ≡ instruction_at program unit → unit < length (slots_of program)
 starts_within program unit i at = start_inside program unit (subst (λ (o : Option Insn). IsSome o) at refl)
 
--- ---- of what it was computed
+-- ---- the register from which the subject was computed
 
 pub no_origin : (written : Writing) (program : List Insn) (survey : KnownByUnit) (marked : List UnitMark) (unit most : ℕ) → most ≡ 0 → origin_notes most written program survey marked unit ≡ []
 unfolding origin_notes

@@ -1,4 +1,5 @@
--- A refusal of an access has its sentence: where it lies outside, which cell is empty, or that a context is written.
+-- Each rejection of an access has a sentence: it leaves its region, reads a cell that may hold no byte, or stores to
+-- the context.
 use Rattle.std.proofs.Common.{◌≡◌, ℕ, zero, suc, List, Bool, true, false, Option, Some, None, refl, sym, subst}
 use Rattle.std.specs.Prelude.{◌&&◌, ◌==◌, IsSome, option_map, option_and_then, if◌then◌else◌}
 use Rattle.std.specs.Result.{result_err}
@@ -23,7 +24,7 @@ use Rattle.explain.specs.declared.sentence.Sentence.{Sentence}
 use Rattle.explain.specs.Shortfalls.{reach_of, outside, first_empty, empty_in, empty_cell, context_written, shortfall}
 use Rattle.explain.proofs.RegistersTold.{Told}
 
--- ---- what is told through a reach
+-- ---- sentences about an access
 
 told_by : (tells : Reach → AbsVal → Option Sentence) (registers : List AbsVal) (o : Option Reach) (reach : Reach) → o ≡ Some reach → IsSome (tells reach (known_at registers reach.base)) →
     IsSome (option_and_then (λ (x : Reach). tells x (known_at registers x.base)) o)
@@ -32,7 +33,7 @@ told_by tells registers o reach e h = subst (λ (p : Option Reach). IsSome (opti
 outside_told : (reach : Reach) (value : AbsVal) (region : Region) (o : Offsets) → value ≡ Pointer region o → IsSome (outside reach value)
 outside_told reach value region o e = subst (λ (v : AbsVal). IsSome (outside reach v)) (sym e) refl
 
--- an instruction accesses memory by this reach, and what is known of its base is this pointer
+-- An instruction accesses this memory, and its base is known to be this pointer.
 pub record Accesses (i : Insn) (a : AbsState) (reach : Reach) (region : Region) (o : Offsets) : Type 0 where
   pub by : reach_of i a.registers ≡ Some reach
   pub base_is : known_at a.registers reach.base ≡ Pointer region o
@@ -45,7 +46,7 @@ context_told i a reach region o h = told_by context_written a.registers (reach_o
 
 -- ---- cells
 
--- among cells of which not each is a byte there is a first that may be none
+-- If not all cells are bytes, there is a first one that may hold no byte.
 empty_found : (bytes : List Bool) (place n : ℕ) → all_bytes bytes place n ≡ false → IsSome (first_empty bytes place n)
 empty_found bytes place zero h = absurd cc
 empty_found bytes place (suc n) h = by_test (byte_at bytes place) h (λ e. empty_found bytes (suc place) n e)
@@ -87,7 +88,7 @@ write_told i a reach Context o window h = context_told i a reach Context o h
 write_told i a reach Stack o None h = bounds_told i a reach Stack o h
 write_told i a reach Stack o (Some w) h = tt
 
--- ---- what stands before
+-- ---- what is checked before
 
 pub frame_told : (i : Insn) (a : AbsState) (dst : ℕ) (next : Option Reason) → Told i a next → Told i a (frame_or dst next)
 frame_told i a dst next h = by_test (dst == 10)

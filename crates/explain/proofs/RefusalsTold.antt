@@ -1,4 +1,4 @@
--- Each fault that is judged has its sentence.
+-- Each fault that `judged` finds has a sentence.
 use Rattle.std.proofs.Common.{◌≡◌, ℕ, List, length, Option, Some, None, refl, sym, subst}
 use Rattle.std.specs.Prelude.{Ok, is_none, IsSome, option_map, if◌then◌else◌}
 use Rattle.std.specs.Result.{result_ok}
@@ -22,7 +22,7 @@ use Rattle.explain.proofs.RegistersTold.{Told}
 use Rattle.explain.proofs.InstructionsTold.{instruction_told}
 use Rattle.explain.proofs.StructureTold.{IsTold, FaultTold, structure_told}
 
--- what is answered of a fault
+-- What is to be shown of a fault.
 abbrev Answer : List Insn → Reason → ℕ → Type 0
 Answer program r unit = (i : Insn) × (instruction_at program unit ≡ Some i) × IsSome (sentence_of (length (slots_of program)) r unit i (known_by (known_before program unit)))
 
@@ -33,7 +33,7 @@ by_structure program r unit told = (told.insn, told.at, told.says (length (slots
 
 -- ---- a fault of the pass
 
--- none of structure has what an instruction misses
+-- A reason of the pass is not one of the structure, so the sentence is the one about what is missing.
 own_sentence : (units : ℕ) (r : Reason) (unit : ℕ) (i : Insn) (a : AbsState) → IsSome (shortfall r i a) → IsSome (sentence_of units r unit i (Some a))
 own_sentence units reason.BackJump unit i a h = absurd cc
 own_sentence units reason.JumpOut unit i a h = absurd cc

@@ -1,4 +1,4 @@
--- A refusal for what is read has its sentence: one of the registers is unset, or a pointer.
+-- Each rejection for a register that is read has a sentence: a register may be unset, or is a pointer.
 use Rattle.std.proofs.Common.{◌≡◌, ◌⊎◌, inl, inr, ℕ, List, [], ◌∷◌, Bool, true, false, Option, Some, None, refl}
 use Rattle.std.specs.Prelude.{is_none, IsSome, if◌then◌else◌}
 use Rattle.std.specs.Option.{option_or}
@@ -32,12 +32,12 @@ or_second (Some x) b h = refl
 
 -- ---- checks one after another
 
--- a reason that stands has its sentence
+-- If there is this reason, it has a sentence.
 abbrev pub Told : Insn → AbsState → Option Reason → Type 0
 Told i a None = Unit {0}
 Told i a (Some r) = IsSome (shortfall r i a)
 
--- each check that holds has its sentence, where those before it do not hold
+-- If a check gives a reason and those before it do not, the reason has a sentence.
 abbrev pub EachTold : Insn → AbsState → List Check → Type 0
 EachTold i a [] = Unit {0}
 EachTold i a (check ∷ checks) = (check.0 ≡ true → IsSome (shortfall check.1 i a)) × (check.0 ≡ false → EachTold i a checks)
@@ -98,7 +98,7 @@ pub operand_compared : (registers : List AbsVal) (operand : Operand) → is_poin
 operand_compared registers (Register r) h = register_compared registers r h
 operand_compared registers (Immediate n) h = absurd cc
 
--- ---- where a table gives nothing, one is a pointer
+-- ---- if an operation has no result, an operand is a pointer
 
 numbers_computed : (w : Width) (operation : Operation) (m n : NumberSet) → is_none (computed w operation (Number m) (Number n)) ≡ false
 numbers_computed w Move m n = refl
@@ -117,7 +117,7 @@ mapped_pointer f Unset e h = absurd cc
 mapped_pointer f (Number n) e h = absurd cc
 mapped_pointer f (Pointer region o) e h = refl
 
--- ---- what turns one number into another
+-- ---- instructions that map a number to a number
 
 pub one_unset : (registers : List AbsVal) (r : ℕ) → is_unset (known_at registers r) ≡ true → IsSome (first_unset registers (Some r ∷ None ∷ None ∷ []))
 one_unset registers r h = or_first (unset_at registers (Some r)) None (register_unset registers r h)

@@ -1,4 +1,4 @@
--- What a helper takes, from its parts.
+-- What a helper accepts, in the parts of the text.
 use Rattle.std.proofs.Common.{◌≡◌, ◌∙◌, ℕ, List, ◌++◌, ap, append_assoc}
 use Rattle.std.specs.Prelude.{codes, decimal}
 use Rattle.semantics.specs.declared.request.Helper.{Helper}

@@ -1,4 +1,4 @@
--- A fault of structure stands at an instruction, and has its sentence.
+-- Each structural fault is at an instruction, and has a sentence.
 use Rattle.std.proofs.Common.{◌≡◌, ℕ, ◌+◌, List, [], ◌∷◌, ◌++◌, Bool, true, false, Option, Some, None, refl, sym, ap, subst, arith}
 use Rattle.std.specs.Prelude.{ℤ, pos, negsuc, ◌+ℤ◌, IsSome, option_map, if◌then◌else◌}
 use Rattle.insn.specs.declared.insn.Insn.{Insn}
@@ -14,7 +14,7 @@ use Rattle.verify.specs.Structure.{Check, first_fault, target_checks, jump_check
 use Rattle.verify.proofs.Walk.{IsRest, rest_next, rest_first}
 use Rattle.explain.specs.Explained.{target_of, sentence_of}
 
--- a fault stands at an instruction, and has its sentence whatever is known there
+-- The fault is at an instruction, and has a sentence whatever is known there.
 pub record IsTold (program : List Insn) (r : Reason) (unit : ℕ) : Type 0 where
   pub insn : Insn
   pub at : instruction_at program unit ≡ Some insn

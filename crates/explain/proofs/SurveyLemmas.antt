@@ -1,4 +1,4 @@
--- What the verifier's survey tells of a program is what its one function knows there.
+-- What `known_at_units` returns is what the verifier knows at each unit.
 use Rattle.std.proofs.Common.{◌≡◌, ◌∙◌, ℕ, List, [], ◌++◌, length, Bool, true, false, refl, arith, ap, ap₂, Option, None}
 use Rattle.std.specs.Prelude.{nat_lt, slice_get, if◌then◌else◌}
 use Rattle.std.proofs.lemmas.Bool.{ltb-true, ltb-false}
@@ -20,15 +20,15 @@ module _ (written : Writing) (program : List Insn) (states : List (Option AbsSta
       by_test true e = survey.known unit (ltb-true unit (length (slots_of program)) e)
       by_test false e = slice_get_past states unit (omega (arith, survey.room, ltb-false unit (length (slots_of program)) e))
 
-  -- the states of the survey are what is known
+  -- The returned states are what is known.
   same_known : slice_get states ≡ known_in program
   same_known = λ i unit. at_unit unit i
 
-  -- the lines of the survey are those of the program
+  -- The lines made from the returned states are those of the program.
   pub survey_explained : lines_by written (slice_get states) program fault ≡ explained_at written program
   survey_explained = ap₂ (λ (known : KnownByUnit) (why : Option VerifyError). lines_by written known program why) same_known survey.fault_is
 
--- a text that grows by the lines of the survey, from nothing
+-- A text that grows by these lines, from the empty text.
 pub told_whole : (written : Writing) (program : List Insn) (states shown : List (Option AbsState)) (fault : Option VerifyError) (start middle last : List ℕ) → IsSurvey program states fault
     → shown ≡ states → start ≡ [] → middle ≡ start ++ known_lines written program (slice_get shown) fault 0 program → last ≡ middle ++ refused_text written (slice_get shown) program fault
     → last ≡ explained_at written program

@@ -1,5 +1,5 @@
--- The text of what is known of stack cells. For each run of cells that hold the same content from the same units it has
--- [FIRST..LAST], the content and the units (own).
+-- The text of what is known of stack cells, such as `[-8..-5] bytes (from 3)`. Each group of adjacent cells with the
+-- same content, set by the same units, has the offsets of its first and last cell, the content, and these units (own).
 use Rattle.std.specs.Prelude.{ℕ, ℤ, zero, suc, pos, ◌-ℤ◌, Bool, true, false, if◌then◌else◌, List, [], ◌++◌, Option, Some, None, codes}
 use Rattle.std.specs.Fmt.{signed_decimal}
 use Rattle.std.specs.Ordering.{int_eq}
@@ -21,57 +21,59 @@ use Rattle.explain.specs.Values.{region_text}
 use Rattle.explain.specs.Shortfalls.{reach_of}
 use Rattle.explain.specs.Sources.{Holding, same_holding, from_text}
 
--- Writes the content of a cell.
+-- Writes what a stack cell holds.
 abbrev pub content_text : CellContent → List ℕ
 content_text Unset = codes "perhaps unset"
 content_text Byte = codes "bytes"
 content_text (Piece region offset) = codes "pointer: " ++ region_text region ++ codes " " ++ signed_decimal offset
 
--- Writes the last of a run of cells, by offset from the end of the stack, and the closing bracket.
+-- Writes the end of a range of stack cells, such as `..-5]`, or only the bracket if the first is also the last.
 unfoldable pub last_text : ℤ → ℤ → List ℕ
 last_text first last = if int_eq first last then codes "]" else codes ".." ++ signed_decimal last ++ codes "]"
 
--- Writes a run of cells, by the offsets of the first and the last from the end of the stack.
+-- Writes a range of stack cells by the offsets of the first and the last, such as `[-8..-5]`.
 unfoldable pub cells_text : ℤ → ℤ → List ℕ
 cells_text first last = codes "[" ++ signed_decimal first ++ last_text first last
 
--- Writes a run of cells, from place `first` up to and excluding place `end`, and its content.
+-- Writes the stack cells from number `first` up to and excluding `end`, and what they hold. Cell 0 is the lowest.
 abbrev pub run_text : ℕ → ℕ → CellContent → List ℕ
 run_text first end held = cells_text (pos first -ℤ pos 512) (pos end -ℤ pos 513) ++ codes " " ++ content_text held
 
--- Writes a run of cells, its content, and the units that set it.
+-- Writes the stack cells from number `first` up to and excluding `end`, what they hold, and which units set them.
 abbrev pub sourced_text : ℕ → ℕ → Holding → List ℕ
 sourced_text first end held = run_text first end held.0 ++ from_text held.1
 
--- Writes a run of cells that is followed by another.
+-- Writes the stack cells from number `first` up to and excluding `end`, what they hold, which units set them, and a
+-- comma.
 abbrev pub ended_text : ℕ → ℕ → Holding → List ℕ
 ended_text first end held = sourced_text first end held ++ codes ", "
 
--- Writes the runs of cells from `first` on: those up to `place` all hold `held`, and the given number of cells follow.
+-- Writes the stack cells from number `first` on, grouped by what they hold and which units set it. Those up to and
+-- excluding `place` hold `held`, and the given number of cells follow.
 abbrev pub runs_text : (ℕ → Holding) → ℕ → Holding → ℕ → ℕ → List ℕ
 runs_text holds first held place zero = sourced_text first place held
 runs_text holds first held place (suc n) =
     if same_holding held (holds place) then runs_text holds first held (suc place) n
     else ended_text first place held ++ runs_text holds place (holds place) (suc place) n
 
--- Returns the runs of the given number of cells from a place on.
+-- Writes the given number of stack cells from number `place` on, grouped by what they hold and which units set it.
 abbrev pub of_cells : (ℕ → Holding) → ℕ → ℕ → List ℕ
 of_cells holds place zero = []
 of_cells holds place (suc n) = codes " ; " ++ runs_text holds place (holds place) (suc place) n
 
--- Returns the runs of the cells of a window, if there is one.
+-- Writes the cells of a window of the stack, grouped by what they hold and which units set it.
 abbrev pub of_window : (ℕ → Holding) → Option Window → List ℕ
 of_window holds None = []
 of_window holds (Some w) = of_cells holds w.place w.size
 
--- Returns the runs of the cells that an access through this pointer touches, if it is a pointer into the stack.
+-- Writes the stack cells that an access through this value may touch, if it is a pointer into the stack.
 abbrev pub of_reach : (ℕ → Holding) → Reach → AbsVal → List ℕ
 of_reach holds reach (Pointer Stack o) = of_window holds (window_known Stack o.0 o.1 reach.distance reach.size)
 of_reach holds reach value = []
 
 -- ---- the cells that an instruction reads
 
--- Returns whether the helper reads a row of orders from memory.
+-- Returns whether the helper reads orders from memory.
 abbrev pub is_row : Option Helper → Bool
 is_row (Some SendRow) = true
 is_row helper = false
@@ -83,11 +85,11 @@ reads_cells (LoadSigned part dst base offset) = true
 reads_cells (Call number) = is_row (helper_of number)
 reads_cells i = false
 
--- Returns the runs of the cells that an access touches, if there is an access.
+-- Writes the stack cells that an access may touch, if there is an access.
 abbrev pub reached_cells : (ℕ → Holding) → Option Reach → List AbsVal → List ℕ
 reached_cells holds None registers = []
 reached_cells holds (Some reach) registers = of_reach holds reach (known_at registers reach.base)
 
--- Returns the runs of the cells that an instruction reads, where `holds` gives what each cell holds at the unit.
+-- Writes the stack cells that an instruction reads. `holds` says what each cell holds and which units set it.
 abbrev pub cells_read : (ℕ → Holding) → Insn → List AbsVal → List ℕ
 cells_read holds i registers = if reads_cells i then reached_cells holds (reach_of i registers) registers else []

@@ -25,19 +25,18 @@ RefusalsAreTold =
     (i : Insn) × (instruction_at program unit ≡ Some i)
     × IsSome (sentence_of (length (slots_of program)) r unit i (known_by (known_before program unit)))
 
--- States that in the program with this edit, the verifier gets past the rejected instruction. If the trial says so, the
--- program is accepted.
+-- States that in the program with this edit, the verifier gets past the rejected instruction, and that it accepts the
+-- program if the trial says so.
 pub record Mends (program : List Insn) (place unit : ℕ) (edit : Edit) (trial : Trial) : Type 0 where
   pub past : (r : Reason) (at : ℕ) → judged (mended edit place 0 program) ≡ Some (At r at) → unit + grown edit < at
   pub accepted : trial ≡ Accepted → judged (mended edit place 0 program) ≡ None
 
--- States that every edit that is chosen as a help mends the fault.
+-- States that every edit that is offered as a help gets the verifier past the fault.
 abbrev pub HelpsMend : Type 0
 HelpsMend = (program : List Insn) (place unit : ℕ) (edits : List Edit) (edit : Edit) (trial : Trial) →
     best program place unit edits ≡ Some (edit, trial) → Mends program place unit edit trial
 
--- States that the assembler maps the name of each helper to the number of that helper. It has as many names as there
--- are helpers.
+-- States that the assembler knows each helper by its name, and that its list of names has exactly one for each helper.
 pub record NamesAreRead : Type 0 where
   pub read : (helper : Helper) →
       (number : ℤ) × (helper_of number ≡ Some helper) × (number_of (helper_name helper) ≡ Some number)

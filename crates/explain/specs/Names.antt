@@ -5,6 +5,6 @@ use Rattle.asm.specs.Helper.{helpers}
 use Rattle.semantics.specs.contracts.request.Helper.{the_type}
 use Rattle.semantics.specs.declared.request.Helper.{Helper}
 
--- Returns the name of a helper, from the assembler's list, which has the names in the order of the helpers.
+-- Returns the name of a helper, from the assembler's list of names in the order of the helpers.
 unfoldable pub helper_name : Helper → List ℕ
 helper_name helper = slice_index_or helpers (tag_of the_type helper) []

@@ -1,6 +1,6 @@
--- The notes on a rejection: where its subject gets its value. They name the units that set the subject last, on the
--- paths that lead there. They name the tests and copies on these paths from which nothing is known of it, and the
--- numbers from which it was computed (own).
+-- The notes on a rejection: where its subject, the register or stack cell at fault, got its value. They are about the
+-- units that set the subject last on the paths to the fault, about tests and copies there from which the verifier
+-- learns nothing of it, and about the numbers from which it was computed (own).
 use Rattle.std.specs.Prelude.{ℕ, zero, suc, List, [], ◌++◌, Option, Some, None, codes, slice_get}
 use Rattle.insn.specs.declared.insn.Insn.{Insn}
 use Rattle.insn.specs.Program.{instruction_at}
@@ -30,7 +30,7 @@ use Rattle.explain.specs.Origins.{origin_of, from_origin}
 
 -- ---- the subject of a sentence
 
--- Returns the subject of a misuse of a register.
+-- Returns the register that a misuse is about.
 abbrev pub of_misuse : RegisterMisuse → Option Subject
 of_misuse (misuse.Unset r) = Some (subject.Register r)
 of_misuse misuse.Frame = None
@@ -42,20 +42,20 @@ of_misuse (misuse.Stored r value base at) = Some (subject.Register r)
 of_misuse (misuse.NoBase r value) = Some (subject.Register r)
 of_misuse (misuse.Exit value) = Some (subject.Register 0)
 
--- Returns the subject of a misuse of memory.
+-- Returns the register or stack cell that a misuse of memory is about.
 abbrev pub of_access : AccessMisuse → Option Subject
 of_access (access.Outside r region span) = Some (subject.Register r)
 of_access (access.Empty r span cell) = Some (subject.Cell cell)
 of_access (access.Context r value) = Some (subject.Register r)
 
--- Returns the subject of a misfit of a call.
+-- Returns the register that a rejected call is about.
 abbrev pub of_misfit : Misfit → Option Subject
 of_misfit (misfit.Helper number) = None
 of_misfit (misfit.Above called r value most) = Some (subject.Register r)
 of_misfit (misfit.NoPointer called r value) = Some (subject.Register r)
 of_misfit (misfit.Board sum) = None
 
--- Returns the subject of a sentence: the register or the cell that it is about.
+-- Returns the subject of a sentence: the register or stack cell that it is about.
 abbrev pub subject_of : Sentence → Option Subject
 subject_of (sentence.Structure s) = None
 subject_of (sentence.Register m) = of_misuse m
@@ -64,61 +64,63 @@ subject_of (sentence.Call m) = of_misfit m
 
 -- ---- notes
 
--- Writes what is known of the subject.
+-- Writes the name of the subject, and what is known of it.
 abbrev pub found_text : Subject → AbsState → List ℕ
 found_text (subject.Register r) a = named_text r (known_at a.registers r)
 found_text (subject.Cell place) a = run_text place (suc place) (held_at a.stack place)
 
--- Writes the beginning of a note on an instruction.
+-- Writes the beginning of a note: a line break, `note: ` and the instruction.
 abbrev pub noted_text : Writing → ℕ → Insn → List ℕ
 noted_text written unit i = codes "\nnote: " ++ insn_at written unit i
 
--- Returns the verifier's rule that made the value of the subject uncertain, if it is a register.
+-- Writes the verifier's rule by which little is known of the subject after an instruction, if it is a register.
 abbrev pub rule_behind : Subject → Insn → AbsState → List ℕ
 rule_behind (subject.Register r) i a = rule_text i (known_at a.registers r)
 rule_behind (subject.Cell place) i a = []
 
--- Writes the note on an instruction that set the subject: the value that it left.
+-- Writes a note on an instruction that set the subject: what was known of the subject after it.
 abbrev pub set_note : Writing → Subject → ℕ → Insn → AbsState → List ℕ
 set_note written asked unit i a =
     noted_text written unit i ++ codes " -> " ++ found_text asked (left i a) ++ rule_behind asked i (left i a)
 
--- Returns the note that an instruction says nothing about the subject, if there is a reason why it does not.
+-- Writes a note that an instruction says nothing about the register in question, if there is a reason.
 abbrev pub noted_if : Writing → ℕ → Insn → Option Passing → List ℕ
 noted_if written unit i None = []
 noted_if written unit i (Some tells) = noted_text written unit i ++ passing_text tells
 
--- Writes the note on an instruction that tests or copies the subject, if the verifier learns nothing about it there.
+-- Writes a note on an instruction that tests or copies the subject, if the verifier learns nothing about the subject
+-- there.
 abbrev pub passing_note : Writing → Subject → ℕ → Insn → AbsState → List ℕ
 passing_note written (subject.Register r) unit i a = noted_if written unit i (passed_by r i (known_at a.registers r))
 passing_note written (subject.Cell place) unit i a = []
 
--- Returns the note on an instruction, if its mark says that it sets the subject or lets it pass.
+-- Writes a note on an instruction, if it is marked as setting the subject, or as leaving it unchanged on a path to the
+-- fault.
 abbrev pub note_by : Writing → Subject → ℕ → Insn → AbsState → Option UnitMark → List ℕ
 note_by written asked unit i a (Some Sets) = set_note written asked unit i a
 note_by written asked unit i a (Some Open) = passing_note written asked unit i a
 note_by written asked unit i a _ = []
 
--- Writes the note on a unit, if an instruction starts there and a path leads to it.
+-- Writes a note on the instruction at a unit, as its mark says, if an instruction starts there and a path leads to it.
 abbrev pub note_text : Writing → Subject → ℕ → Option Insn → Option AbsState → Option UnitMark → List ℕ
 note_text written asked unit (Some i) (Some a) mark = note_by written asked unit i a mark
 note_text written asked unit i known mark = []
 
--- Writes the note on the entry, if a path leads from there on which nothing sets the subject.
+-- Writes a note on what is known of the subject at the entry, if a path leads from there to the fault on which nothing
+-- sets it.
 abbrev pub entry_note : Subject → Option AbsState → Option UnitMark → List ℕ
 entry_note asked (Some a) (Some Open) = codes "\nnote: at the entry " ++ found_text asked a
 entry_note asked known mark = []
 
--- Returns the notes on the entry and on the units below `n`.
+-- Writes the notes on the entry and on the units below `n`.
 abbrev pub notes_below : Writing → List Insn → KnownByUnit → Subject → List UnitMark → ℕ → List ℕ
 notes_below written program survey asked marked zero = entry_note asked (known_by (survey 0)) (slice_get marked 0)
 notes_below written program survey asked marked (suc n) =
     notes_below written program survey asked marked n
     ++ note_text written asked n (instruction_at program n) (known_by (survey n)) (slice_get marked n)
 
--- Writes the notes on the register from which the subject was computed, if that register's number may be above or below
--- 0 and no rule explains the subject. Before them are the notes on the origin of that register, and so on, at most as
--- deep as the first number says.
+-- Writes notes on the register from which the subject was computed, if that register's number may be above or below 0.
+-- Notes on the register from which that one was computed come before, and so on, for at most the given number of steps.
 unfoldable pub origin_notes : ℕ → Writing → List Insn → KnownByUnit → List UnitMark → ℕ → List ℕ
 origin_notes zero written program survey marked unit = []
 origin_notes (suc n) written program survey marked unit =
@@ -127,12 +129,12 @@ origin_notes (suc n) written program survey marked unit =
     ++ notes_below written program survey (subject.Register r) (marks program survey (subject.Register r) place) place)
     (origin_of program survey marked unit)
 
--- Returns all notes on the subject at a unit, those on its origins first.
+-- Writes all notes on the subject of a fault at a unit. Those on the registers from which it was computed come first.
 abbrev pub notes_on : Writing → List Insn → KnownByUnit → Subject → List UnitMark → ℕ → List ℕ
 notes_on written program survey asked marked unit =
     origin_notes 8 written program survey marked unit ++ notes_below written program survey asked marked unit
 
--- Returns the notes on a number that is not the subject of the sentence, if there is one.
+-- Writes all notes on a number that is not the subject of the sentence, if there is one.
 abbrev pub number_notes : Writing → List Insn → KnownByUnit → ℕ → Option ℕ → List ℕ
 number_notes written program survey unit None = []
 number_notes written program survey unit (Some r) =

@@ -1,4 +1,4 @@
--- The rule by which the verifier knows little of an instruction's result, or learns nothing from a test (own).
+-- The verifier's rule by which it knows little of an instruction's result, or learns nothing from a test (own).
 use Rattle.std.specs.Prelude.{ℕ, ◌-◌, ◌==◌, ◌^◌, ◌&&◌, ◌||◌, nat_lt, Bool, true, false, if◌then◌else◌, List, [], ◌++◌, Option, Some, None, codes, decimal}
 use Rattle.word.specs.declared.Width.{Width}
 use Rattle.word.specs.declared.Width.TheVariants.{W64}
@@ -20,7 +20,7 @@ use Rattle.absval.specs.declared.value.AbsVal.TheVariants.{Unset, Number, Pointe
 
 -- ---- the rule for an instruction that sets a register
 
--- Returns whether a result of the operation that is too large for its width wraps around.
+-- Returns whether a result of the operation may be too large for its width, and then wraps around.
 abbrev pub may_wrap : Operation → Bool
 may_wrap Add = true
 may_wrap Sub = true
@@ -28,11 +28,11 @@ may_wrap Mul = true
 may_wrap ShiftLeft = true
 may_wrap operation = false
 
--- Returns whether the range has every number of this many bits.
+-- Returns whether the range contains every number of this many bits.
 abbrev pub is_all : ℕ → ℕ × ℕ → Bool
 is_all bits p = p.0 == 0 && p.1 == 2 ^ bits - 1
 
--- Returns the rule for a result that is a number, by what is known of it.
+-- Returns the rule by which little is known of a result that is a number.
 abbrev pub number_rule : Insn → NumberSet → List ℕ
 number_rule (Arithmetic w ArithmeticShiftRight dst operand) n =
     codes ": the sign is copied, so numbers on both sides of 2^63 may give any number"
@@ -47,12 +47,12 @@ number_rule (LoadSigned part dst base offset) n =
 number_rule (Load size dst base offset) n = codes ": a load gives any number of its size"
 number_rule i n = []
 
--- Returns the rule for a result of which nothing is known.
+-- Returns the rule by which a register is unset after an instruction.
 abbrev pub unset_rule : Insn → List ℕ
 unset_rule (Call number) = codes ": after a call r1 to r5 are unset"
 unset_rule i = []
 
--- Writes the rule for a result, by what is known of it after the instruction.
+-- Returns the rule by which little is known of a result. The value is what is known of it.
 abbrev pub rule_text : Insn → AbsVal → List ℕ
 rule_text i Unset = unset_rule i
 rule_text i (Number n) = number_rule i n
@@ -60,7 +60,7 @@ rule_text i (Pointer region offsets) = []
 
 -- ---- the rule for a test that says nothing about a register
 
--- Returns whether the condition reads its numbers as signed.
+-- Returns whether the condition compares its numbers as signed.
 abbrev pub is_signed : Condition → Bool
 is_signed SignedAbove = true
 is_signed SignedAtLeast = true
@@ -68,8 +68,8 @@ is_signed SignedBelow = true
 is_signed SignedAtMost = true
 is_signed condition = false
 
--- Returns the exponent of the limit of a test: the verifier learns only about numbers that are known to be below 2 to
--- this power.
+-- Returns the exponent of a test's limit. The verifier learns something about a number from the test only if the number
+-- is known to be below 2 to this power.
 abbrev pub limit_bits : Width → Bool → ℕ
 limit_bits w true = bits_of w - 1
 limit_bits w false = bits_of w
@@ -84,8 +84,8 @@ abbrev pub is_operand : ℕ → Operand → Bool
 is_operand r (Register src) = src == r
 is_operand r (Immediate n) = false
 
--- Returns why an instruction says nothing about `r`: it tests `r`, which may be past the limit of the test, or copies
--- `r`, and a test of the copy says nothing about `r`.
+-- Returns why the verifier learns nothing about `r` from an instruction: it tests `r`, which may be past the limit of
+-- the test, or it copies `r`, and a test of the copy says nothing about `r`.
 abbrev pub passed_by : ℕ → Insn → AbsVal → Option Passing
 passed_by r (Branch w condition dst operand distance) value =
     if (dst == r || is_operand r operand) && is_past (limit_bits w (is_signed condition)) value
@@ -93,11 +93,11 @@ passed_by r (Branch w condition dst operand distance) value =
 passed_by r (Arithmetic W64 Move dst (Register src)) value = if src == r then Some (Copied dst) else None
 passed_by r i value = None
 
--- The reason for a test.
+-- The text that a test says nothing about a register. The exponent of its limit must follow.
 unfoldable pub tested_text : List ℕ
 tested_text = codes ": such a test narrows only numbers that are known to be below 2^"
 
--- Writes the reason for a test or a copy.
+-- Returns the text that a test or a copy says nothing about a register.
 abbrev pub passing_text : Passing → List ℕ
 passing_text (Test bits) = tested_text ++ decimal bits
 passing_text (Copied dst) = codes ": a test of r" ++ decimal dst ++ codes " does not narrow it"

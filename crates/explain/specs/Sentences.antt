@@ -20,26 +20,26 @@ use Rattle.explain.specs.declared.sentence.Misfit.TheVariants as misfit
 use Rattle.explain.specs.Names.{helper_name}
 use Rattle.explain.specs.Values.{span_text, region_text, value_text}
 
--- Writes the unit that a jump leads to.
+-- Writes the unit to which a jump leads.
 unfoldable pub leads_text : ℤ → List ℕ
 leads_text to = codes "the jump leads to unit " ++ signed_decimal to
 
--- Writes the sentence about the structure of a program.
+-- Writes the sentence about the structure of a program: a jump at fault, or a missing exit.
 abbrev pub structure_text : Structure → List ℕ
 structure_text (structure.Back to) = leads_text to ++ codes ": a jump must lead forward"
 structure_text (structure.Out to units) = leads_text to ++ codes ", but the number of units is " ++ decimal units
 structure_text (structure.Inside to) = leads_text to ++ codes ", inside a wide instruction"
 structure_text structure.NoExit = codes "the last instruction is not the exit"
 
--- Writes a part of a region.
+-- Writes a range of offsets in a region.
 unfoldable pub place_text : Region → NumberSpan → List ℕ
 place_text region span = codes "the " ++ region_text region ++ codes " at " ++ span_text (span.low, span.high)
 
--- Writes a register, and the part of a region that may be reached through it.
+-- Writes a register, and the range of offsets in a region that may be reached through it.
 unfoldable pub reached_text : ℕ → Region → NumberSpan → List ℕ
 reached_text r region span = codes "r" ++ decimal r ++ codes " may reach " ++ place_text region span
 
--- Writes a register and the words that it would point. The place to which it would point follows.
+-- Writes the beginning `rN would point` of a sentence.
 unfoldable pub would_text : ℕ → List ℕ
 would_text r = codes "r" ++ decimal r ++ codes " would point"
 
@@ -47,11 +47,11 @@ would_text r = codes "r" ++ decimal r ++ codes " would point"
 abbrev pub named_text : ℕ → AbsVal → List ℕ
 named_text r value = codes "r" ++ decimal r ++ codes " " ++ value_text value
 
--- Writes the limit that an offset passes, decided by the greatest offset.
+-- Writes the limit that offsets pass, of which `high` is the greatest.
 abbrev pub limit_text : ℤ → List ℕ
 limit_text high = if int_le high (pos 65536) then codes "-65536" else codes "65536"
 
--- Writes a part of a region, and the limit that it passes.
+-- Writes a range of offsets in a region, and the limit that they pass.
 unfoldable pub past_text : Region → NumberSpan → List ℕ
 past_text region span = place_text region span ++ codes ", past " ++ limit_text span.high
 
@@ -73,7 +73,7 @@ misuse_text (misuse.Stored r value base at) =
 misuse_text (misuse.NoBase r value) = named_text r value ++ codes ": memory can be reached only by a pointer"
 misuse_text (misuse.Exit value) = named_text 0 value ++ codes ": a program must end with a number in r0"
 
--- Writes the offsets at which a region has bytes.
+-- Writes the first and the last offset of a region.
 abbrev pub extent_text : Region → List ℕ
 extent_text Stack = codes "-512 to -1"
 extent_text Context = codes "0 to 4095"
@@ -86,34 +86,34 @@ access_text (access.Empty r span cell) =
     reached_text r Stack span ++ codes ": no byte is known at " ++ signed_decimal (pos cell -ℤ pos 512)
 access_text (access.Context r value) = named_text r value ++ codes ": the context is read-only"
 
--- Writes the greatest number that a helper accepts as an argument.
+-- Writes the greatest number that a helper accepts in an argument.
 unfoldable pub above_text : Helper → ℕ → List ℕ
 above_text called most = helper_name called ++ (codes " accepts numbers up to " ++ decimal most ++ codes " here")
 
--- Writes that a helper accepts only a pointer as an argument.
+-- Writes that a helper accepts only a pointer in an argument.
 unfoldable pub pointer_text : Helper → List ℕ
 pointer_text called = helper_name called ++ codes " accepts only a pointer here"
 
--- Writes that no helper has a number.
+-- Writes the beginning of the sentence that no helper has a number.
 unfoldable pub no_helper_text : List ℕ
 no_helper_text = codes "no helper has the number "
 
--- The words that say which numbers helpers have.
+-- Writes which numbers the helpers have.
 unfoldable pub numbers_text : List ℕ
 numbers_text = codes ": helpers are numbered 1 to " ++ decimal (length helpers)
 
--- Writes that slot and count together may be too much.
+-- Writes the beginning of the sentence that slot and count together go past the end of the board.
 unfoldable pub together_text : List ℕ
 together_text = codes "the sum of r1 and r3 may be "
 
--- Writes the sentence about a misfit of a call.
+-- Writes the sentence about a call that does not fit its helper.
 abbrev pub misfit_text : Misfit → List ℕ
 misfit_text (misfit.Helper number) = no_helper_text ++ signed_decimal number ++ numbers_text
 misfit_text (misfit.Above called r value most) = named_text r value ++ codes ": " ++ above_text called most
 misfit_text (misfit.NoPointer called r value) = named_text r value ++ codes ": " ++ pointer_text called
 misfit_text (misfit.Board sum) = together_text ++ decimal sum ++ codes ", but the board has 64 words"
 
--- Writes the text of a sentence.
+-- Writes a sentence that says why a program is rejected.
 abbrev pub sentence_text : Sentence → List ℕ
 sentence_text (sentence.Structure s) = structure_text s
 sentence_text (sentence.Register m) = misuse_text m

@@ -1,4 +1,4 @@
--- What a cell of the stack holds at a unit, and the units that set it last on the paths that lead there (own).
+-- What a stack cell holds at a unit, and the units that set it last on the paths to that unit (own).
 use Rattle.std.specs.Prelude.{ℕ, zero, suc, ◌&&◌, Bool, true, false, List, [], ◌∷◌, ◌++◌, codes, decimal, slice_get}
 use Rattle.std.specs.Str.{bytes_eq}
 use Rattle.insn.specs.declared.insn.Insn.{Insn}
@@ -15,7 +15,7 @@ abbrev pub if_set : Bool → ℕ → List ℕ
 if_set true unit = unit ∷ []
 if_set false unit = []
 
--- Returns the units below `n` that set the cell, ascending.
+-- Returns the units below `n` that are marked as setting the cell, ascending.
 abbrev pub set_below : List UnitMark → ℕ → List ℕ
 set_below marks zero = []
 set_below marks (suc n) = set_below marks n ++ if_set (is_set (slice_get marks n)) n
@@ -25,19 +25,19 @@ set_below marks (suc n) = set_below marks n ++ if_set (is_set (slice_get marks n
 abbrev pub sources : List Insn → KnownByUnit → ℕ → ℕ → List ℕ
 sources program survey unit cell = set_below (marks program survey (Cell cell) unit) unit
 
--- What a cell holds, and the units that set it.
+-- What a stack cell holds, and the units that set it.
 abbrev pub Holding : Type 0
 Holding = CellContent × List ℕ
 
--- Returns what a cell holds at a unit, given what is known of the stack there, and the units that set it.
+-- Returns what a stack cell holds at a unit, and the units that set it. `known` is what is known of the stack there.
 abbrev pub holding : List Insn → KnownByUnit → ℕ → Known → ℕ → Holding
 holding program survey unit known cell = (held_at known cell, sources program survey unit cell)
 
--- Returns whether two cells hold the same content from the same units.
+-- Returns whether two cells have the same content, set by the same units.
 abbrev pub same_holding : Holding → Holding → Bool
 same_holding one other = same_content one.0 other.0 && bytes_eq one.1 other.1
 
--- ---- as text: ` (from 5)`, ` (from 5 or 7)`; the first eight units if there are more
+-- ---- as text: ` (from 5)` or ` (from 5 or 7)`, with at most eight units
 
 -- Writes the units after the first, at most `most` of them.
 abbrev pub further_text : ℕ → List ℕ → List ℕ

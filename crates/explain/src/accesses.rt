@@ -1,4 +1,5 @@
-//! Finds what is wrong with a rejected memory access: it leaves its region, reads unset cells, or writes the context.
+//! Finds what is wrong with a rejected memory access: it may leave its region, reads stack cells that may be unset, or
+//! writes the context.
 ghost use Rattle.std.specs.Prelude.{◌≡◌, ◌≤◌, ◌+◌, ◌-◌, IfSome};
 ghost use Rattle.explain.specs.Shortfalls.{outside, first_empty, empty_in, empty_cell, context_written, reached};
 
@@ -8,7 +9,8 @@ use absmem::AbsStack;
 use absval::{AbsVal, Window, window_of};
 use semantics::Region;
 
-/// Returns the sentence about an access that may leave its region. Returns `None` if `value` is not a pointer.
+/// Returns the sentence that says that an access may touch bytes outside its region, or `None` if `value` is not a
+/// pointer. `value` is what is known of the base register.
 pub(crate) fn outside(reach: Reach, value: AbsVal) -> Option<Sentence>
     requires { reach.size ≤ 512 }
     ensures { result ≡ outside reach value }
@@ -20,7 +22,7 @@ pub(crate) fn outside(reach: Reach, value: AbsVal) -> Option<Sentence>
     Some(Sentence::Memory(AccessMisuse::Outside(reach.base, region, span)))
 }
 
-/// Returns the first of `size` cells from `place` on that may hold no byte.
+/// Returns the first of the `size` stack cells from cell `place` on that may hold no byte, or `None` if all hold bytes.
 fn first_empty(stack: &AbsStack, place: usize, size: usize) -> Option<usize>
     requires { place + size ≤ 512 }
     ensures empty { result ≡ first_empty stack.now.bytes place size }
@@ -35,7 +37,8 @@ fn first_empty(stack: &AbsStack, place: usize, size: usize) -> Option<usize>
     first_empty(stack, place + 1, size - 1)
 }
 
-/// Returns the first cell of a window that may hold no byte, if there are a window and such a cell.
+/// Returns the first stack cell of a window that may hold no byte, or `None` if there is no window or all its cells
+/// hold bytes.
 fn empty_in(stack: &AbsStack, window: Option<Window>) -> Option<usize>
     requires { IfSome window (λ w. w.place + w.size ≤ 512) }
     ensures empty { result ≡ empty_in stack.now window }
@@ -45,8 +48,9 @@ fn empty_in(stack: &AbsStack, window: Option<Window>) -> Option<usize>
     first_empty(stack, place, size)
 }
 
-/// Returns the sentence about a read of stack cells, one of which may hold no byte. Returns `None` if `value` is not a
-/// pointer into the stack, or all cells hold bytes.
+/// Returns the sentence that says that an access reads a stack cell that may hold no byte. Returns `None` if `value`,
+/// which is what is known of the base register, is not a pointer into the stack, or if all cells that may be read hold
+/// bytes.
 pub(crate) fn empty_cell(stack: &AbsStack, reach: Reach, value: AbsVal) -> Option<Sentence>
     requires { reach.size ≤ 512 }
     ensures { result ≡ empty_cell stack.now reach value }
@@ -63,7 +67,8 @@ pub(crate) fn empty_cell(stack: &AbsStack, reach: Reach, value: AbsVal) -> Optio
     Some(Sentence::Memory(AccessMisuse::Empty(reach.base, span, cell as u16)))
 }
 
-/// Returns the sentence about a store to the context.
+/// Returns the sentence that says that an access stores to the context, which is read-only. `value` is what is known of
+/// the base register. The result is never `None`.
 pub(crate) fn context_written(reach: Reach, value: AbsVal) -> Option<Sentence>
     ensures { result ≡ context_written reach value }
 {

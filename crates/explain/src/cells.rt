@@ -1,4 +1,5 @@
-//! Writes what is known of the stack cells that an instruction reads.
+//! Writes what is known of the stack cells that an instruction reads, such as `[-8..-5] bytes (from 3)`. A cell is a
+//! byte of the stack, and -1 is the offset of the last one.
 ghost use Rattle.std.specs.Prelude.{◌≡◌, ◌≤◌, ◌+◌, ◌-ℤ◌, ◌++◌, pos, IfSome, OnOk, string_bytes};
 ghost use Rattle.semantics.specs.Call.{helper_of};
 ghost use Rattle.explain.specs.Here.{Stands, held_here};
@@ -17,7 +18,7 @@ use semantics::Region;
 use std::alloc::{AllocError, Global};
 use verify::AbsState;
 
-/// Appends what a cell holds.
+/// Appends what a stack cell holds: `perhaps unset`, `bytes`, or a pointer such as `pointer: context 16`.
 fn put_content(out: &mut String, content: CellContent) -> Result<(), AllocError>
     ensures { OnOk result (string_bytes out.new ≡ string_bytes out.old ++ content_text content) }
 {
@@ -33,7 +34,7 @@ fn put_content(out: &mut String, content: CellContent) -> Result<(), AllocError>
     }
 }
 
-/// Appends the last offset of a run of cells, unless it is the first, and the closing bracket.
+/// Appends the end of a range of cells, such as `..-5]`, or only the bracket if `first` is also the last.
 #[tactic(auto, unfolding(crate::specs::Cells::last_text))]
 fn put_last(out: &mut String, first: i64, last: i64) -> Result<(), AllocError>
     ensures { OnOk result (string_bytes out.new ≡ string_bytes out.old ++ last_text first last) }
@@ -45,7 +46,7 @@ fn put_last(out: &mut String, first: i64, last: i64) -> Result<(), AllocError>
     }
 }
 
-/// Appends a run of stack cells in brackets, by the offsets of its first and its last.
+/// Appends a range of stack cells by the offsets of the first and the last, such as `[-8..-5]`, or `[-8]` for one cell.
 #[tactic(auto, unfolding(crate::specs::Cells::cells_text))]
 fn put_offsets(out: &mut String, first: i64, last: i64) -> Result<(), AllocError>
     ensures { OnOk result (string_bytes out.new ≡ string_bytes out.old ++ cells_text first last) }
@@ -55,7 +56,7 @@ fn put_offsets(out: &mut String, first: i64, last: i64) -> Result<(), AllocError
     put_last(out, first, last)
 }
 
-/// Returns the offset of a cell from the end of the stack.
+/// Returns the offset, from -512 on, of the stack cell with number `place`. Cell 0 is the lowest.
 fn offset_of(place: usize) -> i64
     requires { place ≤ 65536 }
     ensures { result ≡ pos place -ℤ pos 512 }
@@ -63,7 +64,7 @@ fn offset_of(place: usize) -> i64
     place as i64 - 512
 }
 
-/// Returns the offset of the cell before `place` from the end of the stack.
+/// Returns the offset of the stack cell before the one with number `place`. Cell 0 is the lowest, and has offset -512.
 fn offset_before(place: usize) -> i64
     requires { place ≤ 65536 }
     ensures { result ≡ pos place -ℤ pos 513 }
@@ -71,7 +72,7 @@ fn offset_before(place: usize) -> i64
     place as i64 - 513
 }
 
-/// Appends the cells from `first` up to and excluding `end`, and what they hold.
+/// Appends the stack cells from number `first` up to and excluding `end`, and what they hold, such as `[-8..-5] bytes`.
 pub(crate) fn put_run(
     out: &mut String,
     first: usize,
@@ -87,7 +88,8 @@ pub(crate) fn put_run(
     put_content(out, content)
 }
 
-/// Appends the cells from `first` up to and excluding `end`, with their content and the units that set them.
+/// Appends the stack cells from number `first` up to and excluding `end`, what they hold, and which units set them,
+/// such as `[-8..-5] bytes (from 3)`.
 fn put_sourced(out: &mut String, first: usize, end: usize, held: &Held) -> Result<(), AllocError>
     requires first { first ≤ 65536 }
     requires end { end ≤ 65536 }
@@ -98,8 +100,8 @@ fn put_sourced(out: &mut String, first: usize, end: usize, held: &Held) -> Resul
     put_from(out, held.units.as_slice())
 }
 
-/// Appends the cells from `first` up to and excluding `end`, with their content and the units that set them, followed
-/// by a comma.
+/// Appends the stack cells from number `first` up to and excluding `end`, what they hold, and which units set them, and
+/// then a comma, such as `[-8..-5] bytes (from 3), `.
 fn put_ended(out: &mut String, first: usize, end: usize, held: &Held) -> Result<(), AllocError>
     requires first { first ≤ 65536 }
     requires end { end ≤ 65536 }
@@ -110,7 +112,8 @@ fn put_ended(out: &mut String, first: usize, end: usize, held: &Held) -> Result<
     put(out, ", ")
 }
 
-/// Appends the runs of cells from `first` on. The cells up to `place` all hold `held`, and `more` cells follow.
+/// Appends the stack cells from number `first` to `place` + `more` - 1, grouped into runs with the same content, set by
+/// the same units. The cells up to and excluding `place` are known to hold `held`.
 fn put_runs(
     alloc: Global,
     out: &mut String,
@@ -137,7 +140,8 @@ fn put_runs(
     put_runs(alloc, out, here, place, next, place + 1, more - 1)
 }
 
-/// Appends the runs of the `size` cells from `place` on.
+/// Appends the `size` stack cells from number `place` on, grouped into runs with the same content, set by the same
+/// units. Appends nothing if `size` is 0.
 fn put_cells(
     alloc: Global,
     out: &mut String,
@@ -157,7 +161,8 @@ fn put_cells(
     put_runs(alloc, out, here, place, held, place + 1, size - 1)
 }
 
-/// Appends the runs of the cells of a window, if there is one.
+/// Appends the cells of a window of the stack, grouped into runs with the same content, set by the same units. Appends
+/// nothing if there is no window.
 fn put_window(
     alloc: Global,
     out: &mut String,
@@ -174,7 +179,8 @@ fn put_window(
     }
 }
 
-/// Appends the runs of the cells that an access through `value` may touch, if it is a pointer into the stack.
+/// Appends the stack cells that an access may touch, grouped into runs with the same content, set by the same units.
+/// Appends nothing if `value`, which is what is known of the base register, is not a pointer into the stack.
 fn put_reach(
     alloc: Global,
     out: &mut String,
@@ -197,7 +203,7 @@ fn put_reach(
     put_window(alloc, out, here, window)
 }
 
-/// Checks whether the helper with this number reads a row of orders from memory.
+/// Checks whether the helper with this number is `send_row`, which reads orders from the stack.
 fn is_row(number: i32) -> bool
     ensures { result ≡ is_row (helper_of number) }
 {
@@ -207,7 +213,7 @@ fn is_row(number: i32) -> bool
     }
 }
 
-/// Checks whether an instruction reads memory.
+/// Checks whether an instruction reads memory: a load, or a call of `send_row`.
 fn reads_cells(insn: &Insn) -> bool
     ensures { result ≡ reads_cells insn.now }
 {
@@ -218,7 +224,8 @@ fn reads_cells(insn: &Insn) -> bool
     }
 }
 
-/// Appends the runs of the stack cells that an instruction reads.
+/// Appends the stack cells that an instruction reads, grouped into runs with the same content, set by the same units.
+/// Appends nothing if it reads none.
 pub(crate) fn put_cells_read(
     alloc: Global,
     out: &mut String,

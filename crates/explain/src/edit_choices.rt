@@ -1,4 +1,5 @@
-//! Chooses the edits that are tried for a sentence.
+//! Chooses the edits of a rejected program that may mend its fault. Each is then tried, and the best is offered as a
+//! help.
 ghost use Rattle.std.specs.Prelude.{◌≡◌, ◌<◌, ◌≤◌, IfSome, slice_get};
 ghost use Rattle.reaching.specs.Marks.{is_open};
 ghost use Rattle.explain.specs.Helps.{moving_mask, exchanged, copy_of, copy_at, last_copy, by_copy, for_misuse, for_argument, for_misfit, moved_at, for_access, wanted};
@@ -11,20 +12,21 @@ use insn::{Insn, Operand, Program, Reg};
 use reaching::{Edit, UnitMark};
 use word::{Operation, Width};
 
-/// The edits to try: one, or several in order.
+/// The edits to try, in order, for a fault.
 #[derive(Clone, Copy)]
 pub(crate) enum Choice {
-    /// Masks of the register, from wide to narrow, each before the instruction.
+    /// Inserts a mask of the register (an `and` with 63, 31, 15, 7, 3 or 1) before the instruction.
     Mask(Reg),
-    /// The one edit.
+    /// Makes this edit.
     One(Edit),
-    /// The edit or, if it does not help, masks of the register.
+    /// Makes this edit or, if it does not help, inserts a mask of the register before the instruction.
     Either(Edit, Reg),
-    /// The sum of the number in the first register and the pointer in the second, computed in the pointer's register.
+    /// Adds the number in the first register to the pointer in the second, instead of the pointer to the number.
     Exchanged(Reg, Reg),
 }
 
-/// Chooses masks of the number that moves a pointer, if it is in a register.
+/// Chooses to mask the number by which the instruction at `unit` moves a pointer. Returns the unit and the choice, or
+/// `None` if the number is not in a register.
 fn moving_mask(unit: usize, insn: &Insn) -> Option<(usize, Choice)>
     ensures wanted { result ≡ moving_mask unit insn.now }
     ensures below { IfSome result (λ want. want.0 ≤ unit) }
@@ -38,7 +40,8 @@ fn moving_mask(unit: usize, insn: &Insn) -> Option<(usize, Choice)>
     }
 }
 
-/// Chooses the sum of a number and a pointer in the pointer's register, if the instruction adds two registers.
+/// Chooses to add the number to the pointer, if the instruction at `unit` is a 64-bit sum of two registers. Returns the
+/// unit and the choice, and otherwise `None`.
 fn exchanged(unit: usize, insn: &Insn) -> Option<(usize, Choice)>
     ensures wanted { result ≡ exchanged unit insn.now }
     ensures below { IfSome result (λ want. want.0 ≤ unit) }
@@ -55,7 +58,7 @@ fn exchanged(unit: usize, insn: &Insn) -> Option<(usize, Choice)>
     Some((unit, Choice::Exchanged(*dst, *src)))
 }
 
-/// Returns the register to which an instruction copies register `r`, if it does.
+/// Returns the register to which an instruction copies all 64 bits of register `r`, or `None` if it is not such a copy.
 fn copy_of(r: Reg, insn: &Insn) -> Option<Reg>
     ensures { result ≡ copy_of r insn.now }
 {
@@ -75,7 +78,8 @@ fn copy_of(r: Reg, insn: &Insn) -> Option<Reg>
     }
 }
 
-/// Checks whether a unit is open: a path leads from it to the rejected instruction on which the register is not set.
+/// Checks whether a unit is marked as open: a path leads from it to the rejected instruction on which the register in
+/// question is not set.
 fn is_open(marks: &[UnitMark], unit: usize) -> bool
     ensures { result ≡ is_open (slice_get marks.now unit) }
 {
@@ -85,8 +89,8 @@ fn is_open(marks: &[UnitMark], unit: usize) -> bool
     }
 }
 
-/// Returns the register to which the unit's instruction copies `r`. It must be a copy from which a path leads to the
-/// rejected instruction on which `r` is not set.
+/// Returns the register to which the instruction at `unit` copies `r`. Returns `None` if it is not such a copy, or if
+/// no path leads from it to the rejected instruction on which `r` is not set.
 fn copy_at(program: &Program, marks: &[UnitMark], r: Reg, unit: usize) -> Option<Reg>
     ensures { result ≡ copy_at program.now marks.now r unit }
 {
@@ -99,8 +103,8 @@ fn copy_at(program: &Program, marks: &[UnitMark], r: Reg, unit: usize) -> Option
     }
 }
 
-/// Returns the register of the last copy of `r` below `unit` from which a path leads to the rejected instruction on
-/// which `r` is not set.
+/// Returns the register to which `r` was last copied below `unit`. A copy counts only if its unit is marked as open: a
+/// path leads from it to the rejected instruction on which `r` is not set. Returns `None` if there is no such copy.
 #[tactic(auto, using(crate::proofs::CopyLemmas::no_copy, crate::proofs::CopyLemmas::copy_so))]
 fn last_copy(program: &Program, marks: &[UnitMark], r: Reg, unit: usize) -> Option<Reg>
     ensures { result ≡ last_copy program.now marks.now r unit }
@@ -114,8 +118,9 @@ fn last_copy(program: &Program, marks: &[UnitMark], r: Reg, unit: usize) -> Opti
     }
 }
 
-/// Chooses the edits for a sum or difference of a pointer and a number: a copy of the number, if there is one, else a
-/// mask.
+/// Chooses edits for a sum or difference of a pointer and the number in `r`, which may have either sign. If `copy` is a
+/// register with a copy of the number, the edits are to use it or to mask the number. Otherwise the edit is to mask the
+/// number. Returns the unit and the choice, never `None`.
 fn by_copy(unit: usize, insn: &Insn, r: Reg, copy: Option<Reg>) -> Option<(usize, Choice)>
     ensures wanted { result ≡ by_copy unit insn.now r copy }
     ensures below { IfSome result (λ want. want.0 ≤ unit) }
@@ -132,7 +137,8 @@ fn by_copy(unit: usize, insn: &Insn, r: Reg, copy: Option<Reg>) -> Option<(usize
     }
 }
 
-/// Chooses the edits for a misuse of a register.
+/// Chooses edits for a register that the instruction at `unit` misuses. Returns the unit to edit and the choice, or
+/// `None` if no edit is known.
 fn for_misuse(
     program: &Program,
     marks: &[UnitMark],
@@ -160,7 +166,8 @@ fn for_misuse(
     }
 }
 
-/// Chooses the edits for an argument that may be too large: masks, if it is a number.
+/// Chooses to mask an argument of a call at `unit` that may be too large. Returns the unit and the choice, or `None` if
+/// the argument is not a number.
 fn for_argument(unit: usize, r: Reg, value: AbsVal) -> Option<(usize, Choice)>
     ensures wanted { result ≡ for_argument unit r value }
     ensures below { IfSome result (λ want. want.0 ≤ unit) }
@@ -171,7 +178,8 @@ fn for_argument(unit: usize, r: Reg, value: AbsVal) -> Option<(usize, Choice)>
     }
 }
 
-/// Chooses the edits for a call.
+/// Chooses edits for a call at `unit` that does not fit its helper. Returns the unit to edit and the choice, or `None`
+/// if no edit is known.
 fn for_misfit(unit: usize, misfit: Misfit) -> Option<(usize, Choice)>
     ensures wanted { result ≡ for_misfit unit misfit }
     ensures below { IfSome result (λ want. want.0 ≤ unit) }
@@ -182,7 +190,8 @@ fn for_misfit(unit: usize, misfit: Misfit) -> Option<(usize, Choice)>
     }
 }
 
-/// Chooses masks of the number that moves a pointer at a unit, if it is in a register.
+/// Chooses to mask the number by which the instruction at `unit` moves a pointer. Returns the unit and the choice, or
+/// `None` if no instruction starts there or the number is not in a register.
 fn moved_at(program: &Program, unit: usize) -> Option<(usize, Choice)>
     ensures wanted { result ≡ moved_at program.now unit }
     ensures below { IfSome result (λ want. want.0 ≤ unit) }
@@ -193,7 +202,8 @@ fn moved_at(program: &Program, unit: usize) -> Option<(usize, Choice)>
     moving_mask(unit, &insn)
 }
 
-/// Chooses the edits for an access by a pointer that leads too far: masks of the number that moved the pointer last.
+/// Chooses edits for an access at `unit` outside its region: to mask the number that last moved the pointer. Returns
+/// the unit to edit and the choice, or `None` if no edit is known.
 fn for_access(
     program: &Program,
     marks: &[UnitMark],
@@ -209,7 +219,8 @@ fn for_access(
     moved_at(program, last_set(marks, unit)?)
 }
 
-/// Chooses the edits to try for a sentence, and the unit at which they are made.
+/// Chooses the edits to try for the fault at `unit` that `sentence` describes. Returns the unit to edit, at most
+/// `unit`, and the choice. Returns `None` if no edit is known.
 pub(crate) fn wanted(
     program: &Program,
     marks: &[UnitMark],

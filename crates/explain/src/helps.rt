@@ -1,4 +1,5 @@
-//! Tries edits that may mend a fault, and writes the best as a help line.
+//! Tries edits of a rejected program, and writes the best one as a line such as `help: with ... before unit 7 this
+//! passes`.
 ghost use Rattle.std.specs.Prelude.{◌≡◌, ◌<◌, ◌≤◌, ◌++◌, string_bytes, IfOk, IfSome, OnOk};
 ghost use Rattle.explain.specs.Helps.{masks_of, edits_of, accepted_or, better, best, quoted, mask_text, sum_text, edit_text, trial_text, told_help, help_on};
 
@@ -12,14 +13,15 @@ use word::Operation;
 /// An edit, and how far the verifier gets with it.
 type Help = (Edit, Trial);
 
-/// Returns the edit that puts a mask of a number before an instruction.
+/// Returns the edit that inserts a 64-bit `and` of register `r` with `bits` before the instruction.
 fn mask(r: Reg, bits: i32) -> Edit
     ensures { result ≡ Edit.Before Operation.And r (Operand.Immediate bits) }
 {
     Edit::Before(Operation::And, r, Operand::Immediate(bits))
 }
 
-/// Returns the six masks of a number as edits, the widest first.
+/// Returns the six edits that insert a mask of register `r` before the instruction, the widest mask first: 63, 31, 15,
+/// 7, 3, 1.
 fn masks_of(r: Reg) -> [Edit; 6]
     ensures { result ≡ masks_of r }
 {
@@ -33,8 +35,8 @@ fn masks_of(r: Reg) -> [Edit; 6]
     ]
 }
 
-/// Returns a later edit with which the program is accepted. If there is none, returns this edit, with which the
-/// verifier gets past the fault.
+/// Returns the edit of `rest` if the program is accepted with it, and otherwise `edit`, with which the verifier only
+/// gets past the fault.
 fn accepted_or(edit: Edit, rest: Option<Help>) -> Option<Help>
     ensures { result ≡ accepted_or edit rest }
 {
@@ -44,7 +46,9 @@ fn accepted_or(edit: Edit, rest: Option<Help>) -> Option<Help>
     }
 }
 
-/// Chooses between this edit and the best of the later ones, given how far the verifier gets with this one.
+/// Returns the better of `edit`, which had this trial, and the later edit in `rest`. One with which the program is
+/// accepted is better than one with which the verifier only gets past the fault. Of equals the first is better. Returns
+/// `None` if the verifier gets past the fault with neither.
 fn better(edit: Edit, trial: Trial, rest: Option<Help>) -> Option<Help>
     ensures { result ≡ better edit trial rest }
 {
@@ -56,7 +60,8 @@ fn better(edit: Edit, trial: Trial, rest: Option<Help>) -> Option<Help>
 }
 
 /// Tries the edits in order, and returns the first with which the program is accepted. If there is none, returns the
-/// first with which the verifier gets past the fault, if any.
+/// first with which the verifier gets past the fault, or `None` if there is none either. The fault is at `unit`, and
+/// the edits are made at `place`.
 fn best(
     alloc: Global,
     program: &Program,
@@ -85,7 +90,8 @@ fn best(
     Ok(better(*edit, trial, rest))
 }
 
-/// Tries the edits of a choice, and returns the best.
+/// Tries the edits of a choice, and returns the best one, or `None` if the verifier gets past the fault with none. The
+/// fault is at `unit`, and the edits are made at `place`.
 fn best_of(
     alloc: Global,
     program: &Program,
@@ -107,7 +113,7 @@ fn best_of(
     }
 }
 
-/// Returns an edit and the six masks, in the order in which they are tried.
+/// Returns the edits to try for a register: `edit`, and then the six masks of `r`, the widest first.
 fn either(edit: Edit, r: Reg) -> [Edit; 7]
     ensures { result ≡ edits_of (Choice.Either edit r) }
 {
@@ -122,8 +128,8 @@ fn either(edit: Edit, r: Reg) -> [Edit; 7]
     ]
 }
 
-/// Returns the edits that compute the sum of a number and a pointer in the pointer's register: the sum only, the sum
-/// and its copy, and the same with a masked number.
+/// Returns the edits that add a number to a pointer: the sum only, the sum and a copy of it in the number's register,
+/// and then the same with the number masked first.
 fn exchanged(number: Reg, pointer: Reg) -> [Edit; 8]
     ensures { result ≡ edits_of (Choice.Exchanged number pointer) }
 {
@@ -139,7 +145,7 @@ fn exchanged(number: Reg, pointer: Reg) -> [Edit; 8]
     ]
 }
 
-/// Appends an instruction in backquotes.
+/// Appends an instruction in backquotes, such as `` `add r1, 8` ``.
 #[tactic(auto, unfolding(crate::specs::Helps::quoted))]
 fn put_quoted(out: &mut String, insn: &Insn) -> Result<(), AllocError>
     ensures { OnOk result (string_bytes out.new ≡ string_bytes out.old ++ quoted insn.now) }
@@ -149,7 +155,7 @@ fn put_quoted(out: &mut String, insn: &Insn) -> Result<(), AllocError>
     put(out, "`")
 }
 
-/// Appends the instruction that masks a number, if there is a mask.
+/// Appends the instruction that masks a number, in backquotes, and a comma. Appends nothing if there is no mask.
 fn put_mask(out: &mut String, mask: Option<i32>, number: Reg) -> Result<(), AllocError>
     ensures { OnOk result (string_bytes out.new ≡ string_bytes out.old ++ mask_text mask number) }
 {
@@ -163,7 +169,8 @@ fn put_mask(out: &mut String, mask: Option<i32>, number: Reg) -> Result<(), Allo
     put(out, ", ")
 }
 
-/// Appends the instructions that add a number to a pointer, and copy the sum to the number's register.
+/// Appends two instructions in backquotes: the sum of a number and a pointer, in the pointer's register, and a copy of
+/// the sum in the number's register.
 #[tactic(auto, unfolding(crate::specs::Helps::sum_text))]
 fn put_sum(out: &mut String, number: Reg, pointer: Reg) -> Result<(), AllocError>
     ensures { OnOk result (string_bytes out.new ≡ string_bytes out.old ++ sum_text number pointer) }
@@ -179,7 +186,8 @@ fn put_sum(out: &mut String, number: Reg, pointer: Reg) -> Result<(), AllocError
     )
 }
 
-/// Appends the instructions by which a number, masked if there is a mask, moves a pointer.
+/// Appends the instructions that add a number to a pointer, with the number masked first if there is a mask, and the
+/// words `in place of`.
 fn put_moved(
     out: &mut String,
     mask: Option<i32>,
@@ -193,7 +201,8 @@ fn put_moved(
     put(out, " in place of")
 }
 
-/// Appends an edit, up to the unit at which it is made.
+/// Appends the instructions of an edit, and whether they are inserted before a unit or replace it. The unit's number
+/// must follow.
 fn put_edit(out: &mut String, edit: &Edit) -> Result<(), AllocError>
     ensures { OnOk result (string_bytes out.new ≡ string_bytes out.old ++ edit_text edit.now) }
 {
@@ -210,8 +219,8 @@ fn put_edit(out: &mut String, edit: &Edit) -> Result<(), AllocError>
     }
 }
 
-/// Returns the text that says how far the verifier gets with an edit. It is empty if the verifier does not get past the
-/// fault.
+/// Returns the end of a help line, which says how far the verifier gets with the edit. It is empty if the verifier does
+/// not get past the fault.
 fn trial_text(trial: Trial) -> &'static str
     ensures { result.now ≡ trial_text trial }
 {
@@ -222,7 +231,8 @@ fn trial_text(trial: Trial) -> &'static str
     }
 }
 
-/// Appends a help line, if an edit helps.
+/// Appends a line with the edit that helps at unit `place`, and how far the verifier gets with it. Appends nothing if
+/// no edit helps.
 fn put_help_text(out: &mut String, place: usize, help: Option<Help>) -> Result<(), AllocError>
     ensures { OnOk result (string_bytes out.new ≡ string_bytes out.old ++ told_help place help) }
 {
@@ -236,7 +246,8 @@ fn put_help_text(out: &mut String, place: usize, help: Option<Help>) -> Result<(
     put(out, trial_text(trial))
 }
 
-/// Tries the chosen edits, and appends the best as a help line, if one helps.
+/// Tries the chosen edits of a program that is rejected at `unit`, and appends a line with the best one. Appends
+/// nothing if no edit helps.
 pub(crate) fn put_help(
     alloc: Global,
     out: &mut String,

@@ -1,19 +1,19 @@
 //! Laws of explanations. Each function does nothing, and its contract is the law.
 ghost use Rattle.explain.specs.Laws.{RefusalsAreTold, HelpsMend, NamesAreRead};
 
-/// Does nothing. Its contract says that every fault found in a program is at an instruction, and has a sentence.
+/// Does nothing. Its contract says that every fault that the verifier finds is at an instruction, and has a sentence.
 pub fn refusals_are_told()
     ensures { RefusalsAreTold }
 {}
 
-/// Does nothing. Its contract says that with every edit offered as a help, the verifier gets past the rejected
-/// instruction.
+/// Does nothing. Its contract says that if an edit is offered as a help, the verifier gets past the rejected
+/// instruction in the edited program.
 pub fn helps_mend()
     ensures { HelpsMend }
 {}
 
-/// Does nothing. Its contract says that the assembler knows each helper by its name, and has as many names as there are
-/// helpers.
+/// Does nothing. Its contract says that the assembler knows each helper by its name, and that its list of names has
+/// exactly one for each helper.
 pub fn names_are_read()
     ensures { NamesAreRead }
 {}

@@ -1,4 +1,5 @@
-//! Explains what the verifier found: what is known at each unit, and what is missing where a program is rejected.
+//! Explains a program: what the verifier knows at each unit, and why and where it rejects the program. A unit is 8
+//! bytes of bytecode. Most instructions have one unit, and wide ones have two.
 #![tactic(auto)]
 
 mod accesses;

@@ -1,4 +1,4 @@
-//! Writes the explanation of a program: a line for each unit, and the reason for which the program is rejected.
+//! Writes the explanation of a program: a line for each unit, and the reason if the program is rejected.
 ghost use Rattle.std.specs.Prelude.{◌≡◌, ◌≤◌, ◌<◌, ◌++◌, length, option_map, slice_get, string_bytes, IfOk, OnOk};
 ghost use Rattle.insn.specs.Program.{slots_of};
 ghost use Rattle.explain.specs.Notes.{subject_of};
@@ -23,7 +23,8 @@ use reaching::{columns, known_by, left_by, marks, result_of};
 use std::alloc::{AllocError, Global};
 use verify::{AbsState, Reason, VerifyError, known_at_units};
 
-/// Appends a register that an instruction reads, and what is known of it.
+/// Appends the name of a register that an instruction reads, and what is known of it, such as ` ; r1 context 0`.
+/// Appends nothing if there is no register.
 #[inline(never)]
 fn put_read(out: &mut String, state: &AbsState, register: Option<Reg>) -> Result<(), AllocError>
     ensures { OnOk result (string_bytes out.new ≡ string_bytes out.old ++ read_text state.now.registers register) }
@@ -35,7 +36,7 @@ fn put_read(out: &mut String, state: &AbsState, register: Option<Reg>) -> Result
     put_named(out, r, state.known(r))
 }
 
-/// Appends the registers that an instruction reads, and what is known of each.
+/// Appends the names of the registers that an instruction reads, and what is known of each, such as ` ; r1 context 0`.
 fn put_reads(out: &mut String, state: &AbsState, read: RegisterTriple) -> Result<(), AllocError>
     ensures { OnOk result (string_bytes out.new ≡ string_bytes out.old ++ reads_text state.now.registers read) }
 {
@@ -45,7 +46,8 @@ fn put_reads(out: &mut String, state: &AbsState, read: RegisterTriple) -> Result
     put_read(out, state, third)
 }
 
-/// Appends what is known of the registers and cells that an instruction reads, or that no path leads to it.
+/// Appends what is known of the registers and stack cells that the instruction at `unit` reads. If `state` is `None`,
+/// no path leads to it, and the text says so.
 fn put_known(
     alloc: Global,
     out: &mut String,
@@ -72,7 +74,7 @@ fn put_known(
     put_cells_read(alloc, out, &here, insn, state)
 }
 
-/// Appends a unit and its instruction, on a new line.
+/// Appends a line break, the number of a unit, its place in the source text, and its instruction.
 fn put_place(
     out: &mut String,
     written: &UnitTexts<'_>,
@@ -86,7 +88,7 @@ fn put_place(
     put_insn_at(out, written, unit, insn)
 }
 
-/// Appends the line of a unit, without the result of its instruction.
+/// Appends the line of a unit: its instruction, and what is known of the registers and stack cells that it reads.
 fn put_unit(
     alloc: Global,
     out: &mut String,
@@ -106,7 +108,8 @@ fn put_unit(
     put_known(alloc, out, surveyed, unit, insn, state)
 }
 
-/// Appends the register that an instruction sets, and what is known of it afterwards.
+/// Appends the register that an instruction sets, and what is known of it afterwards, such as ` -> r0 0 to 255`.
+/// Appends nothing if it sets none. `left` is the state after the instruction.
 fn put_result(out: &mut String, register: Option<Reg>, left: &AbsState) -> Result<(), AllocError>
     ensures { OnOk result (string_bytes out.new ≡ string_bytes out.old ++ result_text register left.now) }
 {
@@ -117,7 +120,8 @@ fn put_result(out: &mut String, register: Option<Reg>, left: &AbsState) -> Resul
     put_named(out, r, left.known(r))
 }
 
-/// Appends what is known of the result of an instruction, if a path leads to it.
+/// Appends the register that an instruction sets, and what is known of it afterwards. Appends nothing if it sets none,
+/// or no path leads to it. `state` is the state before the instruction.
 fn put_given(out: &mut String, insn: &Insn, state: Option<&AbsState>) -> Result<(), AllocError>
     ensures { OnOk result (string_bytes out.new ≡ string_bytes out.old
         ++ given_text insn.now (option_map (λ a. a.now) state.entry)) }
@@ -131,7 +135,7 @@ fn put_given(out: &mut String, insn: &Insn, state: Option<&AbsState>) -> Result<
     }
 }
 
-/// Checks whether the fault is at this unit.
+/// Checks whether the verifier found the fault at this unit.
 fn is_at(fault: &Option<VerifyError>, unit: usize) -> bool
     ensures { result ≡ is_at fault.now unit }
 {
@@ -141,7 +145,8 @@ fn is_at(fault: &Option<VerifyError>, unit: usize) -> bool
     }
 }
 
-/// Appends what is known of the result of an instruction, unless the fault is at its unit.
+/// Appends the register that the instruction at `unit` sets, and what is known of it afterwards. Appends nothing if the
+/// fault is at this unit.
 fn put_behind(
     out: &mut String,
     fault: &Option<VerifyError>,
@@ -158,7 +163,8 @@ fn put_behind(
     put_given(out, insn, state.as_ref())
 }
 
-/// Appends the line of a unit, with the result of its instruction.
+/// Appends the line of a unit: its instruction, what is known of the registers and stack cells that it reads, and what
+/// is known of its result.
 fn put_line(
     alloc: Global,
     out: &mut String,
@@ -179,7 +185,7 @@ fn put_line(
     put_behind(out, fault, unit, insn, state)
 }
 
-/// Appends the line of a unit, if the verifier's pass reaches it.
+/// Appends the line of a unit. Appends nothing if the verifier stopped at a fault before it.
 fn put_reached(
     alloc: Global,
     out: &mut String,
@@ -200,7 +206,7 @@ fn put_reached(
     }
 }
 
-/// Appends the lines of the units that the verifier's pass reaches.
+/// Appends a line for each unit that the verifier reached before it stopped or came to the end.
 fn put_units(
     alloc: Global,
     out: &mut String,
@@ -223,8 +229,8 @@ fn put_units(
     Ok(())
 }
 
-/// Returns the unit that a jump leads to, which may be outside the program. Returns `None` if the instruction is not a
-/// jump.
+/// Returns the unit to which a jump at `unit` leads. It may be outside the program, and even negative. Returns `None`
+/// if the instruction is not a jump.
 fn target_of(unit: usize, insn: &Insn) -> Option<i64>
     requires { unit < 4096 }
     ensures { result ≡ target_of unit insn.now }
@@ -238,7 +244,8 @@ fn target_of(unit: usize, insn: &Insn) -> Option<i64>
     Some(unit as i64 + 1 + distance)
 }
 
-/// Returns the sentence that says why an instruction is rejected, in a program of `units` units.
+/// Returns the sentence that says why the instruction at `unit` is rejected. Returns `None` if the reason does not fit
+/// the instruction or its state. `units` is the program's number of units.
 fn sentence_of(
     units: usize,
     reason: Reason,
@@ -259,7 +266,7 @@ fn sentence_of(
     Some(Sentence::Structure(structure))
 }
 
-/// Appends the line with an instruction and its sentence.
+/// Appends a line with the rejected instruction and the sentence that says why it is rejected.
 fn put_sentence(
     out: &mut String,
     written: &UnitTexts<'_>,
@@ -275,7 +282,8 @@ fn put_sentence(
     put_sentence_text(out, sentence)
 }
 
-/// Appends the notes on where the subject of a sentence gets its value, and an edit that mends the fault.
+/// Appends notes on where the subject of a sentence, a register or stack cell, got its value, and a line with an edit
+/// that helps, if one is found. Appends nothing if the sentence has no subject.
 fn put_about(
     alloc: Global,
     out: &mut String,
@@ -312,7 +320,8 @@ fn put_about(
     put_help(alloc, out, program, unit, choice)
 }
 
-/// Appends the line with an instruction and its sentence, if there is one, and the notes and the help about it.
+/// Appends a line with the rejected instruction and why it is rejected, then notes on where the values at fault came
+/// from, and an edit that helps, if one is found. Appends nothing if there is no sentence.
 fn put_told(
     alloc: Global,
     out: &mut String,
@@ -335,7 +344,7 @@ fn put_told(
     put_about(alloc, out, written, program, states, unit, insn, sentence)
 }
 
-/// Appends why a program is rejected, if it is.
+/// Appends why a program is rejected, with notes and a help. Appends nothing if the program is accepted.
 fn put_refused(
     alloc: Global,
     out: &mut String,
@@ -357,7 +366,8 @@ fn put_refused(
     put_told(alloc, out, written, program, states, unit, &insn, &sentence)
 }
 
-/// Appends the lines of a program's units, from what is known at each unit.
+/// Appends a line for each unit that the verifier reached. `states` has what it knew at each, or `None` where no path
+/// leads.
 fn put_lines(
     alloc: Global,
     out: &mut String,
@@ -382,9 +392,12 @@ fn put_lines(
     put_units(alloc, out, written, &surveyed, fault, insns)
 }
 
-/// Explains a program: what is known at each unit that the verifier reaches, what each instruction results in and, if
-/// the program is rejected, why. Units and instructions are printed as `written` says. Each line begins with a line
-/// break. Fails with `AllocError` if memory runs out.
+/// Explains a program: what is known at each unit that the verifier reaches, what results from each instruction and, if
+/// the program is rejected, why. `written` has the text of each unit in the source. Each line begins with a line break.
+///
+/// # Errors
+///
+/// `AllocError` if out of memory.
 pub fn explanation_at(
     alloc: Global,
     program: &Program,
@@ -400,8 +413,12 @@ pub fn explanation_at(
     Ok(out)
 }
 
-/// Explains a program as [`explanation_at`] does, where it is not known how its units were written. Fails with
-/// `AllocError` if memory runs out.
+/// Explains a program as [`explanation_at`] does, but prints the instructions from the bytecode and without their
+/// places in the source text.
+///
+/// # Errors
+///
+/// `AllocError` if out of memory.
 pub fn explanation(alloc: Global, program: &Program) -> Result<String, AllocError>
     ensures { IfOk result (λ text. string_bytes text ≡ explained program.now) }
 {

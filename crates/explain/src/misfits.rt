@@ -11,7 +11,7 @@ use helper::{Argument, BOARD_WORDS, Helper};
 use insn::{Insn, Reg};
 use verify::AbsState;
 
-/// Returns the sentence about an argument that must be a number up to `most`, if it may be greater.
+/// Returns the sentence that says that the argument in register `r` may be greater than `most`, or `None` if it cannot.
 fn above(helper: Helper, r: Reg, numbers: NumberSet, most: u64) -> Option<Sentence>
     ensures { result ≡ misfit_of helper r (Some (most + 1)) (AbsVal.Number numbers) }
 {
@@ -22,8 +22,8 @@ fn above(helper: Helper, r: Reg, numbers: NumberSet, most: u64) -> Option<Senten
     Some(Sentence::Call(Misfit::Above(helper, r, value, most)))
 }
 
-/// Returns the sentence about an argument, if it does not fit. It must be a number up to the helper's limit or, if
-/// there is no limit, a pointer.
+/// Returns the sentence that says that the argument in register `r` is rejected, or `None` if it is accepted. The
+/// helper accepts a number up to its limit or, if it has no limit, a pointer. `value` is what is known of the argument.
 fn misfit_of(helper: Helper, r: Reg, argument: Argument, value: AbsVal) -> Option<Sentence>
     ensures { result ≡ misfit_of helper r (bound_of argument) value }
 {
@@ -35,7 +35,8 @@ fn misfit_of(helper: Helper, r: Reg, argument: Argument, value: AbsVal) -> Optio
     }
 }
 
-/// Returns the sentence about the argument in register `r`, if the helper has one there and it does not fit.
+/// Returns the sentence that says that the argument in register `r` is rejected. Returns `None` if the helper accepts
+/// it, or takes no argument there.
 fn misfit_at(
     helper: Helper,
     state: &AbsState,
@@ -48,7 +49,8 @@ fn misfit_at(
     misfit_of(helper, r, argument, state.known(r))
 }
 
-/// Returns the sentence about slot and count together. Returns `None` if either of them is not a number up to 64.
+/// Returns the sentence that says that the words from a slot on may go past the end of the board, which has 64.
+/// `counts` is what is known of their number. Returns `None` if slot or count is not known to be a number up to 64.
 fn past_board(slots: AbsVal, counts: AbsVal) -> Option<Sentence>
     ensures { result ≡ past_board slots counts }
 {
@@ -65,7 +67,8 @@ fn past_board(slots: AbsVal, counts: AbsVal) -> Option<Sentence>
     Some(Sentence::Call(Misfit::Board(sum)))
 }
 
-/// Returns the sentence about the first argument that does not fit, or about slot and count together.
+/// Returns the sentence that says that the arguments of a call are rejected: the first that the helper does not accept
+/// or, if it accepts each, that slot and count together go past the end of the board.
 fn arguments_misfit(
     helper: Helper,
     state: &AbsState,
@@ -87,7 +90,8 @@ fn arguments_misfit(
     past_board(slots, state.known(numbered(3)))
 }
 
-/// Returns the sentence about the arguments of a call. Returns `None` if the instruction is not a call of a helper.
+/// Returns the sentence that says that a helper does not accept the arguments of a call. Returns `None` if the
+/// instruction is not a call of a helper.
 pub(crate) fn call_misfit(insn: &Insn, state: &AbsState) -> Option<Sentence>
     ensures { result ≡ call_misfit insn.now state.now.registers }
 {
@@ -98,7 +102,8 @@ pub(crate) fn call_misfit(insn: &Insn, state: &AbsState) -> Option<Sentence>
     arguments_misfit(helper, state, helper::arguments(helper))
 }
 
-/// Returns the sentence about a call of a number that no helper has. Returns `None` if the instruction is not a call.
+/// Returns the sentence that says that no helper has the number that an instruction calls. Returns `None` if the
+/// instruction is not a call.
 pub(crate) fn no_helper(insn: &Insn) -> Option<Sentence>
     ensures { result ≡ no_helper insn.now }
 {

@@ -1,4 +1,5 @@
-//! Finds the registers that a rejected instruction misuses: unset ones, and pointers used in ways that are not allowed.
+//! Finds the register that a rejected instruction misuses: one that may be unset, or a pointer used in a way that is
+//! not allowed.
 ghost use Rattle.std.specs.Prelude.{◌≡◌, Some};
 ghost use Rattle.std.specs.Option.{option_or};
 ghost use Rattle.insn.specs.declared.insn.Insn.{Insn};
@@ -13,7 +14,7 @@ use helper::reads::{RegisterTriple, of_operand, read_by};
 use insn::{Insn, Operand, Reg};
 use verify::AbsState;
 
-/// Returns the sentence about an unset register, if there is a register and it may be unset.
+/// Returns the sentence that says that a register may be unset. Returns `None` if it is set, or there is no register.
 fn unset_at(state: &AbsState, register: Option<Reg>) -> Option<Sentence>
     ensures { result ≡ unset_at state.now.registers register }
 {
@@ -24,7 +25,8 @@ fn unset_at(state: &AbsState, register: Option<Reg>) -> Option<Sentence>
     }
 }
 
-/// Returns the sentence about the first of the registers that may be unset.
+/// Returns the sentence that says that a register may be unset, for the first such register in `read`, or `None` if all
+/// are set.
 pub(crate) fn first_unset(state: &AbsState, read: RegisterTriple) -> Option<Sentence>
     ensures { result ≡ first_unset state.now.registers read }
 {
@@ -38,7 +40,8 @@ pub(crate) fn first_unset(state: &AbsState, read: RegisterTriple) -> Option<Sent
     unset_at(state, third)
 }
 
-/// Returns the sentence about a computation with a pointer, if there is a register and it holds one.
+/// Returns the sentence that says that an instruction must not compute with a pointer. Returns `None` if the register
+/// holds no pointer, or there is no register.
 fn pointer_at(state: &AbsState, register: Option<Reg>) -> Option<Sentence>
     ensures { result ≡ pointer_at state.now.registers register }
 {
@@ -50,7 +53,8 @@ fn pointer_at(state: &AbsState, register: Option<Reg>) -> Option<Sentence>
     }
 }
 
-/// Returns the sentence about the first of the registers that holds a pointer.
+/// Returns the sentence that says that an instruction must not compute with a pointer, for the first register in `read`
+/// that holds one. Returns `None` if none does.
 fn first_pointer(state: &AbsState, read: RegisterTriple) -> Option<Sentence>
     ensures { result ≡ first_pointer state.now.registers read }
 {
@@ -64,7 +68,8 @@ fn first_pointer(state: &AbsState, read: RegisterTriple) -> Option<Sentence>
     pointer_at(state, third)
 }
 
-/// Returns the sentence about a comparison of a pointer, if there is a register and it holds one.
+/// Returns the sentence that says that a pointer cannot be compared. Returns `None` if the register holds no pointer,
+/// or there is no register.
 fn compared_at(state: &AbsState, register: Option<Reg>) -> Option<Sentence>
     ensures { result ≡ compared_at state.now.registers register }
 {
@@ -76,7 +81,8 @@ fn compared_at(state: &AbsState, register: Option<Reg>) -> Option<Sentence>
     }
 }
 
-/// Returns the sentence about the first of two compared operands that is a pointer.
+/// Returns the sentence that says that a pointer cannot be compared, for the first of two compared operands that is a
+/// pointer. Returns `None` if neither is.
 fn compared(state: &AbsState, dst: Reg, operand: Operand) -> Option<Sentence>
     ensures { result ≡ option_or (compared_at state.now.registers (Some dst))
         (compared_at state.now.registers (of_operand operand)) }
@@ -87,7 +93,8 @@ fn compared(state: &AbsState, dst: Reg, operand: Operand) -> Option<Sentence>
     compared_at(state, of_operand(operand))
 }
 
-/// Returns the sentence about a load or store whose base register does not hold a pointer. There always is one.
+/// Returns the sentence that says that the base register of a load or store holds no pointer. The result is never
+/// `None`.
 fn no_base(state: &AbsState, base: Reg) -> Option<Sentence>
     ensures { result ≡ no_base state.now.registers base }
 {
@@ -95,7 +102,8 @@ fn no_base(state: &AbsState, base: Reg) -> Option<Sentence>
     Some(Sentence::Register(RegisterMisuse::NoBase(base, value)))
 }
 
-/// Returns the sentence about a pointer that is not stored as a whole.
+/// Returns the sentence that says that a pointer is not stored as a whole: it needs 8 bytes, one offset and one
+/// address. Returns `None` if what is stored is not in a register.
 fn stored_at(state: &AbsState, base: Reg, source: Option<Reg>) -> Option<Sentence>
     ensures { result ≡ stored_at state.now.registers base source }
 {
@@ -105,7 +113,8 @@ fn stored_at(state: &AbsState, base: Reg, source: Option<Reg>) -> Option<Sentenc
     Some(Sentence::Register(RegisterMisuse::Stored(r, value, base, at)))
 }
 
-/// Returns the sentence about a store: of a pointer in part, or with a base that is not a pointer.
+/// Returns the sentence that says that a store misuses a pointer: the base register holds none, or the stored pointer
+/// is not stored as a whole. Returns `None` if the base is a pointer and a constant is stored.
 fn store_misuse(state: &AbsState, base: Reg, source: Option<Reg>) -> Option<Sentence>
     ensures { result ≡ store_misuse state.now.registers base source (known_at state.now.registers base) }
 {
@@ -115,7 +124,7 @@ fn store_misuse(state: &AbsState, base: Reg, source: Option<Reg>) -> Option<Sent
     }
 }
 
-/// Returns the sentence about an instruction that misuses a pointer.
+/// Returns the sentence that says that an instruction misuses a pointer. Returns `None` if it does not.
 pub(crate) fn pointer_misuse(insn: &Insn, state: &AbsState) -> Option<Sentence>
     ensures { result ≡ pointer_misuse insn.now state.now.registers }
 {

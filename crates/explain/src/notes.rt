@@ -1,4 +1,4 @@
-//! Writes the notes on a rejection: where its subject, a register or a cell, gets its value.
+//! Writes the notes on a rejection: where its subject, the register or stack cell that is at fault, got its value.
 ghost use Rattle.std.specs.Prelude.{◌≡◌, ◌<◌, ◌≤◌, ◌++◌, length, option_map, slice_get, string_bytes, OnOk};
 ghost use Rattle.explain.specs.Notes.{of_misuse, of_access, of_misfit, subject_of, found_text, noted_text, rule_behind, set_note, noted_if, passing_note, note_by, note_text, entry_note, notes_below, origin_notes, notes_on, number_notes};
 ghost use Rattle.explain.specs.Units.{written_in};
@@ -17,7 +17,7 @@ use reaching::{Subject, UnitMark, held_at, known_by, left_by, marks};
 use std::alloc::{AllocError, Global};
 use verify::AbsState;
 
-/// Returns the register that a misuse is about.
+/// Returns the register that a misuse is about, or `None` if it is about no register's value.
 fn of_misuse(misuse: RegisterMisuse) -> Option<Subject>
     ensures { result ≡ of_misuse misuse }
 {
@@ -34,7 +34,7 @@ fn of_misuse(misuse: RegisterMisuse) -> Option<Subject>
     }
 }
 
-/// Returns the register or the cell that a misuse of memory is about.
+/// Returns the register or stack cell that a misuse of memory is about. The result is never `None`.
 fn of_access(access: AccessMisuse) -> Option<Subject>
     ensures { result ≡ of_access access }
 {
@@ -44,7 +44,7 @@ fn of_access(access: AccessMisuse) -> Option<Subject>
     }
 }
 
-/// Returns the register that a misfit of a call is about.
+/// Returns the register that a rejected call is about, or `None` if it is about no single register.
 fn of_misfit(misfit: Misfit) -> Option<Subject>
     ensures { result ≡ of_misfit misfit }
 {
@@ -54,7 +54,7 @@ fn of_misfit(misfit: Misfit) -> Option<Subject>
     }
 }
 
-/// Returns the subject of a sentence: the register or the cell that it is about.
+/// Returns the subject of a sentence: the register or stack cell that it is about. Returns `None` if it has none.
 pub(crate) fn subject_of(sentence: &Sentence) -> Option<Subject>
     ensures { result ≡ subject_of sentence.now }
 {
@@ -66,7 +66,7 @@ pub(crate) fn subject_of(sentence: &Sentence) -> Option<Subject>
     }
 }
 
-/// Appends what is known of the subject.
+/// Appends the name of the subject, a register or stack cell, and what is known of it.
 #[inline(never)]
 fn put_found(out: &mut String, asked: &Subject, state: &AbsState) -> Result<(), AllocError>
     ensures { OnOk result (string_bytes out.new ≡ string_bytes out.old ++ found_text asked.now state.now) }
@@ -80,7 +80,7 @@ fn put_found(out: &mut String, asked: &Subject, state: &AbsState) -> Result<(), 
     }
 }
 
-/// Appends the beginning of a note on an instruction.
+/// Appends a line break, `note: `, the number of a unit, its place in the source text, and its instruction.
 fn put_noted(
     out: &mut String,
     written: &UnitTexts<'_>,
@@ -94,7 +94,9 @@ fn put_noted(
     put_insn_at(out, written, unit, insn)
 }
 
-/// Appends the verifier's rule that made the result of an instruction uncertain, if the subject is a register.
+/// Appends the verifier's rule by which little is known of the result of an instruction, such as `: after a call r1 to
+/// r5 are unset`. Appends nothing for a stack cell, or if there is no such rule. `left` is the state after the
+/// instruction.
 fn put_rule(
     out: &mut String,
     asked: &Subject,
@@ -109,7 +111,8 @@ fn put_rule(
     }
 }
 
-/// Appends the note on an instruction that set the subject: the value that it left.
+/// Appends a note on the instruction at `unit`, which set the subject, a register or stack cell: what was known of the
+/// subject after it, and the verifier's rule if little was known. `state` is the state before the instruction.
 fn put_set(
     out: &mut String,
     written: &UnitTexts<'_>,
@@ -128,7 +131,8 @@ fn put_set(
     put_rule(out, asked, insn, &left)
 }
 
-/// Appends the note that an instruction says nothing about the subject, if there is a reason why it does not.
+/// Appends a note on the instruction at `unit`: it says nothing about the register in question, for the reason `tells`.
+/// Appends nothing if there is no reason.
 fn put_if(
     out: &mut String,
     written: &UnitTexts<'_>,
@@ -146,7 +150,8 @@ fn put_if(
     put_tells(out, tells)
 }
 
-/// Appends the note on an instruction that tests or copies the subject, if the verifier learns nothing about it there.
+/// Appends a note on the instruction at `unit`, if it tests or copies the subject and the verifier learns nothing about
+/// the subject there. Appends nothing if the subject is a stack cell.
 fn put_passing(
     out: &mut String,
     written: &UnitTexts<'_>,
@@ -170,7 +175,8 @@ fn put_passing(
     }
 }
 
-/// Appends the note on an instruction, if its mark says that it sets the subject or lets it pass.
+/// Appends a note on the instruction at `unit`, if it is marked as setting the subject, or as leaving it unchanged on a
+/// path to the rejected instruction. The subject is a register or stack cell.
 fn put_note(
     out: &mut String,
     written: &UnitTexts<'_>,
@@ -190,7 +196,8 @@ fn put_note(
     }
 }
 
-/// Appends the note on a unit, if an instruction starts there and a path leads to it.
+/// Appends a note on the instruction at `unit`, as its mark says. Appends nothing if no instruction starts there, or no
+/// path leads to it.
 fn put_note_at(
     out: &mut String,
     written: &UnitTexts<'_>,
@@ -212,7 +219,8 @@ fn put_note_at(
     put_note(out, written, asked, unit, &insn, state, mark)
 }
 
-/// Appends what is known of the subject at the entry, if a path leads from there on which it is not set.
+/// Appends a note on what is known of the subject at the program's entry. Appends nothing unless the entry is marked as
+/// open: a path leads from it to the rejected instruction on which the subject is not set.
 fn put_entry(
     out: &mut String,
     asked: &Subject,
@@ -232,14 +240,14 @@ fn put_entry(
     put_found(out, asked, state)
 }
 
-/// Returns the mark of a unit, if it has one.
+/// Returns the mark of a unit, or `None` if it has none.
 fn mark_at(marks: &[UnitMark], unit: usize) -> Option<UnitMark>
     ensures { result ≡ slice_get marks.now unit }
 {
     marks.get(unit).copied()
 }
 
-/// Appends the notes on the entry and on the units below `unit`.
+/// Appends the notes on the entry and on the units below `unit`, ascending.
 fn put_notes_below(
     out: &mut String,
     written: &UnitTexts<'_>,
@@ -269,7 +277,8 @@ fn put_notes_below(
     Ok(())
 }
 
-/// Appends the notes on the numbers from which the subject was computed, the deepest first, at most `most` levels deep.
+/// Appends the notes on the registers from which the subject was computed, at most `most` steps back. The earliest step
+/// comes first.
 fn put_origin_notes(
     alloc: Global,
     out: &mut String,
@@ -306,7 +315,8 @@ fn put_origin_notes(
     put_notes_below(out, written, program, states, &asked, shown, origin.1)
 }
 
-/// Appends all notes on the subject at a unit, those on the numbers from which it was computed first.
+/// Appends all notes on the subject of a rejection at `unit`. Those on the registers from which it was computed, at
+/// most 8 steps back, come first.
 pub(crate) fn put_notes_on(
     alloc: Global,
     out: &mut String,
@@ -325,7 +335,7 @@ pub(crate) fn put_notes_on(
     put_notes_below(out, written, program, states, asked, marked, unit)
 }
 
-/// Appends the notes on a number in a register, if there is one.
+/// Appends all notes on the number in a register, for a rejection at `unit`. Appends nothing if there is no register.
 pub(crate) fn put_number_notes(
     alloc: Global,
     out: &mut String,

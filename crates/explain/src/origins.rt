@@ -1,4 +1,5 @@
-//! Finds the register from which a number was computed, where that register's number may be above or below 0.
+//! Finds the register from which a number of either sign was computed, if that register's number may itself have either
+//! sign. A number has either sign if, read as signed, it may be above or below 0.
 ghost use Rattle.std.specs.Prelude.{◌≡◌, ◌<◌, IfSome, option_map, slice_get};
 ghost use Rattle.insn.specs.Program.{instruction_at};
 ghost use Rattle.reaching.specs.Marks.{known_by};
@@ -22,7 +23,7 @@ fn is_either_sign(value: AbsVal) -> bool
     }
 }
 
-/// Returns the register, if it holds a number that may be above or below 0.
+/// Returns the register if its number, read as signed, may be above or below 0, and otherwise `None`.
 fn number_at(state: &AbsState, register: Option<Reg>) -> Option<Reg>
     ensures { result ≡ number_at state.now.registers register }
 {
@@ -34,8 +35,8 @@ fn number_at(state: &AbsState, register: Option<Reg>) -> Option<Reg>
     }
 }
 
-/// Returns the first register that an operation reads whose number may be above or below 0. Returns `None` for `arsh`,
-/// which has a rule of its own.
+/// Returns the first register that an arithmetic instruction reads and whose number, read as signed, may be above or
+/// below 0. Returns `None` if there is none, or for `arsh`, which is explained by a rule of its own.
 fn computed_of(insn: &Insn, state: &AbsState) -> Option<Reg>
     ensures { result ≡ computed_of insn.now state.now.registers }
 {
@@ -57,7 +58,7 @@ fn computed_of(insn: &Insn, state: &AbsState) -> Option<Reg>
     }
 }
 
-/// Checks whether the instruction of a unit sets the subject.
+/// Checks whether a unit is marked as setting the subject, the register or stack cell in question.
 pub(crate) fn is_set(marks: &[UnitMark], unit: usize) -> bool
     ensures { result ≡ is_set (slice_get marks.now unit) }
 {
@@ -67,7 +68,7 @@ pub(crate) fn is_set(marks: &[UnitMark], unit: usize) -> bool
     }
 }
 
-/// Returns the last of the units below `unit` that sets the subject.
+/// Returns the last unit below `unit` that is marked as setting the subject, or `None` if there is none.
 pub(crate) fn last_set(marks: &[UnitMark], unit: usize) -> Option<usize>
     ensures set { result ≡ last_set marks.now unit }
     ensures below { IfSome result (λ n. n < unit) }
@@ -81,8 +82,8 @@ pub(crate) fn last_set(marks: &[UnitMark], unit: usize) -> Option<usize>
     last_set(marks, unit - 1)
 }
 
-/// Returns the register from which the instruction of a unit computes its result, and the unit. Returns `None` if the
-/// number in that register is not one that may be above or below 0.
+/// Returns the register from which the instruction at `unit` computes its result, and `unit`. Returns `None` if no
+/// number that it reads may be above or below 0, if no instruction starts there, or if no path leads there.
 fn origin_at(unit: usize, insn: Option<Insn>, state: Option<&AbsState>) -> Option<(Reg, usize)>
     ensures origin { result ≡ origin_at unit insn (option_map (λ a. a.now) state.entry) }
     ensures there { IfSome result (λ origin. origin.1 ≡ unit) }
@@ -97,7 +98,8 @@ fn origin_at(unit: usize, insn: Option<Insn>, state: Option<&AbsState>) -> Optio
     Some((r, unit))
 }
 
-/// Returns the register from which the last unit that set the subject computed it, and that unit.
+/// Finds the last unit that set the subject below `unit`. Returns the register from which it was computed there, whose
+/// number may be above or below 0, and that unit. Returns `None` if there is no such register.
 pub(crate) fn origin_of(
     program: &Program,
     states: &[Option<AbsState>],
@@ -111,7 +113,8 @@ pub(crate) fn origin_of(
     origin_at(place, program.at(place), known_by(states, place))
 }
 
-/// Returns the register of the number, if an instruction adds a pointer to a number in the number's register.
+/// Returns the register of the number if an instruction adds a pointer to a number, in the number's register, and is
+/// rejected for this. Otherwise returns `None`.
 fn summed(insn: &Insn, sentence: &Sentence) -> Option<Reg>
     ensures { result ≡ summed insn.now sentence.now }
 {
@@ -129,7 +132,8 @@ fn summed(insn: &Insn, sentence: &Sentence) -> Option<Reg>
     }
 }
 
-/// Returns the register of a number to which an instruction adds a pointer, if the number may be above or below 0.
+/// Returns the register of the number if an instruction is rejected because it adds a pointer to that number, and the
+/// number may be above or below 0. Otherwise returns `None`.
 pub(crate) fn other_number(
     insn: &Insn,
     state: Option<&AbsState>,

@@ -1,4 +1,4 @@
-//! Finds what is wrong with a sum or difference of a pointer and a number.
+//! Finds what is wrong with a rejected sum or difference of a pointer and a number.
 ghost use Rattle.std.specs.Prelude.{◌≡◌, ◌+ℤ◌, ◌-ℤ◌};
 ghost use Rattle.absval.specs.Table.{in_a_row};
 ghost use Rattle.explain.specs.Shortfalls.{lowers, clamped, moved, either_sign, far, sum_misuse};
@@ -11,7 +11,8 @@ use insn::{Operand, Reg};
 use semantics::Region;
 use word::{Operation, Width};
 
-/// Returns whether the operation lowers a pointer. Returns `None` if it does not move pointers.
+/// Returns whether the operation lowers a pointer: false for a 64-bit sum, true for a 64-bit difference. Returns `None`
+/// for any other operation, which must not be used on pointers.
 fn lowers(width: Width, operation: Operation) -> Option<bool>
     ensures { result ≡ lowers width operation }
 {
@@ -22,7 +23,7 @@ fn lowers(width: Width, operation: Operation) -> Option<bool>
     }
 }
 
-/// Returns the nearest signed number of 64 bits.
+/// Returns the signed 64-bit number that is nearest to `z`.
 fn clamped(z: i128) -> i64
     ensures { result ≡ clamped z }
 {
@@ -35,21 +36,22 @@ fn clamped(z: i128) -> i64
     }
 }
 
-/// Returns an offset plus a number, limited to 64 bits.
+/// Returns `offset` + `by`, or the nearest signed 64-bit number.
 fn raised(offset: i32, by: i64) -> i64
     ensures { result ≡ clamped (offset +ℤ by) }
 {
     clamped(i128::from(offset) + i128::from(by))
 }
 
-/// Returns an offset minus a number, limited to 64 bits.
+/// Returns `offset` - `by`, or the nearest signed 64-bit number.
 fn lowered(offset: i32, by: i64) -> i64
     ensures { result ≡ clamped (offset -ℤ by) }
 {
     clamped(i128::from(offset) - i128::from(by))
 }
 
-/// Returns the offsets that result if these offsets are raised or lowered by numbers from `least` to `greatest`.
+/// Returns the least and the greatest offset after a pointer with these offsets is moved by a number from `least` to
+/// `greatest`. `down` says that the number is subtracted.
 fn moved(down: bool, offsets: Offsets, least: i64, greatest: i64) -> NumberSpan
     ensures { result ≡ moved down offsets (least, greatest) }
 {
@@ -62,7 +64,8 @@ fn moved(down: bool, offsets: Offsets, least: i64, greatest: i64) -> NumberSpan
     }
 }
 
-/// Returns the sentence about a number of either sign that moves a pointer, if it is in a register.
+/// Returns the sentence that says that a pointer cannot be moved by a number that may be above or below 0. Returns
+/// `None` if the number is not in a register.
 fn either_sign(register: Option<Reg>, numbers: NumberSet) -> Option<Sentence>
     ensures { result ≡ either_sign register numbers }
 {
@@ -70,7 +73,7 @@ fn either_sign(register: Option<Reg>, numbers: NumberSet) -> Option<Sentence>
     Some(Sentence::Register(RegisterMisuse::EitherSign(r, AbsVal::Number(numbers))))
 }
 
-/// A pointer in a register, and whether it is lowered.
+/// A pointer in register `dst`, and whether a number is subtracted from it (`down`) or added.
 #[derive(Clone, Copy)]
 struct Start {
     down: bool,
@@ -79,7 +82,8 @@ struct Start {
     offsets: Offsets,
 }
 
-/// Returns the sentence about a pointer that a number moves: the number has either sign, or the pointer leads too far.
+/// Returns the sentence that says that a pointer cannot be moved by a number: the number may be above or below 0, or
+/// the pointer would point too far. Returns `None` if the number may be above or below 0 and is not in a register.
 fn far(pointer: Start, operand: Operand, numbers: NumberSet) -> Option<Sentence>
     ensures { result ≡ far pointer.down pointer.dst pointer.region pointer.offsets operand numbers
         (in_a_row numbers.range) }
@@ -91,7 +95,8 @@ fn far(pointer: Start, operand: Operand, numbers: NumberSet) -> Option<Sentence>
     Some(Sentence::Register(RegisterMisuse::Far(pointer.dst, pointer.region, span)))
 }
 
-/// Returns the sentence about a sum or difference of a pointer and a number.
+/// Returns the sentence that says that a sum or difference of a pointer and a number is rejected. Returns `None` if the
+/// operation is not one, or its operands are not a pointer and then a number.
 pub(crate) fn sum_misuse(
     how: (Width, Operation),
     dst: Reg,

@@ -11,7 +11,7 @@ use insn::{Insn, Reg, Size, bytes_of_part};
 use verify::AbsState;
 use word::Narrow;
 
-/// The memory that an instruction accesses: the base register, the distance from it, and the number of bytes.
+/// The memory that an instruction accesses: `size` bytes, at `distance` bytes from the address in the base register.
 #[derive(Clone, Copy)]
 pub(crate) struct Reach {
     pub base: Reg,
@@ -19,8 +19,8 @@ pub(crate) struct Reach {
     pub size: usize,
 }
 
-/// Returns the memory that a call accesses from r2 on: `size` bytes for each item of the greatest count. Returns `None`
-/// if the count is not a number up to 64.
+/// Returns the memory that a call accesses from the address in r2 on: `size` for each item, for the greatest possible
+/// number of items. Returns `None` if that number is not known to be at most 64.
 fn counted(size: Size, count: AbsVal) -> Option<Reach>
     ensures reach { result ≡ counted size count }
     ensures few { IfSome result (λ reach. reach.size ≤ 512) }
@@ -38,8 +38,8 @@ fn counted(size: Size, count: AbsVal) -> Option<Reach>
     })
 }
 
-/// Returns the memory that the helper with this number accesses, from what is known of its count. Returns `None` if it
-/// accesses none.
+/// Returns the memory that a call of the helper with this number accesses, or `None` if it accesses none. `count` is
+/// what is known of its number of items.
 fn call_reach(number: i32, count: AbsVal) -> Option<Reach>
     ensures reach { result ≡ call_reach (helper_of number) count }
     ensures few { IfSome result (λ reach. reach.size ≤ 512) }
@@ -51,7 +51,7 @@ fn call_reach(number: i32, count: AbsVal) -> Option<Reach>
     }
 }
 
-/// Returns the memory that an instruction accesses, if it accesses any. It has at most 512 bytes.
+/// Returns the memory that an instruction accesses, at most 512 bytes, or `None` if it accesses none.
 pub(crate) fn reach_of(insn: &Insn, state: &AbsState) -> Option<Reach>
     ensures reach { result ≡ reach_of insn.now state.now.registers }
     ensures few { IfSome result (λ reach. reach.size ≤ 512) }
@@ -88,15 +88,15 @@ pub(crate) fn reach_of(insn: &Insn, state: &AbsState) -> Option<Reach>
     }
 }
 
-/// Returns the first offset that an access at `distance` from `offset` may touch.
+/// Returns `offset` + `distance`: the first offset that an access at this distance from a pointer touches.
 fn first_touched(offset: i32, distance: i16) -> i64
     ensures { result ≡ offset +ℤ distance }
 {
     i64::from(offset) + i64::from(distance)
 }
 
-/// Returns the last offset that an access of `size` bytes at `distance` from `offset` may touch. For no bytes, returns
-/// the offset at which they would be.
+/// Returns the last offset that an access of `size` bytes at `distance` from a pointer with this offset touches. If
+/// `size` is 0, returns the first offset instead.
 fn last_touched(offset: i32, distance: i16, size: usize) -> i64
     requires { size ≤ 512 }
     ensures { result ≡ (offset +ℤ distance) +ℤ pos (size - 1) }
@@ -108,7 +108,7 @@ fn last_touched(offset: i32, distance: i16, size: usize) -> i64
     first + (size - 1) as i64
 }
 
-/// Returns the offsets that an access may touch through a pointer with these offsets.
+/// Returns the first and the last offset that an access may touch through a pointer with these offsets.
 pub(crate) fn touched(offsets: Offsets, reach: &Reach) -> NumberSpan
     requires { reach.now.size ≤ 512 }
     ensures { result ≡ touched offsets reach.now }

@@ -14,7 +14,7 @@ use insn::Reg;
 use semantics::Region;
 use std::alloc::AllocError;
 
-/// Appends the name of a register.
+/// Appends the name of a register, such as `r1`.
 pub(crate) fn put_register(out: &mut String, r: Reg) -> Result<(), AllocError>
     ensures { OnOk result (string_bytes out.new ≡ string_bytes out.old ++ (codes "r" ++ decimal r)) }
 {
@@ -22,7 +22,7 @@ pub(crate) fn put_register(out: &mut String, r: Reg) -> Result<(), AllocError>
     put_unsigned(out, u64::from(r.number()))
 }
 
-/// Appends the name of a register, and what is known of it.
+/// Appends the name of a register and what is known of it, such as `r1 0 to 255`.
 pub(crate) fn put_named(out: &mut String, r: Reg, value: AbsVal) -> Result<(), AllocError>
     ensures { OnOk result (string_bytes out.new ≡ string_bytes out.old ++ named_text r value) }
 {
@@ -31,7 +31,7 @@ pub(crate) fn put_named(out: &mut String, r: Reg, value: AbsVal) -> Result<(), A
     put_known(out, value)
 }
 
-/// Appends the name of a register, what is known of it, and a text.
+/// Appends the name of a register, what is known of it, and then `text`.
 fn put_so(out: &mut String, r: Reg, value: AbsVal, text: &str) -> Result<(), AllocError>
     ensures { OnOk result (string_bytes out.new ≡ string_bytes out.old ++ (named_text r value ++ text.now)) }
 {
@@ -39,7 +39,7 @@ fn put_so(out: &mut String, r: Reg, value: AbsVal, text: &str) -> Result<(), All
     put(out, text)
 }
 
-/// Appends a text and a number in decimal.
+/// Appends `text`, and then a number in decimal.
 pub(crate) fn put_counted(out: &mut String, text: &str, number: u64) -> Result<(), AllocError>
     ensures { OnOk result (string_bytes out.new ≡ string_bytes out.old ++ (text.now ++ decimal number)) }
 {
@@ -47,7 +47,7 @@ pub(crate) fn put_counted(out: &mut String, text: &str, number: u64) -> Result<(
     put_unsigned(out, number)
 }
 
-/// Appends a text and a signed number in decimal.
+/// Appends `text`, and then a signed number in decimal.
 fn put_signed(out: &mut String, text: &str, number: i64) -> Result<(), AllocError>
     ensures { OnOk result (string_bytes out.new ≡ string_bytes out.old ++ (text.now ++ signed_decimal number)) }
 {
@@ -55,7 +55,7 @@ fn put_signed(out: &mut String, text: &str, number: i64) -> Result<(), AllocErro
     put_number(out, number)
 }
 
-/// Appends a number between two texts.
+/// Appends `front`, a number in decimal, and `behind`.
 pub(crate) fn put_between(
     out: &mut String,
     front: &str,
@@ -69,7 +69,7 @@ pub(crate) fn put_between(
     put(out, behind)
 }
 
-/// Appends a signed number between two texts.
+/// Appends `front`, a signed number in decimal, and `behind`.
 pub(crate) fn put_signed_between(
     out: &mut String,
     front: &str,
@@ -84,7 +84,7 @@ pub(crate) fn put_signed_between(
     put(out, behind)
 }
 
-/// Appends the unit that a jump leads to.
+/// Appends the unit to which a jump leads, such as `the jump leads to unit 7`.
 #[tactic(auto, unfolding(crate::specs::Sentences::leads_text))]
 fn put_target(out: &mut String, to: i64) -> Result<(), AllocError>
     ensures { OnOk result (string_bytes out.new ≡ string_bytes out.old ++ leads_text to) }
@@ -92,7 +92,7 @@ fn put_target(out: &mut String, to: i64) -> Result<(), AllocError>
     put_signed(out, "the jump leads to unit ", to)
 }
 
-/// Appends the unit that a jump leads to, and a text.
+/// Appends the unit to which a jump leads, such as `the jump leads to unit 7`, and then `text`.
 fn put_leads(out: &mut String, to: i64, text: &str) -> Result<(), AllocError>
     ensures { OnOk result (string_bytes out.new ≡ string_bytes out.old ++ (leads_text to ++ text.now)) }
 {
@@ -115,7 +115,7 @@ fn put_structure(out: &mut String, structure: Structure) -> Result<(), AllocErro
     }
 }
 
-/// Appends a part of a region.
+/// Appends a range of offsets in a region, such as `the stack at -8 to -1`.
 #[tactic(auto, unfolding(crate::specs::Sentences::place_text))]
 fn put_part(out: &mut String, region: Region, span: NumberSpan) -> Result<(), AllocError>
     ensures { OnOk result (string_bytes out.new ≡ string_bytes out.old ++ place_text region span) }
@@ -126,7 +126,8 @@ fn put_part(out: &mut String, region: Region, span: NumberSpan) -> Result<(), Al
     put_span(out, span)
 }
 
-/// Appends what may be reached through a register, and a text.
+/// Appends the offsets that may be reached through a register, such as `r1 may reach the stack at -520 to -1`, and then
+/// `text`.
 #[tactic(auto, unfolding(crate::specs::Sentences::reached_text))]
 fn put_reached(
     out: &mut String,
@@ -143,14 +144,15 @@ fn put_reached(
     put(out, text)
 }
 
-/// Returns the limit of a pointer's offset on the side on which the pointer leads too far.
+/// Returns the limit of a pointer's offset that is passed: 65536 if `high`, the greatest offset, is above it, and
+/// otherwise -65536.
 fn limit(high: i64) -> &'static str
     ensures { result.now ≡ limit_text high }
 {
     if high > 65_536 { "65536" } else { "-65536" }
 }
 
-/// Appends a register and the words that it would point. The place to which it would point follows.
+/// Appends the beginning `r1 would point` of a sentence, with the given register.
 #[tactic(auto, unfolding(crate::specs::Sentences::would_text))]
 fn put_would(out: &mut String, r: Reg) -> Result<(), AllocError>
     ensures { OnOk result (string_bytes out.new ≡ string_bytes out.old ++ would_text r) }
@@ -159,7 +161,7 @@ fn put_would(out: &mut String, r: Reg) -> Result<(), AllocError>
     put(out, " would point")
 }
 
-/// Appends a part of a region, and the limit that it passes.
+/// Appends a range of offsets in a region, and the limit that they pass, such as `the stack at 70000, past 65536`.
 #[tactic(auto, unfolding(crate::specs::Sentences::past_text))]
 fn put_past(out: &mut String, region: Region, span: NumberSpan) -> Result<(), AllocError>
     ensures { OnOk result (string_bytes out.new ≡ string_bytes out.old ++ past_text region span) }
@@ -169,7 +171,7 @@ fn put_past(out: &mut String, region: Region, span: NumberSpan) -> Result<(), Al
     put(out, limit(span.high))
 }
 
-/// Appends that a register would point too far.
+/// Appends that a register would point too far, such as `r1 would point into the stack at 70000, past 65536`.
 fn put_far(out: &mut String, r: Reg, region: Region, span: NumberSpan) -> Result<(), AllocError>
     ensures { OnOk result (string_bytes out.new ≡ string_bytes out.old ++ misuse_text (RegisterMisuse.Far r region span)) }
 {
@@ -178,7 +180,8 @@ fn put_far(out: &mut String, r: Reg, region: Region, span: NumberSpan) -> Result
     put_past(out, region, span)
 }
 
-/// Appends that a pointer is not stored as a whole.
+/// Appends the sentence that the pointer in register `r` is not stored as a whole. `base` is the base register of the
+/// store, and `at` is what is known of it.
 fn put_stored(
     out: &mut String,
     r: Reg,
@@ -245,7 +248,7 @@ fn put_misuse(out: &mut String, misuse: RegisterMisuse) -> Result<(), AllocError
     }
 }
 
-/// Returns the first and the last offset of a region's bytes, as text.
+/// Returns the first and the last offset of a region as text, such as `-512 to -1`.
 fn extent(region: Region) -> &'static str
     ensures { result.now ≡ extent_text region }
 {
@@ -272,7 +275,7 @@ fn put_access(out: &mut String, access: AccessMisuse) -> Result<(), AllocError>
     }
 }
 
-/// Appends the greatest number that a helper accepts as an argument.
+/// Appends the greatest number that a helper accepts in an argument, such as `board_get accepts numbers up to 63 here`.
 #[tactic(auto, unfolding(crate::specs::Sentences::above_text))]
 fn put_above(out: &mut String, helper: Helper, most: u64) -> Result<(), AllocError>
     ensures { OnOk result (string_bytes out.new ≡ string_bytes out.old ++ above_text helper most) }
@@ -281,7 +284,7 @@ fn put_above(out: &mut String, helper: Helper, most: u64) -> Result<(), AllocErr
     put_between(out, " accepts numbers up to ", most, " here")
 }
 
-/// Appends that a helper accepts only a pointer as an argument.
+/// Appends that a helper accepts only a pointer in an argument.
 #[tactic(auto, unfolding(crate::specs::Sentences::pointer_text))]
 fn put_pointer(out: &mut String, helper: Helper) -> Result<(), AllocError>
     ensures { OnOk result (string_bytes out.new ≡ string_bytes out.old ++ pointer_text helper) }
@@ -298,7 +301,7 @@ fn no_helper() -> &'static str
     "no helper has the number "
 }
 
-/// Appends which numbers helpers have.
+/// Appends which numbers the helpers have, such as `: helpers are numbered 1 to 11`.
 #[tactic(auto, unfolding(crate::specs::Sentences::numbers_text))]
 fn put_numbers(out: &mut String) -> Result<(), AllocError>
     ensures { OnOk result (string_bytes out.new ≡ string_bytes out.old ++ numbers_text) }
@@ -314,7 +317,7 @@ fn put_no_helper(out: &mut String, number: i32) -> Result<(), AllocError>
     put_numbers(out)
 }
 
-/// Returns the beginning of the sentence about slot and count together.
+/// Returns the beginning of the sentence that slot and count together go past the end of the board.
 #[tactic(auto, unfolding(crate::specs::Sentences::together_text))]
 fn together() -> &'static str
     ensures { result.now ≡ together_text }
@@ -322,7 +325,7 @@ fn together() -> &'static str
     "the sum of r1 and r3 may be "
 }
 
-/// Appends the sentence about a misfit of a call.
+/// Appends the sentence about a call that does not fit its helper.
 fn put_misfit(out: &mut String, misfit: Misfit) -> Result<(), AllocError>
     ensures { OnOk result (string_bytes out.new ≡ string_bytes out.old ++ misfit_text misfit) }
 {
@@ -340,7 +343,7 @@ fn put_misfit(out: &mut String, misfit: Misfit) -> Result<(), AllocError>
     }
 }
 
-/// Appends the text of a sentence.
+/// Appends a sentence that says why a program is rejected.
 pub(crate) fn put_sentence_text(out: &mut String, sentence: Sentence) -> Result<(), AllocError>
     ensures { OnOk result (string_bytes out.new ≡ string_bytes out.old ++ sentence_text sentence) }
 {

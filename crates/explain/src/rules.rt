@@ -1,4 +1,4 @@
-//! Finds the rule by which the verifier knows little of an instruction's result, or learns nothing from a test.
+//! Finds the verifier's rule by which it knows little of an instruction's result, or learns nothing from a test.
 ghost use Rattle.std.specs.Prelude.{◌≡◌, ◌^◌, ◌-◌, ◌++◌, string_bytes, OnOk};
 ghost use Rattle.word.specs.Arithmetic.{bits_of};
 ghost use Rattle.explain.specs.Rules.{may_wrap, is_all, number_rule, unset_rule, rule_text, is_signed, limit_bits, is_past, is_operand, passed_by, tested_text, passing_text};
@@ -10,7 +10,7 @@ use range::Range;
 use std::alloc::AllocError;
 use word::{Condition, Operation, Width};
 
-/// Checks whether a result of the operation that is too large for its width wraps around.
+/// Checks whether the operation is one whose result may be too large for its width, and then wraps around.
 fn may_wrap(operation: Operation) -> bool
     ensures { result ≡ may_wrap operation }
 {
@@ -20,15 +20,15 @@ fn may_wrap(operation: Operation) -> bool
     }
 }
 
-/// Checks whether the range has every number of the width.
+/// Checks whether the range contains every number of the width.
 fn is_all(width: Width, range: Range) -> bool
     ensures { result ≡ is_all (bits_of width) range }
 {
     range.lo == 0 && range.hi == limit(width, false)
 }
 
-/// Returns the rule for an instruction whose result is a number, by what is known of the number. The text is empty if
-/// there is no such rule.
+/// Returns the rule by which little is known of an instruction's result, which is a number, or an empty text if there
+/// is no such rule. `numbers` is what is known of it.
 fn number_rule(insn: &Insn, numbers: NumberSet) -> &'static str
     ensures { result.now ≡ number_rule insn.now numbers }
 {
@@ -54,7 +54,7 @@ fn number_rule(insn: &Insn, numbers: NumberSet) -> &'static str
     }
 }
 
-/// Returns the rule for an instruction that leaves a register unset. The text is empty if there is no such rule.
+/// Returns the rule by which an instruction leaves a register unset, or an empty text if there is no such rule.
 fn unset_rule(insn: &Insn) -> &'static str
     ensures { result.now ≡ unset_rule insn.now }
 {
@@ -64,8 +64,8 @@ fn unset_rule(insn: &Insn) -> &'static str
     }
 }
 
-/// Returns the rule for an instruction that set a register, by what is known of its result. The text is empty if there
-/// is no such rule.
+/// Returns the rule by which little is known of a register that an instruction set, or an empty text if there is no
+/// such rule. `value` is what is known of the register after the instruction.
 pub(crate) fn rule_text(insn: &Insn, value: AbsVal) -> &'static str
     ensures { result.now ≡ rule_text insn.now value }
 {
@@ -76,7 +76,7 @@ pub(crate) fn rule_text(insn: &Insn, value: AbsVal) -> &'static str
     }
 }
 
-/// Checks whether a condition reads its numbers as signed.
+/// Checks whether a condition compares its numbers as signed.
 fn is_signed(condition: Condition) -> bool
     ensures { result ≡ is_signed condition }
 {
@@ -89,8 +89,8 @@ fn is_signed(condition: Condition) -> bool
     }
 }
 
-/// Returns the exponent of the limit of a test: the verifier learns only about numbers that are known to be below 2 to
-/// this power. `signed` says whether the test reads its numbers as signed.
+/// Returns the exponent of a test's limit: 31, 32, 63 or 64. The verifier learns something about a number from the test
+/// only if the number is known to be below 2 to this power. `signed` says whether the test compares as signed.
 fn limit_bits(width: Width, signed: bool) -> u8
     ensures { result ≡ limit_bits width signed }
 {
@@ -102,8 +102,8 @@ fn limit_bits(width: Width, signed: bool) -> u8
     }
 }
 
-/// Returns the greatest number of which the verifier learns something by a test of this width. `signed` says whether
-/// the test reads its numbers as signed.
+/// Returns the greatest number about which the verifier can learn something from a test of this width. `signed` says
+/// whether the test compares as signed.
 fn limit(width: Width, signed: bool) -> u64
     ensures { result ≡ 2 ^ limit_bits width signed - 1 }
 {
@@ -115,7 +115,8 @@ fn limit(width: Width, signed: bool) -> u64
     }
 }
 
-/// Checks whether a value may be a number that is past the limit of a test.
+/// Checks whether a value is a number that may be too great for the verifier to learn something from a test of this
+/// width. `signed` says whether the test compares as signed.
 fn is_past(width: Width, signed: bool, value: AbsVal) -> bool
     ensures { result ≡ is_past (limit_bits width signed) value }
 {
@@ -134,7 +135,7 @@ pub(crate) enum Passing {
     Copied(Reg),
 }
 
-/// Returns the beginning of the reason for a test.
+/// Returns the beginning of the text that a test says nothing about a register.
 #[tactic(auto, unfolding(crate::specs::Rules::tested_text))]
 fn tested() -> &'static str
     ensures { result.now ≡ tested_text }
@@ -142,7 +143,8 @@ fn tested() -> &'static str
     ": such a test narrows only numbers that are known to be below 2^"
 }
 
-/// Appends the reason for which an instruction says nothing about a register.
+/// Appends the reason for which an instruction says nothing about a register, such as `: a test of r2 does not narrow
+/// it`.
 pub(crate) fn put_tells(out: &mut String, tells: Passing) -> Result<(), AllocError>
     ensures { OnOk result (string_bytes out.new ≡ string_bytes out.old ++ passing_text tells) }
 {
@@ -167,8 +169,8 @@ fn is_operand(r: Reg, operand: Operand) -> bool
     }
 }
 
-/// Returns why an instruction says nothing about register `r`, if it does not. Either it tests `r`, which may be past
-/// the limit of the test, or it copies `r`, and a test of the copy says nothing about `r`.
+/// Returns why the verifier learns nothing about register `r` from an instruction that tests or copies it. Returns
+/// `None` if it learns something, or the instruction does neither. `value` is what is known of `r`.
 pub(crate) fn passed_by(r: Reg, insn: &Insn, value: AbsVal) -> Option<Passing>
     ensures { result ≡ passed_by r insn.now value }
 {

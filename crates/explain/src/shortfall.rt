@@ -1,4 +1,4 @@
-//! Finds what is missing at a rejected instruction, from the reason of its fault.
+//! Finds what is missing at a rejected instruction, by the verifier's reason.
 ghost use Rattle.std.specs.Prelude.{◌≡◌, IfSome};
 ghost use Rattle.explain.specs.Shortfalls.{shortfall, reached, outside, empty_cell, context_written};
 
@@ -11,7 +11,8 @@ use helper::reads::{numbered, read_by};
 use insn::Insn;
 use verify::{AbsState, Reason};
 
-/// Returns the sentence about an access that may leave its region.
+/// Returns the sentence that says that an instruction accesses bytes outside a region, or `None` if it makes no access
+/// by a pointer.
 fn outside_of(insn: &Insn, state: &AbsState) -> Option<Sentence>
     ensures { result ≡ reached outside insn.now state.now.registers }
 {
@@ -19,7 +20,8 @@ fn outside_of(insn: &Insn, state: &AbsState) -> Option<Sentence>
     outside(reach, state.known(reach.base))
 }
 
-/// Returns the sentence about a read of stack cells, one of which may hold no byte.
+/// Returns the sentence that says that an instruction reads a stack cell that may hold no byte, or `None` if it does
+/// not.
 fn empty_of(insn: &Insn, state: &AbsState) -> Option<Sentence>
     ensures { result ≡ reached (empty_cell state.now.stack) insn.now state.now.registers }
 {
@@ -27,7 +29,7 @@ fn empty_of(insn: &Insn, state: &AbsState) -> Option<Sentence>
     empty_cell(&state.stack, reach, state.known(reach.base))
 }
 
-/// Returns the sentence about a store to the context.
+/// Returns the sentence that says that an instruction stores to the context, or `None` if it makes no access.
 fn written_of(insn: &Insn, state: &AbsState) -> Option<Sentence>
     ensures { result ≡ reached context_written insn.now state.now.registers }
 {
@@ -35,8 +37,8 @@ fn written_of(insn: &Insn, state: &AbsState) -> Option<Sentence>
     context_written(reach, state.known(reach.base))
 }
 
-/// Returns the sentence that says what is missing at an instruction, from the reason of its fault and what is known
-/// there.
+/// Returns the sentence that explains the verifier's reason at a rejected instruction, from what is known there.
+/// Returns `None` if the reason does not fit the instruction.
 pub(crate) fn shortfall(reason: Reason, insn: &Insn, state: &AbsState) -> Option<Sentence>
     ensures { result ≡ shortfall reason insn.now state.now }
 {

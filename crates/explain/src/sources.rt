@@ -1,4 +1,4 @@
-//! Finds what a stack cell holds at a unit, and the units that set it.
+//! Finds what a stack cell holds at a unit, and which units set it.
 ghost use Rattle.std.specs.Prelude.{◌≡◌, ◌<◌, ◌++◌, string_bytes, IfOk, OnOk};
 ghost use Rattle.explain.specs.Sources.{set_below, sources, further_text, from_text};
 ghost use Rattle.explain.specs.Here.{Stands, known_of, held_here, same_held};
@@ -11,7 +11,7 @@ use reaching::{CellContent, Column, UnitMark, cell_marks, held_at};
 use std::alloc::{AllocError, Global};
 use verify::AbsState;
 
-/// What a cell holds, and the units that set it last on the paths that lead there.
+/// What a stack cell holds at a unit, and the units that set it last on the paths to that unit, ascending.
 #[derive(Drop)]
 pub(crate) struct Held {
     pub content: CellContent,
@@ -19,7 +19,7 @@ pub(crate) struct Held {
 }
 
 impl Held {
-    /// Checks whether another cell holds the same content from the same units.
+    /// Checks whether two cells have the same content, set by the same units.
     pub(crate) fn is_same(&self, other: &Held) -> bool
         ensures { result ≡ same_held self.now other.now }
     {
@@ -27,7 +27,7 @@ impl Held {
     }
 }
 
-/// A program, what is known at each of its units, and the units that set each cell of the stack.
+/// A program, what is known at each of its units, and for each of the 512 stack cells which units set it.
 #[derive(Clone, Copy)]
 pub(crate) struct Surveyed<'a> {
     pub program: &'a Program,
@@ -35,7 +35,7 @@ pub(crate) struct Surveyed<'a> {
     pub columns: &'a [Column],
 }
 
-/// A unit of a surveyed program, and what is known of the stack there.
+/// A unit of a program, and what is known of the stack there.
 #[derive(Clone, Copy)]
 pub(crate) struct Here<'a> {
     pub surveyed: Surveyed<'a>,
@@ -43,7 +43,8 @@ pub(crate) struct Here<'a> {
     pub stack: &'a AbsStack,
 }
 
-/// Returns the units below `unit` that set the subject, ascending. Fails with `AllocError` if memory runs out.
+/// Returns the units below `unit` that are marked as setting a register or cell, ascending. Fails with `AllocError` if
+/// out of memory.
 fn set_below(alloc: Global, marks: &[UnitMark], unit: usize) -> Result<Vec<usize>, AllocError>
     ensures { IfOk result (λ vec. vec.items ≡ set_below marks.now unit) }
 {
@@ -56,8 +57,8 @@ fn set_below(alloc: Global, marks: &[UnitMark], unit: usize) -> Result<Vec<usize
     Ok(units)
 }
 
-/// Returns the units that set a cell last on the paths that lead to the unit. Fails with `AllocError` if memory runs
-/// out.
+/// Returns the units that set a stack cell last on the paths to the unit `here`, ascending. Fails with `AllocError` if
+/// out of memory.
 fn sources(alloc: Global, here: &Here<'_>, cell: usize) -> Result<Vec<usize>, AllocError>
     requires stands { Stands here.now }
     requires inside { cell < 512 }
@@ -74,7 +75,8 @@ fn sources(alloc: Global, here: &Here<'_>, cell: usize) -> Result<Vec<usize>, Al
     set_below(alloc, marks.as_slice(), here.unit)
 }
 
-/// Returns what a cell holds at the unit, and the units that set it. Fails with `AllocError` if memory runs out.
+/// Returns what a stack cell holds at the unit `here`, and the units that set it last. Fails with `AllocError` if out
+/// of memory.
 pub(crate) fn held_here(alloc: Global, here: &Here<'_>, cell: usize) -> Result<Held, AllocError>
     requires stands { Stands here.now }
     requires inside { cell < 512 }
@@ -85,7 +87,7 @@ pub(crate) fn held_here(alloc: Global, here: &Here<'_>, cell: usize) -> Result<H
     Ok(Held { content, units })
 }
 
-/// Appends the units after the first, at most `most` of them, and the closing bracket.
+/// Appends the units after the first and the closing bracket, such as ` or 5 or 9)`. Only `most` of them are named.
 fn put_further(out: &mut String, units: &[usize], most: usize) -> Result<(), AllocError>
     ensures { OnOk result (string_bytes out.new ≡ string_bytes out.old ++ further_text most units.now) }
 {
@@ -100,7 +102,8 @@ fn put_further(out: &mut String, units: &[usize], most: usize) -> Result<(), All
     put_further(out, others, most - 1)
 }
 
-/// Appends the units that set a cell, if there are any. If there are more than eight, the first eight are named.
+/// Appends the units that set a stack cell, such as ` (from 3 or 5)`. At most eight are named. Appends nothing if there
+/// are none.
 pub(crate) fn put_from(out: &mut String, units: &[usize]) -> Result<(), AllocError>
     ensures { OnOk result (string_bytes out.new ≡ string_bytes out.old ++ from_text units.now) }
 {

@@ -1,4 +1,4 @@
-//! Writes what is known of a value: a range of numbers, or a region and offsets.
+//! Writes what is known of a value, such as `0 to 255` or `stack -16 to -8`.
 ghost use Rattle.std.specs.Prelude.{◌≡◌, ◌==◌, ◌||◌, ◌++◌, string_bytes, OnOk};
 ghost use Rattle.std.specs.Int.{w64, cast_signed};
 ghost use Rattle.explain.specs.Values.{words_text, span_text, is_any, range_text, is_bound, bits_text, numbers_text, region_text, value_text};
@@ -26,7 +26,7 @@ pub(crate) fn between(low: i64, high: i64) -> NumberSpan
     NumberSpan { low, high }
 }
 
-/// Appends a range of signed numbers, or the one number in it.
+/// Appends a range of signed numbers, such as `-8 to -1`, or `-8` if it has only one number.
 pub(crate) fn put_span(out: &mut String, span: NumberSpan) -> Result<(), AllocError>
     ensures { OnOk result (string_bytes out.new ≡ string_bytes out.old ++ span_text (span.low, span.high)) }
 {
@@ -38,7 +38,7 @@ pub(crate) fn put_span(out: &mut String, span: NumberSpan) -> Result<(), AllocEr
     put_number(out, span.high)
 }
 
-/// Appends a range of unsigned words, or the one word in it.
+/// Appends a range of unsigned numbers, such as `0 to 255`, or `7` if it has only one number.
 fn put_words(out: &mut String, range: Range) -> Result<(), AllocError>
     ensures { OnOk result (string_bytes out.new ≡ string_bytes out.old ++ words_text range) }
 {
@@ -50,14 +50,14 @@ fn put_words(out: &mut String, range: Range) -> Result<(), AllocError>
     put_unsigned(out, range.hi)
 }
 
-/// Checks whether the range has every word of 64 bits.
+/// Checks whether the range contains every 64-bit number.
 fn is_any(range: Range) -> bool
     ensures { result ≡ is_any range }
 {
     range.lo == 0 && range.hi == u64::MAX
 }
 
-/// Returns the span whose two ends are those of `range`, each read as a signed 64-bit number in two's complement.
+/// Returns the range from `range.lo` to `range.hi`, with both read as signed 64-bit numbers in two's complement.
 fn signed(range: Range) -> NumberSpan
     ensures { result ≡ record { low = cast_signed w64 range.0; high = cast_signed w64 range.1 } }
 {
@@ -67,7 +67,8 @@ fn signed(range: Range) -> NumberSpan
     }
 }
 
-/// Appends a range of numbers. If all of them are 2^63 or more, they are written as negative numbers.
+/// Appends a range of numbers, such as `0 to 255` or `any number`. If all are 2^63 or more, they are written as
+/// negative numbers.
 fn put_range(out: &mut String, range: Range) -> Result<(), AllocError>
     ensures { OnOk result (string_bytes out.new ≡ string_bytes out.old ++ range_text range) }
 {
@@ -81,14 +82,15 @@ fn put_range(out: &mut String, range: Range) -> Result<(), AllocError>
     }
 }
 
-/// Checks whether known bits say no more than an upper bound.
+/// Checks whether known bits say no more than an upper bound: the open bits are the lowest, and no bit is known to be
+/// set.
 fn is_bound(bits: Bits) -> bool
     ensures { result ≡ is_bound bits }
 {
     bits.value == 0 && bits.mask & bits.mask.wrapping_add(1) == 0
 }
 
-/// Appends the bits that are open, and those that are known to be set.
+/// Appends the bits that are open (not known), and those that are known to be set, such as `, bits 0x7 open, 0x8 set`.
 fn put_bits(out: &mut String, bits: Bits) -> Result<(), AllocError>
     ensures { OnOk result (string_bytes out.new ≡ string_bytes out.old ++ bits_text bits) }
 {
@@ -96,7 +98,7 @@ fn put_bits(out: &mut String, bits: Bits) -> Result<(), AllocError>
     write!(out, ", bits 0x{mask:x} open, 0x{value:x} set")
 }
 
-/// Appends the numbers that a value may be: the range, and the bits if they say more than the range.
+/// Appends the numbers that a value may be: their range, and the known bits if these say more than the range.
 fn put_numbers(out: &mut String, numbers: NumberSet) -> Result<(), AllocError>
     ensures { OnOk result (string_bytes out.new ≡ string_bytes out.old ++ numbers_text numbers) }
 {
@@ -109,7 +111,7 @@ fn put_numbers(out: &mut String, numbers: NumberSet) -> Result<(), AllocError>
     put_bits(out, bits)
 }
 
-/// Returns the name of a region.
+/// Returns the name of a region: `stack` or `context`.
 pub(crate) fn region_name(region: Region) -> &'static str
     ensures { result.now ≡ region_text region }
 {
@@ -119,7 +121,8 @@ pub(crate) fn region_name(region: Region) -> &'static str
     }
 }
 
-/// Appends what is known of a value: the numbers that it may be, or the region and the offsets.
+/// Appends what is known of a value: `perhaps unset`, numbers such as `0 to 255`, or a pointer such as `stack -16 to
+/// -8`.
 pub(crate) fn put_known(out: &mut String, value: AbsVal) -> Result<(), AllocError>
     ensures { OnOk result (string_bytes out.new ≡ string_bytes out.old ++ value_text value) }
 {

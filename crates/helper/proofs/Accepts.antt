@@ -1,4 +1,5 @@
--- A call traps for the first argument that is refused, and where none is, only for what is at a pointer: both from the table.
+-- A call traps for the first argument that is not accepted. If all are, it traps only for the memory at a pointer. Both
+-- follow from the table.
 use Rattle.std.proofs.Common.{ℕ, ◌≡◌, List, ap, sym, ◌∙◌}
 use Rattle.std.specs.Prelude.{Result, Ok, Err, Option, Some, None}
 use Rattle.semantics.specs.Relay.{Relay}
@@ -33,7 +34,7 @@ calls_test h context relay s cause e =
 none_is_some : (cause : Cause) → None ≡ Some cause → ⊥
 none_is_some cause e = cc
 
--- three arguments are refused together only where one is a pointer
+-- Three arguments are rejected together only if one is a pointer.
 together : (h : Helper) (context : List ℕ) (s : State) (cause : Cause) → refused_together (arguments_of h) context s ≡ Some cause → HasWindow h
 together BoardCopy context s cause e = tt
 together SendRow context s cause e = tt

@@ -34,7 +34,7 @@ first_word (w ∷ words) h =
 word_held : (words : List ℕ) → ((length words == 1) && list_all (λ word. nat_lt word (2 ^ 64)) words) ≡ true → (n : ℕ) × (Number (slice_index words 0) ≡ Number n) × IsIn 0 (2 ^ 64 - 1) n
 word_held words h = (slice_index words 0, refl, (omega arith, first_word words h))
 
--- whatever fits the request is answered by a number of the interval
+-- Every answer that fits the request is a number in the range.
 abbrev Answers : State → ℕ → ℕ → Request → Type 0
 Answers waiting lo hi request = (words : List ℕ) → fits request words ≡ true → HoldsResult lo hi (resumed request words waiting)
 
@@ -58,9 +58,9 @@ copy_held s waiting request e words fit =
     copied : (slot count : ℕ) (to : Value) (request : Request) → copy_of slot to count ≡ Ok request → Copy (slot, count) ≡ request
     copied slot count to request e = copied_if (nat_le (slot + count) 64) slot count (stack_place to (pos 0) (8 * count)) request e
 
--- ---- orders are put, and counted
+-- ---- orders are set, and counted
 
--- as many orders as were asked for at most
+-- At most as many orders are read as were asked for.
 orders_length : (bytes : List ℕ) → 4 * length (orders_of bytes) ≤ length bytes
 orders_length [] = omega arith
 orders_length (a ∷ []) = omega arith
@@ -113,9 +113,9 @@ row_held relay context s choice e =
     let is : along_row a.0 o.0 ≡ choice = ok_same (along_row a.0 o.0) choice o.2 in
     subst (λ (q : Choice). IsIn 0 13 (places_set relay q)) is (omega arith, ranges_kept.along relay a.0 o.0 (omega arith))
 
--- ---- what each helper promises
+-- ---- what each helper returns
 
--- P of what it gives, where it gives something
+-- P for the value of a result, if there is one.
 abbrev Gives : {A : Type 0} → (A → Type 0) → Result A Cause → Type 0
 Gives P (Ok a) = P a
 Gives P (Err cause) = Unit {0}
@@ -134,12 +134,12 @@ up_to n hi le = (omega arith, le)
 one_or_none : (n : ℕ) → IsIn 0 1 (1 - n)
 one_or_none n = (omega arith, omega arith)
 
--- what the board answers lies in the range
+-- What the board answers is in the range.
 answers : (h : Helper) (context : List ℕ) (s : State) → IfAsks (Gives (λ q. (waiting : State) → Answers waiting (returned_range h).0 (returned_range h).1 q)) (effect context s h)
 answers BoardCopy context s = gives_all (λ q. (waiting : State) → Answers waiting 0 64 q) (copy_in s) (λ q e waiting. copy_held s waiting q e)
 answers h context s = search (gives_any, word_held)
 
--- and so does what is told at once: of the places that are set, or of an entry
+-- So is what is returned at once: the number of orders that are set, or whether an entry is made.
 abbrev Tells : Relay → ℕ → ℕ → Effect → Type 0
 Tells relay lo hi (Asks request) = Unit {0}
 Tells relay lo hi (Puts tells choice) = Gives (λ c. IsIn lo hi (told tells (places_set relay c))) choice
@@ -149,7 +149,7 @@ tells : (h : Helper) (context : List ℕ) (relay : Relay) (s : State) → IsRela
 tells SendRow context relay s is = gives_all (λ c. IsIn 0 13 (places_set relay c)) (row_in context s) (λ choice e. row_held relay context s choice e)
 tells h context relay s is = search (gives_any, up_to, one_or_none, most_set, arith)
 
--- so r0 holds a number of it
+-- So r0 holds a number in the range.
 next_is : (a b : State) → Next a ≡ Next b → b ≡ a
 next_is a b e = cc
 

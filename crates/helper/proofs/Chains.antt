@@ -1,4 +1,4 @@
--- Results one after another.
+-- Results, one after the other.
 use Rattle.std.proofs.Common.{ℕ, ◌≡◌, ◌<◌, Bool, true, false, refl, ltb-true}
 use Rattle.std.specs.Prelude.{Result, Ok, Err, if◌then◌else◌, nat_lt}
 use Rattle.semantics.specs.declared.value.Value.{Value}
@@ -6,7 +6,7 @@ use Rattle.semantics.specs.declared.value.Value.TheVariants.{Unset, Number, Poin
 use Rattle.semantics.specs.State.{Cause, Argument, given}
 use Rattle.semantics.specs.Call.{below}
 
--- what a chain that gave something had before
+-- If a chain of results has a value, so had its first part.
 pub given_ok : {A B : Type 0} (r : Result A Cause) (f : A → Result B Cause) (b : B) → given r f ≡ Ok b → (a : A) × (r ≡ Ok a) × (f a ≡ Ok b)
 given_ok (Ok a) f b e = (a, refl, e)
 given_ok (Err cause) f b e = cc

@@ -1,4 +1,4 @@
--- What a call makes of its arguments.
+-- How a call checks its arguments.
 use Rattle.std.proofs.Common.{ℕ, ◌+◌, List}
 use Rattle.std.specs.Prelude.{Result, Ok}
 use Rattle.semantics.specs.Limits.{board_words, most_generals, most_labels}
@@ -7,7 +7,7 @@ use Rattle.semantics.specs.State.{Cause, State, given}
 use Rattle.semantics.specs.Outbox.{Choice, along_row}
 use Rattle.semantics.specs.Call.{argument, slot_in, pointer_in, copy_of, orders_at}
 
--- what the helpers with a window ask for, or put
+-- What the helpers that access memory request or set.
 abbrev pub copy_in : State → Result Request Cause
 copy_in s = given (slot_in s) (λ slot. given (pointer_in s 2) (λ to. given (argument s 3 (board_words + 1)) (λ count. copy_of slot to count)))
 

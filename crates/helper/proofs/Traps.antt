@@ -1,4 +1,4 @@
--- When a call traps, and for what.
+-- When a call traps, and with which cause.
 use Rattle.std.proofs.Common.{ℕ, pos, ◌+◌, ◌*◌, ◌^◌, ◌%◌, ◌≡◌, List, Bool, true, false, refl, ◌∙◌}
 use Rattle.std.specs.Prelude.{Result, Ok, Err, Option, Some, None, if◌then◌else◌, nat_lt, nat_le}
 use Rattle.semantics.specs.Relay.{Relay}
@@ -16,7 +16,7 @@ use Rattle.helper.specs.Table.{HasWindow, refusal, or_else, refused, arguments_o
 use Rattle.helper.specs.Windows.{number_in, refused_together, trap_of, CallsTrapByTable}
 use Rattle.helper.proofs.Tests.{copy_in, row_in}
 
--- why an effect is refused: for its request, its choice or its entry
+-- Why an effect fails: because of its request, its choice or its entry.
 abbrev effect_refusal : Effect → Option Cause
 effect_refusal (Asks request) = refusal request
 effect_refusal (Puts tells choice) = refusal choice
@@ -30,12 +30,12 @@ result_refusal relay s (Puts tells (Err cause)) = refl
 result_refusal relay s (Enters (Ok entry)) = refl
 result_refusal relay s (Enters (Err cause)) = refl
 
--- a chain refuses where its first part does, and else where the rest does
+-- A chain of results fails if its first part does, and otherwise if the next part does.
 chain : {A B : Type 0} (r : Result A Cause) (f : A → Result B Cause) (rest : Option Cause) → ((a : A) → r ≡ Ok a → refusal (f a) ≡ rest) → refusal (given r f) ≡ or_else (refusal r) rest
 chain (Ok a) f rest e = e a refl
 chain (Err cause) f rest e = refl
 
--- what goes on without a refusal
+-- A last part that cannot fail.
 alone : {A B : Type 0} (r : Result A Cause) (f : A → B) → refusal (given r (λ a. Ok (f a))) ≡ refusal r
 alone (Ok a) f = refl
 alone (Err cause) f = refl
@@ -44,7 +44,7 @@ pub number_if : (t : Bool) (m n : ℕ) → (if t then Ok m else Err Argument) �
 number_if true m n e = cc
 number_if false m n e = cc
 
--- the number that is accepted is the register's
+-- The number that is accepted is the one in the register.
 number_is : (bound : ℕ) (v : Value) (n : ℕ) → below bound v ≡ Ok n → number_in v ≡ n
 number_is bound Unset n e = cc
 number_is bound (Number m) n e = number_if (nat_lt m bound) m n e
@@ -74,7 +74,7 @@ orders_refuse context s from count = by (cells_at context s.cells from (pos 0) (
 
 -- ---- the helpers
 
--- an order is refused as its word is
+-- An order is rejected as its number is.
 chain_order : {B : Type 0} (r : Result ℕ Cause) (f : ℕ → Result B Cause) (rest : Option Cause) → ((order : ℕ) → refusal (f order) ≡ rest) → refusal (given (given r (λ word. Ok (word % 2 ^ 32))) f) ≡ or_else (refusal r) rest
 chain_order (Ok word) f rest e = e (word % 2 ^ 32)
 chain_order (Err cause) f rest e = refl
@@ -82,7 +82,7 @@ chain_order (Err cause) f rest e = refl
 chain_any : {A B : Type 0} (r : Result A Cause) (f : A → Result B Cause) (rest : Option Cause) → ((a : A) → refusal (f a) ≡ rest) → refusal (given r f) ≡ or_else (refusal r) rest
 chain_any r f rest e = chain r f rest (λ a same. e a)
 
--- a helper without a window is refused for its arguments alone
+-- A helper that accesses no memory rejects only its arguments.
 plain : (h : Helper) (context : List ℕ) (s : State) → (HasWindow h → ⊥) → effect_refusal (effect context s h) ≡ refused (arguments_of h) 1 s.registers
 plain BoardCopy context s none = absurd (none tt)
 plain SendRow context s none = absurd (none tt)
@@ -92,7 +92,7 @@ or_none : (o : Option Cause) → o ≡ or_else o None
 or_none None = refl
 or_none (Some cause) = refl
 
--- three arguments, and what is refused of them together
+-- Three arguments, and why they are rejected together.
 three : (a b d c : Option Cause) → or_else a (or_else b (or_else d c)) ≡ or_else (or_else a (or_else b (or_else d None))) c
 three None None None c = refl
 three None None (Some cause) c = refl

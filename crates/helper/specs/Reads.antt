@@ -1,4 +1,5 @@
--- Defines the registers that an instruction reads (RFC 9669, sections 4 and 5; of a call those that its helper takes).
+-- Defines the registers that an instruction reads (RFC 9669, sections 4 and 5). A call reads those in which its helper
+-- takes arguments.
 use Rattle.std.specs.Prelude.{ℕ, List, [], ◌∷◌, Option, Some, None}
 use Rattle.word.specs.declared.Operation.{Operation}
 use Rattle.word.specs.declared.Operation.TheVariants.{Move}
@@ -16,17 +17,17 @@ abbrev pub of_operand : Operand → Option ℕ
 of_operand (Register r) = Some r
 of_operand (Immediate n) = None
 
--- A move does not read dst.
+-- Returns `dst` if the operation reads it. A move does not.
 abbrev pub of_first : Operation → ℕ → Option ℕ
 of_first Move dst = None
 of_first _ dst = Some dst
 
--- Returns the register of an argument, if the helper takes one there.
+-- Returns the register `r`, if the helper takes an argument there.
 abbrev pub of_argument : ℕ → Option Argument → Option ℕ
 of_argument r None = None
 of_argument r (Some argument) = Some r
 
--- Returns the registers among r1, r2 and r3 that three arguments take.
+-- Returns the registers in which three arguments are taken, of r1, r2 and r3.
 abbrev pub of_arguments : List (Option Argument) → List (Option ℕ)
 of_arguments (first ∷ second ∷ third ∷ []) = of_argument 1 first ∷ of_argument 2 second ∷ of_argument 3 third ∷ []
 of_arguments _ = None ∷ None ∷ None ∷ []
@@ -36,7 +37,8 @@ abbrev pub of_helper : Option Helper → List (Option ℕ)
 of_helper None = None ∷ None ∷ None ∷ []
 of_helper (Some helper) = of_arguments (arguments_of helper)
 
--- Returns the registers that an instruction reads, at most three, in the order in which the verifier checks them.
+-- Returns the registers that an instruction reads, at most three, in the order in which the verifier checks that they
+-- are set.
 abbrev pub read_by : Insn → List (Option ℕ)
 read_by (Arithmetic w operation dst operand) = of_first operation dst ∷ of_operand operand ∷ None ∷ []
 read_by (Negate w dst) = Some dst ∷ None ∷ None ∷ []

@@ -1,4 +1,4 @@
--- Defines the arguments that helpers take, and the numbers that they return.
+-- Defines the arguments that helpers accept, and the numbers that they return.
 use Rattle.std.specs.Prelude.{ℕ, ◌+◌, ◌-◌, ◌^◌, ◌≡◌, List, [], ◌∷◌, Option, Some, None, Result, Ok, Err}
 use Rattle.semantics.specs.Limits.{board_words, most_generals, most_held, most_labels, receiver_sets}
 use Rattle.semantics.specs.Relay.{Relay}
@@ -10,7 +10,8 @@ use Rattle.semantics.specs.Call.{below, pointer, called}
 use Rattle.helper.specs.declared.argument.Argument.{Argument}
 use Rattle.helper.specs.declared.argument.Argument.TheVariants.{Slot, Word, Label, Receiver, Words, Orders, Held, Receivers, StackPointer, ReadablePointer}
 
--- Returns the bound below which a number must be as this argument. Pointers have no bound.
+-- Returns the bound below which a number must be to be accepted as this argument. An argument that is a pointer has
+-- none.
 abbrev pub bound_of : Argument → Option ℕ
 bound_of Slot = Some board_words
 bound_of Word = Some (2 ^ 64)
@@ -23,7 +24,7 @@ bound_of Receivers = Some receiver_sets
 bound_of StackPointer = None
 bound_of ReadablePointer = None
 
--- Returns the arguments that a helper takes in r1, r2 and r3.
+-- Returns the kinds of the arguments that a helper takes in r1, r2 and r3.
 abbrev pub arguments_of : Helper → List (Option Argument)
 arguments_of BoardGet = Some Slot ∷ None ∷ None ∷ []
 arguments_of BoardSwap = Some Slot ∷ Some Word ∷ None ∷ []
@@ -51,43 +52,43 @@ returned_range Honest = (0, most_labels)
 returned_range SignOrder = (0, 1)
 returned_range PassOn = (0, 1)
 
--- Returns the cause of a failure, or nothing if there is a result.
+-- Returns the cause with which a result failed, if it failed.
 abbrev pub refusal : {A : Type 0} → Result A Cause → Option Cause
 refusal (Ok a) = None
 refusal (Err cause) = Some cause
 
--- Checks a value as an argument. If there is a bound, it must be a number below the bound. Otherwise it must be a
--- pointer. Returns the cause if the value is rejected.
+-- Returns why a value is not accepted as an argument: with a bound, it must be a number below the bound, and otherwise
+-- a pointer.
 abbrev pub test_of : Option ℕ → Value → Option Cause
 test_of (Some bound) v = refusal (below bound v)
 test_of None v = refusal (pointer v)
 
--- Returns the first cause if there is one, otherwise the second.
+-- Returns the first cause if there is one, and otherwise the second.
 abbrev pub or_else : Option Cause → Option Cause → Option Cause
 or_else (Some cause) other = Some cause
 or_else None other = other
 
--- Returns the cause for the first argument that is rejected, in the registers from `r` on.
+-- Returns the cause for the first argument that is not accepted. The arguments are in the registers from `r` on.
 abbrev pub refused : List (Option Argument) → ℕ → List Value → Option Cause
 refused [] r registers = None
 refused (None ∷ arguments) r registers = refused arguments (r + 1) registers
 refused (Some argument ∷ arguments) r registers =
     or_else (test_of (bound_of argument) (value_at registers r)) (refused arguments (r + 1) registers)
 
--- States that a call of the helper traps for the first of these arguments that is rejected.
+-- States that a call of the helper traps if one of these arguments is not accepted. The first such argument is the
+-- cause.
 abbrev pub TestsThese : Helper → List (Option Argument) → Type 0
 TestsThese helper arguments =
     (context : List ℕ) (relay : Relay) (s : State) (cause : Cause) → refused arguments 1 s.registers ≡ Some cause
     → called context relay s (Some helper) ≡ Trap cause
 
--- States that the helper also depends on the cells at a pointer.
+-- States that the helper accesses memory at a pointer.
 abbrev pub HasWindow : Helper → Type 0
 HasWindow BoardCopy = Unit {0}
 HasWindow SendRow = Unit {0}
 HasWindow _ = ⊥
 
--- States that, if none of these arguments is rejected, a call traps only if the helper also depends on the cells at a
--- pointer.
+-- States that if all these arguments are accepted, a call traps only if the helper accesses memory.
 abbrev pub AcceptsThese : Helper → List (Option Argument) → Type 0
 AcceptsThese helper arguments =
     (context : List ℕ) (relay : Relay) (s : State) (cause : Cause) → refused arguments 1 s.registers ≡ None

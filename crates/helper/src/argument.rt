@@ -1,49 +1,49 @@
-//! Kinds of arguments that helpers take in registers, and the limits of those that are numbers.
+//! The kinds of arguments that helpers take in registers, and the limits of those that are numbers.
 ghost use Rattle.std.specs.Prelude.{◌≡◌, ◌+◌, option_map};
 ghost use Rattle.helper.specs.Table.{bound_of};
 
 /// The number of words of the board.
 pub const BOARD_WORDS: u64 = 64;
 
-/// The number of generals in the largest campaign.
+/// The greatest number of generals in a campaign.
 pub const MOST_GENERALS: u64 = 13;
 
-/// The number of labels that a context has room for.
+/// The number of labels for which a context has room.
 pub const MOST_LABELS: u64 = 1016;
 
-/// The number of chains that a general may hold in a signed campaign.
+/// The greatest number of chains of signatures that a general can hold.
 pub const MOST_HELD: u64 = 384;
 
-/// The number of sets of generals. A set has one bit of a word for each general.
+/// The number of sets of generals. A set is a number with one bit for each of 13 generals.
 pub const RECEIVER_SETS: u64 = 8192;
 
-/// The kind of argument that a helper takes in a register.
+/// The kind of an argument that a helper takes in a register.
 #[derive(Clone, Copy, PartialEq, Eq)]
 pub enum Argument {
-    /// The number of a word of the board, 0 to 63.
+    /// A slot of the board, 0 to 63.
     Slot,
-    /// Any word.
+    /// Any number of 64 bits.
     Word,
     /// The rank of a label, 0 to 1015.
     Label,
-    /// The number of a general, 0 to 12.
+    /// A general who receives an order, 0 to 12.
     Receiver,
-    /// A count of words of the board, 0 to 64.
+    /// A number of words of the board, 0 to 64.
     Words,
-    /// A count of orders, 0 to 13.
+    /// A number of orders, 0 to 13.
     Orders,
-    /// The place of a chain that the general holds, 0 to 383.
+    /// The index of a chain of signatures that the general holds, 0 to 383.
     Held,
     /// A set of receivers as a number from 0 to 8191. Bit g is set if general g is a receiver.
     Receivers,
-    /// A pointer to cells of the stack, which the helper writes.
+    /// A pointer to the place in the stack where the helper writes.
     StackPointer,
-    /// A pointer to bytes of the stack or the context, which the helper reads.
+    /// A pointer to the place in the stack or the context where the helper reads.
     ReadablePointer,
 }
 
 impl Argument {
-    /// Returns the greatest number that the argument may be, or `None` if it is a pointer.
+    /// Returns the greatest number that the helper accepts as this argument, or `None` if it accepts a pointer.
     pub fn greatest(self) -> Option<u64>
         ensures { option_map (λ n. n + 1) result ≡ bound_of self }
     {

@@ -1,4 +1,4 @@
-//! The helpers that programs call: their numbers, their arguments, and the numbers that they return.
+//! The helpers that programs call: their numbers, the arguments that they accept, and the numbers that they return.
 #![tactic(auto)]
 
 mod argument;

@@ -1,4 +1,4 @@
-//! Registers that an instruction reads.
+//! Finds the registers that an instruction reads.
 ghost use Rattle.std.specs.Prelude.{◌≡◌, ◌≤◌, ◌∷◌, []};
 ghost use Rattle.semantics.specs.Call.{helper_of};
 ghost use Rattle.helper.specs.declared.argument.Argument.{Argument};
@@ -9,7 +9,7 @@ use crate::table::{arguments, helper_of};
 use insn::{Insn, Operand, Reg};
 use word::Operation;
 
-/// A list of up to three registers.
+/// Up to three registers.
 pub type RegisterTriple = [Option<Reg>; 3];
 
 /// Returns the register of an operand, or `None` if the operand is an immediate number.
@@ -22,7 +22,7 @@ pub fn of_operand(operand: Operand) -> Option<Reg>
     }
 }
 
-/// Returns the destination register if the operation reads it. A move does not read it.
+/// Returns the register `dst` if the operation reads it, or `None` for a move, which only writes it.
 pub fn of_first(operation: Operation, dst: Reg) -> Option<Reg>
     ensures { result ≡ of_first operation dst }
 {
@@ -43,7 +43,7 @@ pub fn numbered(number: u8) -> Reg
     }
 }
 
-/// Returns the register of an argument, or `None` if the helper takes no argument there.
+/// Returns the register with this number, or `None` if the helper takes no argument in it.
 fn of_argument(number: u8, argument: Option<Argument>) -> Option<Reg>
     requires { number ≤ 10 }
     ensures { result ≡ of_argument number argument }
@@ -54,8 +54,8 @@ fn of_argument(number: u8, argument: Option<Argument>) -> Option<Reg>
     }
 }
 
-/// Returns the registers in which the helper with a number takes its arguments. If there is no such helper, there are
-/// none.
+/// Returns the registers in which the helper with this number takes its arguments, or no registers if there is no such
+/// helper.
 fn of_call(number: i32) -> RegisterTriple
     ensures { result ≡ of_helper (helper_of number) }
 {
@@ -70,7 +70,7 @@ fn of_call(number: i32) -> RegisterTriple
     ]
 }
 
-/// Returns the registers that an instruction reads, in the order in which the verifier checks them.
+/// Returns the registers that an instruction reads, in the order in which the verifier checks that they are set.
 pub fn read_by(insn: &Insn) -> RegisterTriple
     ensures { result ≡ read_by insn.now }
 {

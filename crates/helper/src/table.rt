@@ -1,4 +1,4 @@
-//! The table of helpers: numbers, arguments and ranges of results.
+//! The table of helpers: their numbers, the arguments that they accept, and the ranges of what they return.
 ghost use Rattle.std.specs.Prelude.{◌≡◌};
 ghost use Rattle.semantics.specs.Call.{helper_of};
 ghost use Rattle.helper.specs.Table.{arguments_of, AcceptsThese, TestsThese};
@@ -28,7 +28,8 @@ pub fn helper_of(number: i32) -> Option<Helper>
     }
 }
 
-/// Returns the arguments that the helper takes in r1, r2 and r3. A call checks them in this order.
+/// Returns the kinds of the arguments that a helper takes in r1, r2 and r3, or `None` for a register in which it takes
+/// none. A call checks them in this order.
 pub fn arguments(helper: Helper) -> [Option<Argument>; 3]
     ensures exact { result ≡ arguments_of helper }
     ensures tests { TestsThese helper (arguments_of helper) }
@@ -61,7 +62,7 @@ pub fn arguments(helper: Helper) -> [Option<Argument>; 3]
     [Some(first), second, third]
 }
 
-/// Returns the range of the number that the helper returns in r0.
+/// Returns the range of the numbers that a helper may return in r0.
 pub fn result(helper: Helper) -> Range
     ensures exact { result ≡ returned_range helper }
     ensures holds { Returns helper (returned_range helper).0 (returned_range helper).1 }

@@ -18,7 +18,8 @@ pub enum Size {
     Double,
 }
 
-/// An instruction of a program. Jump distances count units from the next instruction, and memory offsets count bytes.
+/// An instruction. Jump distances are in units, counted from the next instruction, and memory offsets are in bytes. A
+/// unit is 8 bytes of bytecode.
 #[derive(Clone, Copy)]
 pub enum Insn {
     /// Sets `dst` to the result of the operation on `dst` and the operand.
@@ -28,25 +29,25 @@ pub enum Insn {
         dst: Reg,
         operand: Operand,
     },
-    /// Negates `dst`.
+    /// Sets `dst` to its negation.
     Negate {
         width: Width,
         dst: Reg,
     },
-    /// Sets `dst` to the low bits of `src`, sign-extended to the width.
+    /// Sets `dst` to the low 8, 16 or 32 bits of `src`, sign-extended to the width.
     SignExtend {
         width: Width,
         part: Narrow,
         dst: Reg,
         src: Reg,
     },
-    /// Puts the low bytes of `dst` in the given byte order, and clears the bytes above them.
+    /// Sets `dst` to its low 2, 4 or 8 bytes in the given byte order, with the bytes above them cleared.
     Swap {
         order: ByteOrder,
         size: SwapSize,
         dst: Reg,
     },
-    /// Sets `dst` to a 64-bit number. This is the wide instruction, which takes two units.
+    /// Sets `dst` to a 64-bit number. This is the wide instruction, the only one that takes two units.
     LoadImmediate {
         dst: Reg,
         number: u64,
@@ -55,11 +56,11 @@ pub enum Insn {
     Jump {
         distance: i16,
     },
-    /// Jumps by `distance` units, with a distance of 32 bits.
+    /// Jumps by `distance` units, which may be more than in a `Jump`.
     LongJump {
         distance: i32,
     },
-    /// Jumps by `distance` units if `dst` and the operand meet the condition.
+    /// Jumps by `distance` units if the condition holds for `dst` and the operand.
     Branch {
         width: Width,
         condition: Condition,
@@ -67,32 +68,32 @@ pub enum Insn {
         operand: Operand,
         distance: i16,
     },
-    /// Loads 1, 2, 4 or 8 bytes at `base` plus `offset` into `dst`.
+    /// Sets `dst` to the 1, 2, 4 or 8 bytes at `base` plus `offset`.
     Load {
         size: Size,
         dst: Reg,
         base: Reg,
         offset: i16,
     },
-    /// Loads 1, 2 or 4 bytes at `base` plus `offset` into `dst`, sign-extended to 64 bits.
+    /// Sets `dst` to the 1, 2 or 4 bytes at `base` plus `offset`, sign-extended to 64 bits.
     LoadSigned {
         part: Narrow,
         dst: Reg,
         base: Reg,
         offset: i16,
     },
-    /// Stores the low bytes of the source at `base` plus `offset`.
+    /// Stores the low 1, 2, 4 or 8 bytes of the source at `base` plus `offset`.
     Store {
         size: Size,
         base: Reg,
         offset: i16,
         source: Operand,
     },
-    /// Calls a helper by its number.
+    /// Calls the helper with this number.
     Call {
         helper: i32,
     },
-    /// Ends the program with the value of r0.
+    /// Ends the program, which returns r0.
     Exit,
 }
 
@@ -100,8 +101,8 @@ impl Insn {
     ghost use Rattle.std.specs.Prelude.{◌≡◌, ◌≤◌, ◌↔◌, IsTrue};
     ghost use Rattle.insn.specs.Insn.{units_of, IsWell};
 
-    /// Returns whether the instruction is allowed in a program. An instruction that sign-extends 32 bits to 32 is not
-    /// (RFC 9669, section 4.1).
+    /// Returns whether the instruction is allowed in a program. Only a sign extension from 32 to 32 bits is not (RFC
+    /// 9669, section 4.1).
     pub fn is_well(&self) -> bool
         ensures { IsTrue result ↔ IsWell self.now }
     {
@@ -115,7 +116,8 @@ impl Insn {
         }
     }
 
-    /// Returns the number of 64-bit units that the instruction takes: 2 if it is wide, else 1 (RFC 9669, section 3.2).
+    /// Returns the number of 64-bit units that the instruction takes: 2 for the wide one, and otherwise 1 (RFC 9669,
+    /// section 3.2).
     pub fn units(&self) -> u16
         ensures units { result ≡ units_of self.now }
         ensures some { 1 ≤ result }

@@ -1,4 +1,5 @@
-//! Facts that the types of an instruction's fields guarantee. Each function does nothing, and its contract is the fact.
+//! Functions that do nothing. The contract of each gives the caller's proof a fact about instructions that their types
+//! guarantee.
 ghost use Rattle.std.specs.Prelude.{◌≤◌, FitsSigned};
 ghost use Rattle.std.specs.Int.{w16, w32};
 ghost use Rattle.insn.specs.Insn.{IsInsn, IsOperand, IsWell};
@@ -6,8 +7,8 @@ ghost use Rattle.insn.specs.Insn.{IsInsn, IsOperand, IsWell};
 use crate::insn::{Insn, Operand};
 use crate::reg::Reg;
 
-/// States that an instruction is well formed if it does not sign-extend 32 bits to 32. The types of its fields
-/// guarantee the rest.
+/// Does nothing. Its contract states that an instruction is well-formed unless it is a sign extension from 32 to 32
+/// bits.
 pub(crate) fn recall_insn(insn: &Insn)
     requires { IsWell insn.now }
     ensures { IsInsn insn.now }
@@ -69,7 +70,7 @@ pub(crate) fn recall_insn(insn: &Insn)
     }
 }
 
-/// States that the type of an operand keeps its register or number in range.
+/// Does nothing. Its contract states that an operand is one of r0 to r10 or a number of 32 bits.
 fn recall_operand(operand: Operand)
     ensures { IsOperand operand }
 {
@@ -79,19 +80,19 @@ fn recall_operand(operand: Operand)
     }
 }
 
-/// States that a register is one of r0 to r10.
+/// Does nothing. Its contract states that a register is one of r0 to r10.
 fn recall_register(register: Reg)
     ensures { register ≤ 10 }
 {
     let _number = register.number();
 }
 
-/// States that the number fits in 16 bits.
+/// Does nothing. Its contract states that the number fits in 16 bits.
 fn recall_short(number: i16)
     ensures { FitsSigned w16 number }
 {}
 
-/// States that the number fits in 32 bits.
+/// Does nothing. Its contract states that the number fits in 32 bits.
 fn recall_long(number: i32)
     ensures { FitsSigned w32 number }
 {}

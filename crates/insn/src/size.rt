@@ -6,7 +6,7 @@ use crate::insn::Size;
 use word::Narrow;
 
 impl Size {
-    /// Returns the size in bytes: 1, 2, 4 or 8 (RFC 9669, section 5).
+    /// Returns the number of bytes: 1, 2, 4 or 8 (RFC 9669, section 5).
     pub fn bytes(self) -> usize
         ensures bytes { result ≡ bytes_of self }
         ensures few { result ≤ 8 }
@@ -20,7 +20,7 @@ impl Size {
     }
 }
 
-/// Returns the number of bytes that a sign-extending load reads: 1, 2 or 4.
+/// Returns the number of bytes that a sign-extended load of `part` reads: 1, 2 or 4.
 pub fn bytes_of_part(part: Narrow) -> usize
     ensures bytes { result ≡ part_bytes part }
     ensures few { result ≤ 4 }

@@ -1,11 +1,12 @@
-//! Reads the arguments of helper calls from register values. The callers rule out every value that would trap.
+//! Reads the arguments of helper calls from registers. The callers must know that the values are ones that the helpers
+//! accept.
 ghost use Rattle.std.specs.Prelude.{◌≡◌, ◌<◌, ◌%◌, ◌^◌, IsOk, Ok};
 ghost use Rattle.semantics.specs.State.{given};
 ghost use Rattle.semantics.specs.Call.{below, pointer};
 
 use semantics::Value;
 
-/// Returns a number, which must be below `bound`.
+/// Returns the number that `value` is. It must be a number below `bound`.
 pub fn argument(value: Value, bound: u64) -> u64
     requires { IsOk (below bound value) }
     ensures same { below bound value ≡ Ok result }
@@ -28,7 +29,7 @@ pub fn word(value: Value) -> u64
     }
 }
 
-/// Returns the low 32 bits of a number, as an order. The value must be a number.
+/// Returns the order that `value` is: the low 32 bits of a number. It must be a number.
 pub fn order(value: Value) -> u32
     requires { IsOk (given (below (2 ^ 64) value) (λ word. Ok (word % 2 ^ 32))) }
     ensures { given (below (2 ^ 64) value) (λ word. Ok (word % 2 ^ 32)) ≡ Ok result }

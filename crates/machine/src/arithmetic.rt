@@ -1,4 +1,4 @@
-//! Computes the results of arithmetic instructions and comparisons on words.
+//! Computes the results of arithmetic instructions and comparisons.
 ghost use Rattle.std.specs.Prelude.{◌≡◌, IsOk, Ok};
 ghost use Rattle.word.specs.Arithmetic.{arithmetic, compared};
 ghost use Rattle.semantics.specs.Step.{number_of};
@@ -10,7 +10,7 @@ use word::arithmetic::{alu32, alu64};
 use word::comparison::{compare32, compare64};
 use word::{Condition, Operation, Width};
 
-/// Returns the number in a value. The value must be a number.
+/// Returns the number that `value` is. It must be a number.
 pub fn number_of(value: Value) -> u64
     requires { IsOk (number_of value) }
     ensures { number_of value ≡ Ok result }
@@ -21,7 +21,7 @@ pub fn number_of(value: Value) -> u64
     }
 }
 
-/// Computes an operation on two numbers of 32 or 64 bits.
+/// Returns the result of an operation on two numbers. At 32 bits, only their low halves are used.
 #[inline(always)]
 pub fn arithmetic(width: Width, operation: Operation, a: u64, b: u64) -> u64
     ensures { result ≡ arithmetic width operation a b }
@@ -32,7 +32,7 @@ pub fn arithmetic(width: Width, operation: Operation, a: u64, b: u64) -> u64
     }
 }
 
-/// Computes an operation other than a move on two numbers, where `work` names the operation and the width.
+/// Returns the result of an operation on two numbers. `work` is an operation other than a move, with its width.
 #[inline(always)]
 pub fn worked(work: SizedOperation, a: u64, b: u64) -> u64
     ensures { result ≡ arithmetic (operation_of work).0 (operation_of work).1 a b }
@@ -67,7 +67,7 @@ pub fn worked(work: SizedOperation, a: u64, b: u64) -> u64
     }
 }
 
-/// Checks whether two words meet a condition. At 32 bits, only their low halves are compared.
+/// Returns whether a condition holds for two numbers. At 32 bits, only their low halves are compared.
 pub fn compared(width: Width, condition: Condition, a: u64, b: u64) -> bool
     ensures { result ≡ compared width condition a b }
 {

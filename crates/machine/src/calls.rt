@@ -1,4 +1,4 @@
-//! Calls of helpers. The callers rule out every case in which the machine would trap.
+//! Executes calls of helpers. The callers must know that the call does not trap.
 ghost use Rattle.std.specs.Prelude.{◌≡◌, ◌<◌, ◌+◌, ◌-◌, ◌^◌, IsOk, Ok};
 ghost use Rattle.semantics.specs.State.{Next};
 ghost use Rattle.semantics.specs.Call.{helper_of, called, slot_in, get_in, swap_in, add_in, cas_in, copy_in, send_in, send_row_in, sway_in, honest_in, sign_in, pass_in, returned, sent, attempted};
@@ -12,7 +12,8 @@ use mem::{Context, load_row};
 use semantics::{Helper, Request, Slot, Span};
 
 impl Machine {
-    /// Calls the helper with this number. The program continues, or waits for the board's answer.
+    /// Calls the helper with this number. Returns `Flow::Onward` if the program continues, or the request whose answer
+    /// it waits for.
     #[inline(never)]
     pub(crate) fn call(&mut self, context: &Context, number: i32) -> Flow
         requires free { IsFree (called context.now self.old.relay self.old.state (helper_of number)) }
@@ -57,7 +58,7 @@ impl Machine {
         }
     }
 
-    /// Makes a request to the board. The call counts as a step, and the program waits after it.
+    /// Makes a request to the board. The call counts as a step, and the program then waits at the next unit.
     fn ask(&mut self, request: Request) -> Flow
         requires inside { self.old.state.unit < 4096 }
         requires room { self.old.state.steps + 1 < 2 ^ 32 }
@@ -73,7 +74,7 @@ impl Machine {
         Flow::Asked(request)
     }
 
-    /// Returns the request of a call of `board_get`.
+    /// Returns the request that a call of `board_get` makes: to read the slot in r1.
     fn get(&self) -> Request
         requires { IsOk (get_in self.now.state) }
         ensures { get_in self.now.state ≡ Ok result }
@@ -82,7 +83,7 @@ impl Machine {
         Request::Get { slot }
     }
 
-    /// Returns the request of a call of `board_swap`.
+    /// Returns the request that a call of `board_swap` makes: to replace the slot in r1 by the word in r2.
     fn swap(&self) -> Request
         requires { IsOk (swap_in self.now.state) }
         ensures { swap_in self.now.state ≡ Ok result }
@@ -92,7 +93,7 @@ impl Machine {
         Request::Swap { slot, value }
     }
 
-    /// Returns the request of a call of `board_add`.
+    /// Returns the request that a call of `board_add` makes: to add the word in r2 to the slot in r1.
     fn add(&self) -> Request
         requires { IsOk (add_in self.now.state) }
         ensures { add_in self.now.state ≡ Ok result }
@@ -102,7 +103,8 @@ impl Machine {
         Request::Add { slot, value }
     }
 
-    /// Returns the request of a call of `board_cas`.
+    /// Returns the request that a call of `board_cas` makes: to replace the slot in r1 by the word in r3 if it has the
+    /// word in r2.
     fn cas(&self) -> Request
         requires { IsOk (cas_in self.now.state) }
         ensures { cas_in self.now.state ≡ Ok result }
@@ -117,7 +119,7 @@ impl Machine {
         }
     }
 
-    /// Returns the request of a call of `board_copy`.
+    /// Returns the request that a call of `board_copy` makes: to read as many slots as r3 says, from the slot in r1 on.
     fn copy(&self) -> Request
         requires { IsOk (copy_in self.now.state) }
         ensures { copy_in self.now.state ≡ Ok result }
@@ -131,7 +133,7 @@ impl Machine {
         Request::Copy { span }
     }
 
-    /// Returns the slot of the board whose number is in r1.
+    /// Returns the slot of the board that r1 names.
     fn slot(&self) -> Slot
         requires { IsOk (slot_in self.now.state) }
         ensures { slot_in self.now.state ≡ Ok result }
@@ -142,7 +144,8 @@ impl Machine {
         slot
     }
 
-    /// Executes `send`: puts an order for one receiver of a label. r0 is 0, or 1 if there is no such place.
+    /// Executes `send`: sets the order for one label and one receiver. r0 becomes 0, or 1 if the outbox has no such
+    /// place.
     fn send(&mut self) -> Flow
         requires free { IsOk (send_in self.old.state) }
         requires inside { self.old.state.unit < 4096 }
@@ -160,8 +163,8 @@ impl Machine {
         self.go_on(if there { 0 } else { 1 })
     }
 
-    /// Executes `send_row`: puts orders, read from memory, for the receivers of a label. r0 is the number of orders
-    /// put.
+    /// Executes `send_row`: reads orders from memory, and sets them for one label and its first receivers. r0 becomes
+    /// the number of orders set.
     fn send_row(&mut self, context: &Context) -> Flow
         requires free { IsOk (send_row_in context.now self.old.state) }
         requires inside { self.old.state.unit < 4096 }
@@ -181,7 +184,8 @@ impl Machine {
         self.go_on(u64::from(set))
     }
 
-    /// Executes `sway`: puts one order for a receiver at every label. r0 is the number of orders put.
+    /// Executes `sway`: sets the order for each label and one receiver to the same value. r0 becomes the number of
+    /// orders set.
     fn sway(&mut self) -> Flow
         requires free { IsOk (sway_in self.old.state) }
         requires inside { self.old.state.unit < 4096 }
@@ -196,8 +200,8 @@ impl Machine {
         self.go_on(u64::from(set))
     }
 
-    /// Executes `honest`: puts, for a receiver at every label, the value that the general took for it. r0 is the number
-    /// of orders put.
+    /// Executes `honest`: sets the order for each label and one receiver to the value that the general took for the
+    /// label, as a loyal general does. r0 becomes the number of orders set.
     fn honest(&mut self, context: &Context) -> Flow
         requires free { IsOk (honest_in context.now self.old.state) }
         requires inside { self.old.state.unit < 4096 }
@@ -212,7 +216,8 @@ impl Machine {
         self.go_on(u64::from(set))
     }
 
-    /// Executes `sign_order`: enters an order, signed by the general. r0 is 0, or 1 if it is not entered.
+    /// Executes `sign_order`: enters in the outbox an order, signed by the general. r0 becomes 0, or 1 if it is not
+    /// entered.
     fn sign_order(&mut self) -> Flow
         requires free { IsOk (sign_in self.old.state) }
         requires inside { self.old.state.unit < 4096 }
@@ -227,8 +232,8 @@ impl Machine {
         self.go_on(if taken { 0 } else { 1 })
     }
 
-    /// Executes `pass_on`: enters a chain that the general holds, with his signature. r0 is 0, or 1 if it is not
-    /// entered.
+    /// Executes `pass_on`: enters in the outbox a chain that the general holds, with his signature added. r0 becomes 0,
+    /// or 1 if it is not entered.
     fn pass_on(&mut self) -> Flow
         requires free { IsOk (pass_in self.old.state) }
         requires inside { self.old.state.unit < 4096 }

@@ -1,13 +1,13 @@
-//! What remains of a program that has exited or was ended.
+//! What a program leaves when it has exited or was ended.
 use outbox::Outbox;
 
-/// What remains of a program that is run no further.
+/// What a program leaves when it has exited or was ended.
 #[derive(Drop)]
 pub struct Ended {
-    /// The outbox, with the orders that the program put and the entries that it made.
+    /// The outbox, with the orders that the program set, and the entries that it made in a campaign with signatures.
     pub outbox: Outbox,
-    /// The number of steps taken.
+    /// The number of steps that the program took.
     pub steps: u32,
-    /// The value that the program exited with. It is `None` if the program was ended before its exit.
+    /// The value with which the program exited, or `None` if it was ended before.
     pub r0: Option<u64>,
 }

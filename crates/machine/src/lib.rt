@@ -1,5 +1,5 @@
-//! The machine, which runs a verified program step by step. A `Machine` runs an activation in place. An `Activation` is
-//! passed by value, so that its type allows only one answer to each request.
+//! The machine, which runs an accepted program step by step. [`Machine`] runs it in place. [`Activation`] is passed by
+//! value instead, so that its type allows only one answer to each request.
 #![tactic(auto)]
 
 mod activation;

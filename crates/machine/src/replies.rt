@@ -1,4 +1,4 @@
-//! Continues a program with the board's reply to its request, or takes the request back.
+//! Continues a program with the board's reply to its request, or cancels the request.
 ghost use Rattle.std.specs.Prelude.{◌≡◌, ◌++◌, ◌∷◌, [], true, List, ℕ, length, slice_index};
 ghost use Rattle.insn.specs.declared.insn.Insn.{Insn};
 ghost use Rattle.semantics.specs.State.{Ask};
@@ -15,7 +15,8 @@ use mem::store_words;
 use semantics::{Reply, Request, Span};
 
 impl Machine {
-    /// Continues the program with the board's reply to its request. The reply must fit the request.
+    /// Continues the program with the board's reply to its request. The reply must have as many words as the request
+    /// asks for.
     pub fn resume(&mut self, request: &Request, reply: &Reply)
         requires fits { fits request.now (words_in reply.now) ≡ true }
         ensures relay { self.new.relay ≡ self.old.relay }
@@ -30,7 +31,7 @@ impl Machine {
         self.replied(*request, reply);
     }
 
-    /// Takes back the last request. The state and the number of steps are as before it.
+    /// Cancels the last request. The unit and the number of steps become what they were before it.
     pub fn withdraw(&mut self)
         requires { HasAsked self.old.state }
         ensures relay { self.new.relay ≡ self.old.relay }
@@ -42,7 +43,8 @@ impl Machine {
         self.steps -= 1;
     }
 
-    /// Changes the state as the board's reply asks: a copy goes to the stack, any other reply to r0.
+    /// Gives the board's reply to the program: the words of a copy are stored on the stack, and the word of another
+    /// reply goes to r0.
     pub(crate) fn replied(&mut self, request: Request, reply: &Reply)
         requires { fits request (words_in reply.now) ≡ true }
         ensures state { self.new.state ≡ resumed request (words_in reply.now) self.old.state }
@@ -57,7 +59,7 @@ impl Machine {
         }
     }
 
-    /// Sets r0 to the one word of the reply.
+    /// Sets r0 to the reply's only word.
     pub(crate) fn told(&mut self, reply: &Reply)
         requires { length (words_in reply.now) ≡ 1 }
         ensures state { self.new.state ≡ returned self.old.state (slice_index (words_in reply.now) 0) }
@@ -70,7 +72,7 @@ impl Machine {
         self.registers.set_result(word);
     }
 
-    /// Stores the copied words on the stack, where r2 points, and sets r0 to their number.
+    /// Stores the words of the reply on the stack, from the address in r2 on, and sets r0 to their number.
     pub(crate) fn copied(&mut self, span: Span, reply: &Reply)
         requires { length (words_in reply.now) ≡ span.1 }
         ensures state { self.new.state ≡ resumed (Request.Copy span) (words_in reply.now) self.old.state }

@@ -4,7 +4,7 @@ use semantics::Request;
 /// Why a running program has stopped.
 #[derive(Clone, Copy)]
 pub enum StopReason {
-    /// The program asks the board.
+    /// The program has made this request to the board.
     Asked(Request),
     /// The program has exited with this value of r0.
     Exited(u64),

@@ -1,4 +1,4 @@
-//! A program that waits for the board's answer: answering its request once, or cancelling it.
+//! A program that waits for the board's answer to its request.
 ghost use Rattle.std.specs.Prelude.{◌≡◌, List, ℕ, true};
 ghost use Rattle.insn.specs.declared.insn.Insn.{Insn};
 ghost use Rattle.semantics.specs.Call.{fits, resumed};
@@ -31,8 +31,7 @@ impl Model for Waiting {
 }
 
 impl Waiting {
-    /// Returns the program that waits for the answer to `request`. `machine` is its state, and it must have just made a
-    /// request.
+    /// Returns the program of `machine`, which has just made this request, as one that waits for the answer.
     pub(crate) fn of(request: Request, machine: Machine) -> Waiting
         requires { HasAsked machine.state }
         ensures request { result.request ≡ request }
@@ -55,7 +54,7 @@ impl Waiting {
         self.machine.steps()
     }
 
-    /// Continues the program with the board's reply, which must fit the request.
+    /// Continues the program with the board's reply. It must have as many words as the request asks for.
     pub fn answer(self, reply: Reply) -> Activation
         requires fits { fits self.request (words_in reply) ≡ true }
         ensures relay { result.relay ≡ self.standing.relay }
@@ -71,7 +70,7 @@ impl Waiting {
         Activation { machine }
     }
 
-    /// Cancels the request. The state and the number of steps are as before it.
+    /// Cancels the request. The unit and the number of steps become what they were before it.
     pub fn cancel(self) -> Activation
         ensures relay { result.relay ≡ self.standing.relay }
         ensures state { result.state ≡ before self.standing.state }

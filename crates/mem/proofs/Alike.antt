@@ -1,4 +1,4 @@
--- Lists that have the same at each place.
+-- Lists that have the same item at each index.
 use Rattle.std.proofs.Common.{ℕ, suc, ◌<◌, ◌≡◌, List, [], ◌∷◌, length, get_or, refl, arith}
 
 pub same_lists : {A : Type 0} (d : A) (a b : List A) → length a ≡ length b → ((k : ℕ) → k < length a → get_or a k d ≡ get_or b k d) → a ≡ b

@@ -1,4 +1,4 @@
--- A context tells its numbers.
+-- A context contains its numbers.
 use Rattle.std.proofs.Common.{◌≡◌, ℕ, zero, suc, ◌+◌, ◌-◌, ◌*◌, ◌<◌, ◌≤◌, ◌^◌, List, [], ◌∷◌, ◌++◌, take, drop, flat_map, ap, ◌∙◌, Some, arith}
 use Rattle.std.specs.Prelude.{replicate, slice_get, slice_range}
 use Rattle.std.specs.Int.{w32, from_le_bytes}
@@ -18,7 +18,7 @@ bytes_at (x ∷ xs) z zero zero (suc (suc (suc (suc n)))) v e le is = (let f : x
 bytes_at (x ∷ xs) z (suc i) (suc (suc (suc (suc a)))) (suc (suc (suc (suc n)))) v e le is = bytes_at xs z i a n v (omega arith) (omega arith) is
 bytes_at (x ∷ xs) z i a n v e le is = absurd (omega arith)
 
--- the numbers of a context, each in its four bytes
+-- Each number of a context is in its four bytes.
 pub number_at : (numbers : List ℕ) (i at v : ℕ) → at ≡ 4 * i → at + 4 ≤ 4096 → slice_get numbers i ≡ Some v → v < 2 ^ 32 → little_number (slice_range (context_bytes numbers) at (at + 4)) ≡ v
 unfolding context_bytes
 number_at numbers i at v e le is small =

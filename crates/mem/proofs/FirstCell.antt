@@ -1,4 +1,4 @@
--- What stands first in a window.
+-- The first cell of a window.
 use Rattle.std.proofs.Common.{◌≡◌, ℕ, ℤ, suc, ◌+◌, ◌-◌, ◌<◌, ◌≤◌, List, [], ◌∷◌, length, take, drop, get_or, true, false, Bool, refl, sym, ap, ◌∙◌, arith, drop-cons}
 use Rattle.std.proofs.lemmas.List.{length-take-le, length-drop}
 use Rattle.std.specs.Prelude.{Ok, Err, if◌then◌else◌}
@@ -51,7 +51,7 @@ no_pointer_in cells place i region offset s l e none =
     let h : are_pieces region offset 0 (Piece i region offset ∷ take (bytes_of s - 1) (drop (suc place) cells)) ≡ false = ap (are_pieces region offset 0) (sym f) ∙ none in
     ap value_in f ∙ ap (λ (b : Bool). if b then Ok (Pointer region offset) else Err NoBytes) h
 
--- pieces of one pointer are 8
+-- A pointer has 8 pieces.
 pub eight_pieces : (region : Region) (offset : ℤ) (i : ℕ) (cells : List Cell) → are_pieces region offset i cells ≡ true → i + length cells ≡ 8
 eight_pieces region offset i [] h = let e : i ≡ 8 = grind arith in omega arith
 eight_pieces region offset i (Empty ∷ cells) h = absurd cc
@@ -70,7 +70,7 @@ inside size.Half e h = omega arith
 inside size.Word e h = omega arith
 inside size.Double e h = omega arith
 
--- fewer than 8 are no pointer
+-- Fewer than 8 pieces are not a pointer.
 pub too_few : (cells : List Cell) (place : ℕ) (region : Region) (offset : ℤ) (s : Size) → place + bytes_of s ≤ 512 → length cells ≡ 512 → (s ≡ size.Double → ⊥) →
     are_pieces region offset 0 (take (bytes_of s) (drop place cells)) ≡ false
 too_few cells place region offset s fits long not = by_cases (are_pieces region offset 0 (take (bytes_of s) (drop place cells))) refl

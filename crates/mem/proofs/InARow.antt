@@ -1,4 +1,4 @@
--- Numbers in a row.
+-- Several numbers, one after the other.
 use Rattle.std.proofs.Common.{◌≡◌, ℕ, zero, suc, ◌+◌, ◌*◌, ◌<◌, ◌≤◌, List, [], ◌∷◌, ◌++◌, ◌-◌, length, take, drop, set, replicate, map, get_or, append-nil, refl, sym, ap, subst, ◌∙◌, arith}
 use Rattle.std.specs.Prelude.{pos, Result, Ok, Err}
 use Rattle.std.specs.List.{flat_map}
@@ -22,7 +22,7 @@ use Rattle.mem.proofs.Loading.{cells_are, twice}
 use Rattle.mem.proofs.Writing.{overwritten-more}
 use Rattle.semantics.proofs.WholeLaws.{length-words}
 
--- the row that cells spell, where each is a byte
+-- The numbers that cells encode, if all of them are bytes.
 abbrev pub numbers_of : Result (List ℕ) Cause → Result (List ℕ) Cause
 numbers_of r = given r (λ bytes. Ok (orders_of bytes))
 
@@ -50,7 +50,7 @@ bytes_in-append (Byte b ∷ xs) ys =
     ap (λ (r : Result (List ℕ) Cause). given r (λ bytes. Ok (b ∷ bytes))) (bytes_in-append xs ys) ∙ joined_byte b (bytes_in xs) (bytes_in ys)
 bytes_in-append (Piece i region offset ∷ xs) ys = refl
 
--- as many bytes as cells
+-- There are as many bytes as cells.
 abbrev LengthIs : ℕ → Result (List ℕ) Cause → Type 0
 LengthIs n (Ok bytes) = length bytes ≡ n
 LengthIs n (Err cause) = Unit {0}
@@ -84,7 +84,7 @@ orders_of-append (suc i) (a ∷ b ∷ c ∷ d ∷ xs) ys e f =
     let less : length xs ≡ 4 * i = omega arith in
     ap (λ (l : List ℕ). little_number (a ∷ b ∷ c ∷ d ∷ []) ∷ l) (orders_of-append i xs ys less f)
 
--- a row and one number more
+-- Several numbers and one more.
 abbrev pub one_more : Result (List ℕ) Cause → Result ℕ Cause → Result (List ℕ) Cause
 one_more row number = given row (λ numbers. given number (λ n. Ok (numbers ++ n ∷ [])))
 
@@ -104,13 +104,13 @@ joined_front : (p q : Result (List ℕ) Cause) (cause : Cause) → numbers_of p 
 joined_front (Ok xs) q cause e = absurd cc
 joined_front (Err other) q cause e = e
 
--- what the first part lacks, the whole lacks
+-- If the first part has no bytes, neither has the whole.
 row_in-front : (xs ys : List Cell) (cause : Cause) → row_in xs ≡ Err cause → row_in (xs ++ ys) ≡ Err cause
 row_in-front xs ys cause e = ap numbers_of (bytes_in-append xs ys) ∙ joined_front (bytes_in xs) (bytes_in ys) cause e
 
 -- ---- number after number
 
--- the numbers so far
+-- The numbers so far.
 pub next_number : (cells : List Cell) (place i room : ℕ) → length cells ≡ room → place + (4 * i + 4) ≤ room →
     row_in (take (4 * (i + 1)) (drop place cells)) ≡ one_more (row_in (take (4 * i) (drop place cells))) (number_in (take 4 (drop (place + 4 * i) cells)))
 next_number cells place i room long fits =
@@ -135,7 +135,7 @@ row_goes_on cells place i room n row long fits size lt so_far number =
     ∙ (ap (λ (r : Result (List ℕ) Cause). one_more r (number_in (take 4 (drop (place + 4 * i) cells)))) so_far
     ∙ (ap (λ (r : Result ℕ Cause). one_more (Ok (take i row)) r) number ∙ ap (λ (l : List ℕ). Ok l) (sym (take_more_set row i n inside))))
 
--- behind the numbers so far stand zeros
+-- After the numbers so far there are zeros.
 pub rest_stays : (i n : ℕ) (row : List ℕ) → drop i row ≡ replicate (13 - i) 0 → drop (i + 1) (set row i n) ≡ replicate (13 - (i + 1)) 0
 rest_stays i n row zeros =
     drop-set-lt (i + 1) row i n (omega arith)
@@ -159,7 +159,7 @@ row_stops cells place i count room cause row long fits lt so_far number =
         ∙ (ap row_in (take-split (4 * (i + 1)) (4 * rest) (drop place cells))
         ∙ row_in-front (take (4 * (i + 1)) (drop place cells)) (take (4 * rest) (drop (4 * (i + 1)) (drop place cells))) cause part)
 
--- the whole row
+-- All numbers.
 pub row_is : (context : List ℕ) (stack : List Cell) (base : Value) (count : ℕ) →
     row_at context stack base count ≡ given (place_at base (pos 0) (4 * count)) (λ p. row_in (part_at context stack (4 * count) p))
 row_is context stack base count =
@@ -174,7 +174,7 @@ pub row_nowhere : (context : List ℕ) (stack : List Cell) (base : Value) (count
     row_at context stack base count ≡ Err cause
 row_nowhere context stack base count cause e = row_is context stack base count ∙ ap (λ (r : Result (Region × ℕ) Cause). given r (λ q. row_in (part_at context stack (4 * count) q))) e
 
--- a region has its room
+-- A region has its number of cells.
 pub length-region : (context : List ℕ) (stack : List Cell) (region : Region) → length stack ≡ 512 → length context ≡ 4096 → length (region_cells context stack region) ≡ room_of region
 length-region context stack Stack s c = s
 length-region context stack Context s c = length-map context Byte ∙ c

@@ -1,4 +1,4 @@
--- Cells as they are kept.
+-- Cells as the code represents them.
 use Rattle.std.proofs.Common.{◌≡◌, ◌≢◌, ℤ, subst, ℕ, zero, suc, ◌+◌, ◌-◌, ◌*◌, ◌%◌, ◌<◌, ◌≤◌, ◌⊎◌, inl, inr, List, [], ◌∷◌, ◌++◌, length, take, drop, map, set, replicate, get_or, Bool, true, false, refl, sym, ap, ◌∙◌, arith, append_assoc, get_or-set_other, get_or-set_same}
 use Rattle.std.proofs.lemmas.List.{length-take-le, length-drop, length-append, length-map, get_or-append_right, get_or_append_left, get_or-drop}
 use Rattle.std.specs.Int.{w32, cast_signed}
@@ -36,7 +36,7 @@ cells_take K B O a zero n e = refl
 cells_take K B O a (suc p) zero e = absurd (omega arith)
 cells_take K B O a (suc p) (suc n) e = ap (λ (l : List Cell). cell_at K B O a ∷ l) (cells_take K B O (suc a) p n (omega arith))
 
--- a window
+-- A window.
 pub cells_window : (K B O : List ℕ) (place size : ℕ) → place + size ≤ 512 → take size (drop place (cells_from K B O 0 512)) ≡ cells_from K B O place size
 cells_window K B O place size fits =
     let e : 512 ≡ place + (512 - place) = omega arith in
@@ -72,11 +72,11 @@ cells_same K B O K' B' O' a (suc n) h =
 
 -- ---- writes
 
--- it is outside of a window
+-- The index is outside a window.
 abbrev pub Outside : ℕ → ℕ → ℕ → Type 0
 Outside place size p = (p < place) ⊎ (place + size ≤ p)
 
--- cells are overwritten where those of the window are new and the others stay
+-- Cells are replaced if those of the window are new and the others are unchanged.
 pub cells_overwritten : (K B O K' B' O' : List ℕ) (place size : ℕ) (new : List Cell) → place + size ≤ 512 → length new ≡ size → cells_from K' B' O' place size ≡ new →
     ((p : ℕ) → Outside place size p → cell_at K' B' O' p ≡ cell_at K B O p) → cells_from K' B' O' 0 512 ≡ overwritten (cells_from K B O 0 512) place new
 cells_overwritten K B O K' B' O' place size new fits long inside outside =
@@ -213,7 +213,7 @@ pieces_stand K B O place region offset h =
     next : (i p : ℕ) → i < 8 → p ≡ place + i → cell_at K B O p ≡ Piece i region offset
     next i p l e = ap (λ (n : ℕ). cell_at K B O n) e ∙ h i l
 
--- another pointer's offset stays
+-- The offset of another pointer is unchanged.
 others_stay : (k b : ℕ) (O : List ℕ) (place word p : ℕ) → Outside place 8 p → cell_of k b (set O place word) p ≡ cell_of k b O p
 others_stay zero b O place word p out = refl
 others_stay (suc zero) b O place word p out = refl
@@ -239,7 +239,7 @@ length_bytes size.Half n = refl
 length_bytes size.Word n = refl
 length_bytes size.Double n = refl
 
--- the kinds of bytes
+-- The kinds of bytes.
 pub ones : (s : Size) (i : ℕ) → i < bytes_of s → get_or (little_bytes (bytes_of s) 72340172838076673) i 0 ≡ 1
 ones size.Byte zero h = refl
 ones size.Byte (suc i) h = absurd (omega arith)
@@ -261,7 +261,7 @@ ones size.Double (suc (suc (suc (suc (suc (suc zero)))))) h = refl
 ones size.Double (suc (suc (suc (suc (suc (suc (suc zero))))))) h = refl
 ones size.Double (suc (suc (suc (suc (suc (suc (suc (suc i)))))))) h = absurd (omega arith)
 
--- the kind of a piece
+-- The kind of a piece.
 abbrev base : Region → ℕ
 base Stack = 0
 base Context = 1

@@ -1,4 +1,4 @@
--- What is read where it is known to be there.
+-- What is read if it is known to be there.
 use Rattle.std.proofs.Common.{◌≡◌, ◌≢◌, ℕ, ℤ, zero, suc, ◌+◌, ◌-◌, ◌%◌, ◌≤◌, List, ◌∷◌, length, take, drop, get_or, true, false, Bool, refl, sym, ap, subst, ◌∙◌, arith, drop-cons}
 use Rattle.std.specs.Prelude.{Result, Ok, Err, IsOk, if◌then◌else◌, ◌&&◌, ◌==◌}
 use Rattle.std.specs.Ordering.{int_eq}
@@ -28,7 +28,7 @@ one_more zero b O p cells bytes h ih = absurd cc
 one_more (suc zero) b O p cells bytes h ih = ap (λ (r : Result (List ℕ) Cause). given r (λ more. Ok (b ∷ more))) (ih (ok_rest b (bytes_in cells) h))
 one_more (suc (suc k)) b O p cells bytes h ih = absurd cc
 
--- bytes
+-- Bytes.
 pub known_bytes : (K B O : List ℕ) (place n : ℕ) → place + n ≤ length B → IsOk (bytes_in (cells_from K B O place n)) → bytes_in (cells_from K B O place n) ≡ Ok (take n (drop place B))
 unfolding cells_from
 known_bytes K B O place zero fits h = refl
@@ -44,7 +44,7 @@ pub known_number : (K B O : List ℕ) (place n : ℕ) → place + n ≤ length B
 known_number K B O place n fits h =
     ap (λ (r : Result (List ℕ) Cause). given r (λ bytes. Ok (little_number bytes))) (known_bytes K B O place n fits (ok_number (bytes_in (cells_from K B O place n)) h))
 
--- the number of a window of a stack
+-- The number in a window of the stack.
 pub number_known : (K B O : List ℕ) (cells : List Cell) (place n result : ℕ) → cells_from K B O 0 512 ≡ cells → length B ≡ 512 → place + n ≤ 512 →
     IsOk (number_in (take n (drop place cells))) → result ≡ little_number (take n (drop place B)) → number_in (take n (drop place cells)) ≡ Ok result
 number_known K B O cells place n result e long fits h r =
@@ -70,7 +70,7 @@ no_trap : (b : Bool) (v : Value) → IsOk (found_if b v) → b ≡ true
 no_trap true v h = refl
 no_trap false v h = absurd cc
 
--- where no pointer stands, it is that of its number
+-- If there is no pointer, the value is the number.
 as_number : (k b : ℕ) (O : List ℕ) (p : ℕ) (cells : List Cell) (v : ℕ) → IsOk (value_in (cell_of k b O p ∷ cells)) → ((region : Region) (offset : ℤ) → are_pieces region offset 0 (cell_of k b O p ∷ cells) ≡ false) →
     (IsOk (number_in (cell_of k b O p ∷ cells)) → number_in (cell_of k b O p ∷ cells) ≡ Ok v) → value_in (cell_of k b O p ∷ cells) ≡ Ok (Number v)
 as_number zero b O p cells v h none n = absurd cc
@@ -93,7 +93,7 @@ short_known K B O cells place m result e long fits h none r =
     (λ region offset. ap (are_pieces region offset 0) (sym w) ∙ none region offset)
     (λ ok. known_number K B O place (suc m) (omega arith) ok ∙ ap (λ (n : ℕ). Ok n) (sym r))
 
--- where a byte stands first, it is a number
+-- If the first cell is a byte, the value is a number.
 pub byte_known : (K B O : List ℕ) (cells : List Cell) (place result : ℕ) → cells_from K B O 0 512 ≡ cells → length B ≡ 512 → place + 8 ≤ 512 → get_or K place 0 ≡ 1 →
     IsOk (value_in (take 8 (drop place cells))) → result ≡ little_number (take 8 (drop place B)) → value_in (take 8 (drop place cells)) ≡ Ok (Number result)
 unfolding cells_from
@@ -118,7 +118,7 @@ as_pointer (suc (suc k)) b O p cells n h =
     front : (i : ℕ) (a b d : Bool) → (i == 0) && a && b && d ≡ true → i ≡ 0
     front i a b d e = grind arith
 
--- where something else stands first, it is a pointer
+-- If the first cell is something else, the value is a pointer.
 pub pointer_known : (K B O : List ℕ) (cells : List Cell) (place : ℕ) → cells_from K B O 0 512 ≡ cells → place + 8 ≤ 512 → get_or K place 0 ≢ 1 →
     IsOk (value_in (take 8 (drop place cells))) → value_in (take 8 (drop place cells)) ≡ Ok (Pointer (region_of (get_or K place 0)) (cast_signed w32 (get_or O place 0)))
 unfolding cells_from
@@ -126,7 +126,7 @@ pointer_known K B O cells place e fits k h =
     let w : take 8 (drop place cells) ≡ cell_at K B O place ∷ cells_from K B O (suc place) 7 = ap (λ (l : List Cell). take 8 (drop place l)) (sym e) ∙ cells_window K B O place 8 fits in
     ap value_in w ∙ as_pointer (get_or K place 0) (get_or B place 0) O place (cells_from K B O (suc place) 7) k (subst (λ (l : List Cell). IsOk (value_in l)) w h)
 
--- fewer than 8 cells are a number
+-- Fewer than 8 cells are a number.
 pub value_known : (K B O : List ℕ) (cells : List Cell) (place : ℕ) (s : Size) (result : ℕ) → cells_from K B O 0 512 ≡ cells → length B ≡ 512 → place + bytes_of s ≤ 512 → (s ≡ size.Double → ⊥) →
     IsOk (value_in (take (bytes_of s) (drop place cells))) → result ≡ little_number (take (bytes_of s) (drop place B)) → value_in (take (bytes_of s) (drop place cells)) ≡ Ok (Number result)
 value_known K B O cells place s result e long fits short h r =

@@ -5,7 +5,7 @@ use borrow.Rule.Slice.PartMut.{put_mid, mid_of}
 use Rattle.word.specs.Bytes.{little_bytes}
 use Rattle.mem.specs.Layout.{replaced}
 
--- the rest from a place on
+-- The items from an index on.
 rest_is : (xs : List ℕ) (place : ℕ) → length xs ≡ 512 → place ≤ 512 → mid_of place (512 - place) xs ≡ drop place xs
 rest_is xs place long fits = take_all (512 - place) (drop place xs) (omega (arith, length-drop place xs))
 

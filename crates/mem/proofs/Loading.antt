@@ -1,4 +1,4 @@
--- Loads by places.
+-- Loads, by the index of their first byte.
 use Rattle.std.proofs.Common.{FitsSigned, to_z, of_z, ◌≡◌, ℕ, ℤ, ◌+◌, ◌+ℤ◌, List, [], ◌∷◌, take, drop, map, refl, sym, ap, subst, ◌∙◌}
 use Rattle.std.specs.Prelude.{Result, Ok, Err, slice_range, IsOk}
 use Rattle.std.specs.Int.{w16, w64}
@@ -44,7 +44,7 @@ loaded_at context stack size base distance =
     ap (λ (r : Result (List Cell) Cause). given r value_in) (cells_are context stack size base distance)
     ∙ twice (place_at base distance size) (λ p. part_at context stack size p) value_in
 
--- what a signed load makes of a number
+-- What a sign-extended load makes of a number.
 abbrev pub extended : Narrow → Result ℕ Cause → Result Value Cause
 extended part r = given r (λ n. Ok (Number (sign_extended W64 part n)))
 
@@ -59,7 +59,7 @@ extended_at : (context : List ℕ) (stack : List Cell) (size : ℕ) (part : Narr
 extended_at context stack size part (Ok p) = extended_bytes part (bytes_in (part_at context stack size p))
 extended_at context stack size part (Err cause) = refl
 
--- a signed load
+-- A sign-extended load.
 pub loaded_signed_at : (context : List ℕ) (stack : List Cell) (part : Narrow) (base : Value) (distance : ℤ) →
     loaded_signed context stack part base distance ≡ given (place_at base distance (part_bytes part)) (λ p. extended part (number_in (part_at context stack (part_bytes part) p)))
 loaded_signed_at context stack part base distance =
@@ -78,7 +78,7 @@ value_in-bytes (b ∷ bytes) = ap (λ (r : Result (List ℕ) Cause). given r (λ
 context_part : (context : List ℕ) (place size : ℕ) → take size (drop place (map Byte context)) ≡ map Byte (take size (drop place context))
 context_part context place size = ap (λ (l : List Cell). take size l) (drop-map Byte place context) ∙ take-map Byte size (drop place context)
 
--- the context's cells are bytes
+-- The cells of the context are bytes.
 pub context_value : (context : List ℕ) (place size : ℕ) → value_in (take size (drop place (map Byte context))) ≡ Ok (Number (little_number (take size (drop place context))))
 context_value context place size = ap value_in (context_part context place size) ∙ value_in-bytes (take size (drop place context))
 
@@ -86,14 +86,14 @@ pub context_number : (context : List ℕ) (place size : ℕ) → number_in (take
 context_number context place size =
     ap number_in (context_part context place size) ∙ ap (λ (r : Result (List ℕ) Cause). given r (λ bytes. Ok (little_number bytes))) (bytes_in-bytes (take size (drop place context)))
 
--- what a load answers at the place of its window
+-- What a load returns for its window.
 pub loads : (context : List ℕ) (stack : List Cell) (size : ℕ) (base : Value) (distance : ℤ) (p : Region × ℕ) (r : Result Value MemoryFault) →
     place_at base distance size ≡ Ok p → IsAnswer (value_in (part_at context stack size p)) r → IsAnswer (loaded context stack size base distance) r
 loads context stack size base distance p r e answer =
     subst (λ (x : Result Value Cause). IsAnswer x r)
     (sym (loaded_at context stack size base distance ∙ ap (λ (q : Result (Region × ℕ) Cause). given q (λ p. value_in (part_at context stack size p))) e)) answer
 
--- and a signed load
+-- The same for a sign-extended load.
 pub loads_signed : (context : List ℕ) (stack : List Cell) (size : ℕ) (part : Narrow) (base : Value) (distance : ℤ) (p : Region × ℕ) (r : Result ℕ Cause) → size ≡ part_bytes part →
     place_at base distance size ≡ Ok p → number_in (part_at context stack size p) ≡ r → loaded_signed context stack part base distance ≡ extended part r
 loads_signed context stack size part base distance p r same e answer =
@@ -101,7 +101,7 @@ loads_signed context stack size part base distance p r same e answer =
     ∙ (ap (λ (n : ℕ). given (place_at base distance n) (λ p. extended part (number_in (part_at context stack n p)))) (sym same)
     ∙ (ap (λ (q : Result (Region × ℕ) Cause). given q (λ p. extended part (number_in (part_at context stack size p)))) e ∙ ap (extended part) answer))
 
--- a load at a pointer, by its place
+-- A load at a pointer, by the index of its first byte.
 pub read_at : (context : List ℕ) (stack : List Cell) (size : ℕ) (region : Region) (offset distance : ℤ) (place : ℕ) → window region (offset +ℤ distance) size ≡ Ok place →
     loaded context stack size (Pointer region offset) distance ≡ value_in (part_at context stack size (region, place))
 read_at context stack size region offset distance place e =
@@ -119,7 +119,7 @@ pub ok_extended : (part : Narrow) (r : Result ℕ Cause) → IsOk (extended part
 ok_extended part (Ok n) h = refl
 ok_extended part (Err cause) h = h
 
--- an offset and a distance as they were passed
+-- An offset and a distance, as they are passed.
 pub as_passed : (region : Region) (offset distance : ℤ) (size place : ℕ) → FitsSigned w64 offset → FitsSigned w16 distance →
     window region (to_z w64 (of_z w64 offset) +ℤ to_z w16 (of_z w16 distance)) size ≡ Ok place → window region (offset +ℤ distance) size ≡ Ok place
 as_passed region offset distance size place f g e =

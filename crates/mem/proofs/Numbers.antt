@@ -11,7 +11,7 @@ use Rattle.semantics.specs.Memory.{bytes_in}
 use Rattle.mem.specs.Reading.{number_in, Reads}
 use Rattle.mem.proofs.Parts.{take-split}
 
--- a number's bytes in two parts
+-- The bytes of a number in two parts.
 pub little_number-append : (xs ys : List ℕ) → little_number (xs ++ ys) ≡ little_number xs + 256 ^ length xs * little_number ys
 little_number-append [] ys = omega arith
 little_number-append (x ∷ xs) ys =
@@ -20,7 +20,7 @@ little_number-append (x ∷ xs) ys =
     ap (λ (k : ℕ). k * little_number ys) (pow-succ' 256 (length xs)) ∙ mul_assoc 256 (256 ^ length xs) (little_number ys) in
     omega (arith, ih, p)
 
--- the number in front of another
+-- The number before another.
 first_byte : (b : ℕ) (r : Result (List ℕ) Cause) → given (given r (λ bytes. Ok (b ∷ bytes))) (λ bytes. Ok (little_number bytes)) ≡ given (given r (λ bytes. Ok (little_number bytes))) (λ n. Ok (b + 256 * n))
 first_byte b (Ok bytes) = refl
 first_byte b (Err cause) = refl
@@ -28,7 +28,7 @@ first_byte b (Err cause) = refl
 pub number_in-byte : (b : ℕ) (xs : List Cell) → number_in (Byte b ∷ xs) ≡ given (number_in xs) (λ n. Ok (b + 256 * n))
 number_in-byte b xs = first_byte b (bytes_in xs)
 
--- the result of the two parts' results
+-- The result from the results of the two parts.
 abbrev pub both : ℕ → Result ℕ Cause → Result ℕ Cause → Result ℕ Cause
 both size a b = given a (λ m. given b (λ n. Ok (m + 256 ^ size * n)))
 
@@ -44,7 +44,7 @@ both_none : (r : Result ℕ Cause) → both 0 (Ok 0) r ≡ r
 both_none (Ok n) = let e : 0 + 256 ^ 0 * n ≡ n = omega arith in ap (λ (k : ℕ). Ok k) e
 both_none (Err cause) = refl
 
--- the number in two parts
+-- The number in two parts.
 pub number_in-append : (xs ys : List Cell) → number_in (xs ++ ys) ≡ both (length xs) (number_in xs) (number_in ys)
 number_in-append [] ys = sym (both_none (number_in ys))
 number_in-append (Empty ∷ xs) ys = refl
@@ -55,7 +55,7 @@ number_in-append (Byte b ∷ xs) ys =
     ∙ ap (λ (r : Result ℕ Cause). both (suc (length xs)) r (number_in ys)) (sym (number_in-byte b xs))))
 number_in-append (Piece i region offset ∷ xs) ys = refl
 
--- what two neighbouring parts read, together
+-- Two adjacent parts, read together.
 pub reads_both : (cells : List Cell) (place m n : ℕ) → place + m ≤ length cells →
     number_in (take (m + n) (drop place cells)) ≡ both m (number_in (take m (drop place cells))) (number_in (take n (drop (place + m) cells)))
 reads_both cells place m n fits =
@@ -80,7 +80,7 @@ reads_number cells place m n a b fits low high =
     reads_both cells place m n fits
     ∙ (ap (λ (r : Result ℕ Cause). both m r (number_in (take n (drop (place + m) cells)))) low ∙ ap (λ (r : Result ℕ Cause). both m (Ok a) r) high)
 
--- and of bytes alone
+-- The same for bytes.
 pub number_both : (bytes : List ℕ) (place m n : ℕ) → place + m ≤ length bytes →
     little_number (take (m + n) (drop place bytes)) ≡ little_number (take m (drop place bytes)) + 256 ^ m * little_number (take n (drop (place + m) bytes))
 number_both bytes place m n fits =

@@ -1,4 +1,4 @@
--- The bytes of numbers, one number after another, and zeros behind.
+-- The bytes of several numbers, and zeros after them.
 use Rattle.std.proofs.Common.{◌≡◌, ℕ, zero, suc, ◌-◌, ◌*◌, ◌≤◌, List, [], ◌∷◌, ◌++◌, length, take, flat_map, refl, sym, ap, ◌∙◌, arith, length-append}
 use Rattle.std.specs.Prelude.{replicate}
 use Rattle.std.proofs.lemmas.Grind.{flat_map-append}
@@ -6,7 +6,7 @@ use Rattle.word.specs.Bytes.{little_bytes}
 use Rattle.label.specs.declared.shape.Shape.{Shape}
 use Rattle.mem.specs.ContextLayout.{context_bytes}
 
--- the eight numbers in front of a context's values
+-- The eight numbers at the beginning of a context.
 abbrev pub header_numbers : Shape → ℕ → ℕ → List ℕ
 header_numbers shape bound count =
     shape.generals ∷ bound ∷ shape.general ∷ shape.commander ∷ shape.round ∷ count ∷ (shape.generals - shape.round) ∷ 0 ∷ []
@@ -15,7 +15,7 @@ spelled-long : (numbers : List ℕ) → length (flat_map (little_bytes 4) number
 spelled-long [] = refl
 spelled-long (n ∷ numbers) = (let e = spelled-long numbers in omega arith)
 
--- zeros up to a length, and as many zeros as one likes cut off there
+-- Appending more zeros and cutting off at a length is appending zeros up to this length.
 padded : (n m : ℕ) (xs : List ℕ) → length xs ≤ n → n ≤ m → xs ++ replicate (n - length xs) 0 ≡ take n (xs ++ replicate m 0)
 padded n m [] l h = let e : n - 0 ≡ n = omega arith in rw e (sym (zeros n m h))
   where
@@ -37,7 +37,7 @@ whole (suc n) [] l = refl
 whole zero (x ∷ xs) l = absurd (omega arith)
 whole (suc n) (x ∷ xs) l = ap (λ ys. x ∷ ys) (whole n xs (omega arith))
 
--- a header of eight numbers, then orders, then zeros
+-- Eight numbers, then orders, then zeros.
 pub context_done : (header coded orders z a b c : List ℕ) (n : ℕ) → length header ≡ 8 → length orders ≤ 1000 → coded ≡ header → z ≡ [] → a ≡ z ++ flat_map (little_bytes 4) coded → b ≡ a ++ flat_map (little_bytes 4) orders → n ≡ length b → c ≡ take 4096 b ++ replicate (4096 - n) 0 → c ≡ context_bytes (header ++ orders)
 context_done header coded orders z a b c n eight few eh ez ea eb en ec =
     let all : b ≡ flat_map (little_bytes 4) (header ++ orders) = eb ∙ (ap (λ xs. xs ++ flat_map (little_bytes 4) orders) (ea ∙ (λ i. ez i ++ flat_map (little_bytes 4) (eh i))) ∙ sym (flat_map-append (little_bytes 4) header orders)) in

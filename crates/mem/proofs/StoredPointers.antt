@@ -1,4 +1,4 @@
--- Pointers that stand in cells.
+-- Pointers that are stored in cells.
 use Rattle.std.proofs.Common.{◌≡◌, ℕ, ℤ, zero, suc, ◌+◌, ◌-◌, ◌<◌, ◌≤◌, List, [], ◌∷◌, ◌++◌, length, take, drop, get_or, set, Bool, true, false, ◌&&◌, refl, sym, ap, ◌∙◌, arith, drop-cons}
 use Rattle.std.proofs.lemmas.List.{take_more, length-take-le, append-nil, take-append-drop}
 use Rattle.semantics.specs.declared.value.Region.{Region}
@@ -13,7 +13,7 @@ first_piece region offset i Empty xs = refl
 first_piece region offset i (Byte b) xs = refl
 first_piece region offset i (Piece j other at) xs = refl
 
--- the cells from the i-th on, of 8
+-- The cells from the i-th on, of 8.
 abbrev pub rest_of : List Cell → ℕ → ℕ → List Cell
 rest_of cells place i = take (8 - i) (drop (place + i) cells)
 
@@ -32,14 +32,14 @@ pieces_at cells place i region offset d b below fits f =
     ap (λ (l : List Cell). are_pieces region offset i l) (rest_first cells place i d below fits)
     ∙ (first_piece region offset i (get_or cells (place + i) d) (rest_of cells place (i + 1)) ∙ ap (λ (t : Bool). t && are_pieces region offset (i + 1) (rest_of cells place (i + 1))) (sym f))
 
--- a right piece leaves the rest to be looked at
+-- If a piece is right, the later ones decide.
 pub piece_right : (cells : List Cell) (place i : ℕ) (region : Region) (offset : ℤ) (d : Cell) (b : Bool) → i < 8 → place + 8 ≤ length cells → b ≡ is_piece i region offset (get_or cells (place + i) d) → b ≡ true →
     are_pieces region offset 0 (take 8 (drop place cells)) ≡ are_pieces region offset i (rest_of cells place i) →
     are_pieces region offset 0 (take 8 (drop place cells)) ≡ are_pieces region offset (i + 1) (rest_of cells place (i + 1))
 piece_right cells place i region offset d b below fits f right so_far =
     so_far ∙ (pieces_at cells place i region offset d b below fits f ∙ ap (λ (t : Bool). t && are_pieces region offset (i + 1) (rest_of cells place (i + 1))) right)
 
--- a wrong one decides
+-- A wrong piece decides.
 pub piece_wrong : (cells : List Cell) (place i : ℕ) (region : Region) (offset : ℤ) (d : Cell) (b : Bool) → i < 8 → place + 8 ≤ length cells → b ≡ is_piece i region offset (get_or cells (place + i) d) → b ≡ false →
     are_pieces region offset 0 (take 8 (drop place cells)) ≡ are_pieces region offset i (rest_of cells place i) → false ≡ are_pieces region offset 0 (take 8 (drop place cells))
 piece_wrong cells place i region offset d b below fits f wrong so_far =
@@ -56,7 +56,7 @@ piece_in region offset (suc (suc (suc (suc (suc (suc zero)))))) d h = refl
 piece_in region offset (suc (suc (suc (suc (suc (suc (suc zero))))))) d h = refl
 piece_in region offset (suc (suc (suc (suc (suc (suc (suc (suc i)))))))) d h = absurd (omega arith)
 
--- the next piece is written
+-- The next piece is written.
 pub piece_written : (old new : List Cell) (place i : ℕ) (region : Region) (offset : ℤ) → i < 8 → place + 8 ≤ length old → length new ≡ length old →
     new ≡ overwritten old place (take i (pieces_of region offset)) → set new (place + i) (Piece i region offset) ≡ overwritten old place (take (i + 1) (pieces_of region offset))
 piece_written old new place i region offset below fits same e =
@@ -72,16 +72,16 @@ piece_written old new place i region offset below fits same e =
     ∙ (ap (λ (n : ℕ). overwritten (overwritten old place xs) (place + n) (x ∷ [])) (sym long)
     ∙ (overwritten-more old place xs (x ∷ []) room ∙ ap (λ (l : List Cell). overwritten old place l) (sym more))))
 
--- nothing is written
+-- Nothing is written.
 pub nothing_written : (cells : List Cell) (place : ℕ) → place ≤ length cells → cells ≡ overwritten cells place []
 nothing_written cells place fits =
     let e : place ≡ place + 0 = omega arith in
     sym (ap (λ (l : List Cell). l ++ drop (place + 0) cells) (append-nil (take place cells)) ∙ (ap (λ (n : ℕ). take place cells ++ drop n cells) (sym e) ∙ take-append-drop place cells))
 
--- all 8 are looked at
+-- All 8 cells remain to be checked.
 pub rest_all : (cells : List Cell) (place : ℕ) → take 8 (drop place cells) ≡ rest_of cells place 0
 rest_all cells place = let e : place ≡ place + 0 = omega arith in ap (λ (n : ℕ). take 8 (drop n cells)) e
 
--- and none is left
+-- None remains.
 pub rest_empty : (cells : List Cell) (place i : ℕ) (region : Region) (offset : ℤ) → i ≡ 8 → are_pieces region offset i (rest_of cells place i) ≡ true
 rest_empty cells place i region offset e = ap (λ (n : ℕ). are_pieces region offset n (rest_of cells place n)) e

@@ -1,4 +1,4 @@
--- Where windows lie, in signed numbers that are written to words and read again.
+-- Where windows are, in signed numbers that are stored in words and read again.
 use Rattle.std.proofs.Common.{◌≡◌, ◌∙◌, ℕ, ◌+◌, ◌≤◌, ℤ, pos, negsuc, ◌+ℤ◌, ◌≤ℤ◌, Bool, true, false, w16, w32, w64, to_z, of_z, arith, ap, ap₂, refl, subst, sym}
 use Rattle.std.specs.Prelude.{Result, Ok, Err, IsOk, nat_le, if◌then◌else◌}
 use Rattle.std.proofs.lemmas.Bool.{leb-true}
@@ -14,7 +14,7 @@ use Rattle.mem.specs.declared.fault.MemoryFault.{MemoryFault}
 abbrev pub again : ℤ → ℤ
 again z = to_z w64 (of_z w64 z)
 
--- a pointer's offset and the distance to it, and their sum as it is written to a word
+-- The sum of a pointer's offset and a distance, as it is stored in a word and read again.
 abbrev pub sum_again : ℤ → ℤ → ℤ
 sum_again y e = again (again y +ℤ again e)
 
@@ -65,7 +65,7 @@ small z d y e first second from behind = record {
   more = omega (arith, ints);
 }
 
--- ---- an offset that is known to lie in its region
+-- ---- an offset that is known to be in its region
 
 inside_within : (room size : ℕ) (z : ℤ) → IsOk (inside room size z) → (pos 0 ≤ℤ z) × (z ≤ℤ pos room)
 inside_within room size (negsuc n) ok = absurd cc
@@ -84,7 +84,7 @@ stack_fits region z n is ok =
     let within = inside_within 512 n (z +ℤ pos 512) (subst (λ (r : Region). IsOk (window r z n)) is ok) in
     let low = within.0 in let high = within.1 in omega (arith, ints)
 
--- ---- what is answered
+-- ---- the result
 
 pub stack_answer : (region : Region) (z p : ℤ) (n : ℕ) (r : Result ℕ MemoryFault) → region ≡ Stack → p ≡ z +ℤ pos 512 → IsAnswer (inside 512 n p) r → IsAnswer (window region z n) r
 stack_answer region z p n r is same answer =

@@ -1,4 +1,4 @@
--- Cells that are written in parts.
+-- Cells that are written in two parts.
 use Rattle.std.proofs.Common.{◌≡◌, ℕ, zero, suc, ◌+◌, ◌/◌, ◌%◌, ◌^◌, ◌<◌, ◌≤◌, List, [], ◌∷◌, ◌++◌, length, take, drop, map, set, refl, sym, ap, ◌∙◌, arith, append_assoc, add-one, pow-add}
 use Rattle.std.proofs.lemmas.List.{drop-drop, length-take-le, length-append, length-map, set_split, take_at, drop_at, map-append}
 use Rattle.std.proofs.Math.Nat.{div-div-eq-div-mul, div-one}
@@ -9,14 +9,14 @@ use Rattle.semantics.specs.declared.value.Cell.TheVariants.{Byte}
 use Rattle.semantics.specs.Memory.{overwritten}
 use Rattle.semantics.proofs.WholeLaws.{length-bytes}
 
--- one cell
+-- One cell.
 pub overwritten-one : (cells : List Cell) (place : ℕ) (cell : Cell) → place < length cells → set cells place cell ≡ overwritten cells place (cell ∷ [])
 overwritten-one cells place cell fits =
     set_split cells place cell fits
     ∙ (ap (λ (k : ℕ). take place cells ++ (cell ∷ drop k cells)) (sym (add-one place))
     ∙ sym (append_assoc (take place cells) (cell ∷ []) (drop (place + 1) cells)))
 
--- a part, and then the next
+-- A part, and then the next.
 pub overwritten-more : (cells : List Cell) (place : ℕ) (xs ys : List Cell) → place + length xs ≤ length cells →
     overwritten (overwritten cells place xs) (place + length xs) ys ≡ overwritten cells place (xs ++ ys)
 overwritten-more cells place xs ys fits =
@@ -65,13 +65,13 @@ bytes_split i (suc a) b n =
     ∙ (ap (λ (l : List ℕ). byte_at i n ∷ l) (bytes_split (suc i) a b n)
     ∙ ap (λ (k : ℕ). byte_at i n ∷ (bytes_low_first (suc i) a n ++ bytes_low_first k b n)) f)
 
--- the low bytes of a number, and those of what is above them
+-- The low bytes of a number, and those above them.
 pub little_bytes-split : (a b n : ℕ) → little_bytes (a + b) n ≡ little_bytes a n ++ little_bytes b (n / 256 ^ a)
 little_bytes-split a b n =
     let e : 0 + a ≡ a + 0 = omega arith in
     bytes_split 0 a b n ∙ ap (λ (l : List ℕ). little_bytes a n ++ l) (ap (λ (k : ℕ). bytes_low_first k b n) e ∙ high_bytes a 0 b n)
 
--- a number is written by its low bytes, and then those above them
+-- A number is written as its low bytes, and then those above them.
 pub written_both : (cells : List Cell) (place a b n : ℕ) → place + a ≤ length cells →
     overwritten (overwritten cells place (map Byte (little_bytes a n))) (place + a) (map Byte (little_bytes b (n / 256 ^ a))) ≡ overwritten cells place (map Byte (little_bytes (a + b) n))
 written_both cells place a b n fits =

@@ -1,6 +1,6 @@
--- How the code represents the stack's cells: for each cell it keeps a kind, a byte, and the offset of the last pointer
--- whose first piece was stored there. A piece's offset is kept at the place of its pointer's first piece. A store of
--- another pointer at that place overwrites every piece of the earlier pointer.
+-- How the code represents the stack's cells. Each cell has a kind, a byte, and the offset of the pointer whose first
+-- piece was last stored there. The other pieces of a pointer use the offset at its first piece. If another pointer is
+-- stored at the same place, it overwrites all of them.
 use Rattle.std.specs.Prelude.{ℕ, zero, suc, ◌+◌, ◌-◌, ◌%◌, ◌≡◌, nat_lt, if◌then◌else◌, List, [], ◌∷◌, ◌++◌, take, drop, length, slice_index}
 use Rattle.std.specs.Int.{w32, cast_signed}
 use Rattle.semantics.specs.Limits.{stack_size}
@@ -13,22 +13,24 @@ use Rattle.semantics.specs.declared.value.Cell.TheVariants.{Empty, Byte, Piece}
 abbrev pub replaced : {A : Type 0} → List A → ℕ → List A → List A
 replaced xs place new = take place xs ++ (new ++ drop (place + length new) xs)
 
--- Returns the region of a pointer, by the kind of one of its pieces: 2 to 9 for the stack, 10 to 17 for the context.
+-- Returns the region of a stored pointer, by the kind of one of its pieces: 2 to 9 for the stack, 10 to 17 for the
+-- context.
 abbrev pub region_of : ℕ → Region
 region_of kind = if nat_lt kind 10 then Stack else Context
 
--- Returns the cell with this kind, byte and place: kind 0 is empty, 1 is a byte, others are pieces of pointers.
+-- Returns the cell at `place` with this kind and byte. Kind 0 means an empty cell, 1 a byte, and the others a piece of
+-- a pointer.
 abbrev pub cell_of : ℕ → ℕ → List ℕ → ℕ → Cell
 cell_of zero byte offsets place = Empty
 cell_of (suc zero) byte offsets place = Byte byte
 cell_of (suc (suc k)) byte offsets place =
     Piece (k % 8) (region_of (suc (suc k))) (cast_signed w32 (slice_index offsets (place - k % 8)))
 
--- Returns the cell at `place` of the three arrays.
+-- Returns the cell at `place` that the three arrays represent.
 abbrev pub cell_at : List ℕ → List ℕ → List ℕ → ℕ → Cell
 cell_at kinds bytes offsets place = cell_of (slice_index kinds place) (slice_index bytes place) offsets place
 
--- Returns the given number of cells from `place` on.
+-- Returns the given number of cells from `place` on that the three arrays represent.
 unfoldable pub cells_from : List ℕ → List ℕ → List ℕ → ℕ → ℕ → List Cell
 cells_from kinds bytes offsets place zero = []
 cells_from kinds bytes offsets place (suc n) =

@@ -1,4 +1,4 @@
--- Numbers read from cells.
+-- Numbers that are read from cells.
 use Rattle.std.specs.Prelude.{ℕ, ℤ, ◌≡◌, ◌==◌, ◌&&◌, Bool, false, List, take, drop, Option, Some, None, Result, Ok, Err}
 use Rattle.std.specs.Ordering.{int_eq}
 use Rattle.word.specs.Bytes.{little_number}
@@ -8,7 +8,7 @@ use Rattle.semantics.specs.declared.value.Cell.TheVariants.{Empty, Byte, Piece}
 use Rattle.semantics.specs.State.{Cause, NoBytes, given}
 use Rattle.semantics.specs.Memory.{bytes_in, is_same_region}
 
--- Returns the little-endian number in cells that are all bytes, or `NoBytes` if one is not.
+-- Returns the little-endian number in these cells, or `NoBytes` if one of them is not a byte.
 abbrev pub number_in : List Cell → Result ℕ Cause
 number_in cells = given (bytes_in cells) (λ bytes. Ok (little_number bytes))
 

@@ -1,5 +1,5 @@
-//! Loads and stores of the stack and the context: `load` and `store` check the access, `read` and `write_number` rely
-//! on the verifier.
+//! Loads and stores in the stack and the context. `load` and `store` check each access. `read` and `write_number`
+//! require that it succeeds, as the verifier has proved.
 ghost use Rattle.std.specs.Prelude.{◌≡◌, ◌+◌, ◌≤◌, Ok, Err, OnOk, IfErr, IsOk};
 ghost use Rattle.insn.specs.Insn.{bytes_of, part_bytes};
 ghost use Rattle.semantics.specs.Memory.{loaded, loaded_signed, stored, value_in, room_of};
@@ -16,13 +16,13 @@ use semantics::{Region, Value};
 use word::arithmetic::sign_extend;
 use word::{Narrow, Width};
 
-/// Loads `size` bytes at the pointer `base` plus `distance`, zero-extended (RFC 9669, section 5.1). Returns a pointer
-/// if the window holds its 8 pieces in order.
+/// Loads `size` bytes at the pointer `base` plus `distance` as an unsigned number (RFC 9669, section 5.1). Returns a
+/// pointer instead if these bytes of the stack are the 8 pieces, in order, of a stored one.
 ///
 /// # Errors
 ///
-/// Returns a `MemoryFault` if `base` is not a pointer, the window is not within its region, or it holds neither bytes
-/// nor one whole pointer.
+/// A `MemoryFault` if `base` is not a pointer, the bytes are not all in its region, or the stack has neither a number
+/// nor a whole pointer there.
 pub fn load(
     stack: &Stack,
     context: &Context,
@@ -36,12 +36,13 @@ pub fn load(
     value_in(stack, context, region, place, size)
 }
 
-/// Loads 1, 2 or 4 bytes at the pointer `base` plus `distance`, sign-extended to 64 bits (RFC 9669, section 5.2).
+/// Loads 1, 2 or 4 bytes at the pointer `base` plus `distance` as a signed number, extended to 64 bits (RFC 9669,
+/// section 5.2).
 ///
 /// # Errors
 ///
-/// Returns a `MemoryFault` if `base` is not a pointer, the window is not within its region, or one of its cells is not
-/// a byte.
+/// A `MemoryFault` if `base` is not a pointer, the bytes are not all in its region, or a stack cell among them is not a
+/// byte.
 pub fn load_signed(
     stack: &Stack,
     context: &Context,
@@ -57,7 +58,8 @@ pub fn load_signed(
     Ok(Value::Number(sign_extend(Width::W64, part, number)))
 }
 
-/// Loads the number or the pointer in the window of `size` bytes at `place` of `region`.
+/// Loads the number or the pointer in the `size` bytes of `region` from index `place` on. Fails with `NoBytes` if there
+/// is neither.
 fn value_in(
     stack: &Stack,
     context: &Context,
@@ -74,7 +76,8 @@ fn value_in(
     }
 }
 
-/// Loads the number in the window of `size` bytes at `place` of `region`.
+/// Loads the number in the `size` bytes of `region` from index `place` on. Fails with `NoBytes` if a stack cell there
+/// is not a byte.
 fn number_in(
     stack: &Stack,
     context: &Context,
@@ -91,7 +94,7 @@ fn number_in(
     }
 }
 
-/// Returns the size of a load of `part`: 1, 2 or 4 bytes.
+/// Returns the size of a sign-extended load of `part`: 1, 2 or 4 bytes.
 fn size_of(part: Narrow) -> Size
     ensures { bytes_of result ≡ part_bytes part }
 {
@@ -102,14 +105,15 @@ fn size_of(part: Narrow) -> Size
     }
 }
 
-/// Stores the low bytes of a number, or a whole pointer, at the pointer `base` plus `distance` (RFC 9669, section 5.1).
+/// Stores the low `size` bytes of a number, or a whole pointer, at the pointer `base` plus `distance` (RFC 9669,
+/// section 5.1).
 ///
 /// # Errors
 ///
-/// Returns a `MemoryFault`, and leaves the stack as it is, in these cases:
+/// A `MemoryFault` in these cases, in which the stack stays as it is:
 ///
 /// - `base` is not a pointer into the stack.
-/// - The window is not within the stack.
+/// - The bytes are not all in the stack.
 /// - `value` is unset.
 /// - `value` is a pointer, and `size` is not 8 bytes.
 pub fn store(
@@ -140,8 +144,7 @@ pub fn store(
     }
 }
 
-/// Returns the value that [`load`] returns at a pointer with this region and offset. The caller must know that the load
-/// succeeds.
+/// Returns what [`load`] loads at a pointer with this region and offset. The caller must know that the load succeeds.
 #[inline(always)]
 pub fn read(
     stack: &Stack,
@@ -161,7 +164,7 @@ pub fn read(
     }
 }
 
-/// Returns the number that [`load_signed`] returns at a pointer with this region and offset. The caller must know that
+/// Returns the number that [`load_signed`] loads at a pointer with this region and offset. The caller must know that
 /// the load succeeds.
 #[inline(always)]
 pub fn read_signed(
@@ -185,7 +188,8 @@ pub fn read_signed(
     sign_extend(Width::W64, part, number)
 }
 
-/// Stores a number at a pointer into the stack, as [`store`] does. The caller must know that the store succeeds.
+/// Stores a number as [`store`] does, at `distance` from the pointer into the stack with offset `offset`. The caller
+/// must know that the store succeeds.
 #[inline(always)]
 pub fn write_number(stack: &mut Stack, size: Size, offset: i64, distance: i16, number: u64)
     requires { IsOk (stored stack.old (bytes_of size) (Value.Pointer Region.Stack offset) distance
@@ -197,8 +201,8 @@ pub fn write_number(stack: &mut Stack, size: Size, offset: i64, distance: i16, n
     stack.put_number(place, size, number);
 }
 
-/// Stores the pointer into `region` with offset `at` at a pointer into the stack, as [`store`] does. The caller must
-/// know that the store succeeds.
+/// Stores a pointer, into `region` with offset `at`, as [`store`] does, at `distance` from the pointer into the stack
+/// with offset `offset`. The caller must know that the store succeeds.
 #[inline(always)]
 pub fn write_pointer(stack: &mut Stack, offset: i64, distance: i16, region: Region, at: i32)
     requires { IsOk (stored stack.old 8 (Value.Pointer Region.Stack offset) distance (Value.Pointer region at)) }

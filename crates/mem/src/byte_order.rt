@@ -8,7 +8,7 @@ use byteorder::{ByteOrder, LittleEndian};
 use insn::Size;
 use word::low_bits::{low_byte, low_half, low_word};
 
-/// Reads the little-endian number in the `size` bytes from `place` on.
+/// Returns the little-endian number in the `size` bytes from index `place` on.
 #[inline(always)]
 pub fn number_at(bytes: &[u8], place: usize, size: Size) -> u64
     requires { place + bytes_of size ≤ length bytes.now }
@@ -23,7 +23,7 @@ pub fn number_at(bytes: &[u8], place: usize, size: Size) -> u64
     }
 }
 
-/// Writes the low `size` bytes of a number from `place` on, in little-endian order.
+/// Writes the low `size` bytes of a number from index `place` on, in little-endian order.
 #[inline(always)]
 pub fn put(bytes: &mut [u8; 512], place: usize, size: Size, number: u64)
     requires { place + bytes_of size ≤ 512 }

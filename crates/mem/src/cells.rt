@@ -1,4 +1,4 @@
-//! Reads numbers, and checks for pointers, in the cells of the stack one by one.
+//! Reads numbers from the cells of the stack, and checks whether cells are the pieces of a stored pointer.
 ghost use Rattle.std.specs.Prelude.{◌≡◌, ◌+◌, ◌≤◌, ◌↔◌, IsTrue, take, drop};
 ghost use Rattle.insn.specs.Insn.{bytes_of};
 ghost use Rattle.semantics.specs.Memory.{are_pieces, is_same_region};
@@ -8,8 +8,8 @@ use crate::stack::Stack;
 use insn::Size;
 use semantics::{Cell, Region};
 
-/// Reads the little-endian number in the cells of the stack that begin at index `place`. `size` says how many they are.
-/// Returns `None` if one of the cells does not hold a byte.
+/// Returns the little-endian number in the `size` stack cells from index `place` on, or `None` if one of them is not a
+/// byte.
 pub fn read_number(stack: &Stack, place: usize, size: Size) -> Option<u64>
     requires { place + bytes_of size ≤ 512 }
     ensures { Reads stack.now place (bytes_of size) result }
@@ -22,7 +22,7 @@ pub fn read_number(stack: &Stack, place: usize, size: Size) -> Option<u64>
     }
 }
 
-/// Reads the byte in the cell of the stack at index `place`. Returns `None` if the cell does not hold a byte.
+/// Returns the byte in the stack cell with index `place`, or `None` if the cell is not a byte.
 fn byte_at(stack: &Stack, place: usize) -> Option<u8>
     requires { place + 1 ≤ 512 }
     ensures { Reads stack.now place 1 result }
@@ -34,8 +34,8 @@ fn byte_at(stack: &Stack, place: usize) -> Option<u8>
     }
 }
 
-/// Reads the 16-bit little-endian number in the 2 cells of the stack that begin at index `place`. Returns `None` if one
-/// of the cells does not hold a byte.
+/// Returns the 16-bit little-endian number in the 2 stack cells from index `place` on, or `None` if one of them is not
+/// a byte.
 fn half_at(stack: &Stack, place: usize) -> Option<u16>
     requires { place + 2 ≤ 512 }
     ensures { Reads stack.now place 2 result }
@@ -46,8 +46,8 @@ fn half_at(stack: &Stack, place: usize) -> Option<u16>
     Some(u16::from(low) + 256 * u16::from(high))
 }
 
-/// Reads the 32-bit little-endian number in the 4 cells of the stack that begin at index `place`. Returns `None` if one
-/// of the cells does not hold a byte.
+/// Returns the 32-bit little-endian number in the 4 stack cells from index `place` on, or `None` if one of them is not
+/// a byte.
 pub fn word_at(stack: &Stack, place: usize) -> Option<u32>
     requires { place + 4 ≤ 512 }
     ensures { Reads stack.now place 4 result }
@@ -58,8 +58,8 @@ pub fn word_at(stack: &Stack, place: usize) -> Option<u32>
     Some(u32::from(low) + 0x1_0000 * u32::from(high))
 }
 
-/// Reads the 64-bit little-endian number in the 8 cells of the stack that begin at index `place`. Returns `None` if one
-/// of the cells does not hold a byte.
+/// Returns the 64-bit little-endian number in the 8 stack cells from index `place` on, or `None` if one of them is not
+/// a byte.
 fn double_at(stack: &Stack, place: usize) -> Option<u64>
     requires { place + 8 ≤ 512 }
     ensures { Reads stack.now place 8 result }
@@ -81,7 +81,7 @@ fn same_region(a: Region, b: Region) -> bool
     }
 }
 
-/// Checks whether a cell is piece `number` (0 to 7) of the pointer into `region` with this offset.
+/// Checks whether a stack cell is piece `number`, 0 to 7, of the pointer into `region` with this offset.
 fn is_piece(cell: Cell, number: u8, region: Region, offset: i32) -> bool
     ensures { result ≡ is_piece number region offset cell }
 {
@@ -91,7 +91,8 @@ fn is_piece(cell: Cell, number: u8, region: Region, offset: i32) -> bool
     }
 }
 
-/// Checks whether the 8 cells from `place` on are the pieces, in order, of the pointer into `region` with this offset.
+/// Checks whether the 8 stack cells from index `place` on are the pieces, in order, of the pointer into `region` with
+/// this offset.
 pub fn are_pieces(stack: &Stack, place: usize, region: Region, offset: i32) -> bool
     requires { place + 8 ≤ 512 }
     ensures { result ≡ are_pieces region offset 0 (take 8 (drop place stack.now)) }
@@ -105,7 +106,7 @@ pub fn are_pieces(stack: &Stack, place: usize, region: Region, offset: i32) -> b
     true
 }
 
-/// Checks whether two cells hold the same content.
+/// Checks whether two stack cells have the same content.
 pub fn same_cell(cell: Cell, other: Cell) -> bool
     ensures { IsTrue result ↔ (cell ≡ other) }
 {

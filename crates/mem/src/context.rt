@@ -1,4 +1,4 @@
-//! The context: the 4,096 bytes that a program may read and not write.
+//! The context: the 4,096 bytes that a program may read, but not write.
 ghost use Rattle.std.specs.Prelude.{◌≡◌, ◌≢◌, ◌+◌, ◌≤◌, length, take, drop, IfSome, IfNone};
 ghost use Rattle.word.specs.Bytes.{little_number};
 ghost use Rattle.insn.specs.Insn.{bytes_of};
@@ -9,7 +9,8 @@ use crate::context_reader::word_at;
 use insn::Size;
 use std::marker::Model;
 
-/// A context: the 4,096 bytes that a program may read and not write, borrowed. Contracts see it as a list of bytes.
+/// A context: the 4,096 bytes that a program may read, but not write. They are borrowed. Contracts see it as a list of
+/// bytes.
 #[derive(Drop)]
 pub struct Context<'a> {
     bytes: &'a [u8],
@@ -30,7 +31,7 @@ impl<'a> Context<'a> {
     /// The size of a context in bytes.
     pub const BYTES: usize = crate::layout::BYTES;
 
-    /// Creates a context from `bytes`, which must be 4,096 bytes long.
+    /// Returns the context of these bytes. There must be 4,096 of them.
     pub fn new(bytes: &'a [u8]) -> Context<'a>
         requires { length bytes.now ≡ 4096 }
         ensures same { result ≡ bytes.now }
@@ -39,7 +40,7 @@ impl<'a> Context<'a> {
         Context { bytes }
     }
 
-    /// Creates a context from `bytes`. Returns `None` if there are not exactly 4,096 of them.
+    /// Returns the context of these bytes, or `None` unless there are exactly 4,096 of them.
     pub fn try_new(bytes: &'a [u8]) -> Option<Context<'a>>
         ensures some { IfSome result (λ c. (c ≡ bytes.now) × IsContext bytes.now) }
         ensures none { IfNone result (length bytes.now ≢ 4096) }
@@ -59,8 +60,7 @@ impl<'a> Context<'a> {
         self.bytes
     }
 
-    /// Reads the little-endian number in the bytes of the context that begin at index `place`. `size` says how many
-    /// they are.
+    /// Returns the little-endian number in the `size` bytes from index `place` on.
     pub(crate) fn number(&self, place: usize, size: Size) -> u64
         requires { place + bytes_of size ≤ 4096 }
         ensures { result ≡ little_number (take (bytes_of size) (drop place self.now)) }
@@ -68,7 +68,7 @@ impl<'a> Context<'a> {
         number_at(self.bytes, place, size)
     }
 
-    /// Reads the little-endian number in the 4 bytes from `place` on.
+    /// Returns the 32-bit little-endian number in the 4 bytes from index `place` on.
     pub(crate) fn word(&self, place: usize) -> u32
         requires { place + 4 ≤ 4096 }
         ensures { result ≡ little_number (take 4 (drop place self.now)) }

@@ -1,4 +1,5 @@
-//! Writes the bytes of a context: eight header numbers, the value taken for each label, and zeros.
+//! Writes the bytes of a context: eight numbers on the campaign and the general, the order taken for each label, and
+//! zeros.
 ghost use Rattle.std.specs.Prelude.{◌≡◌, ◌<◌, ◌≤◌, ◌+◌, ◌*◌, ◌^◌, ◌++◌, All, length, flat_map, vec_len, vec_capacity, IfOk};
 ghost use Rattle.word.specs.Bytes.{little_bytes};
 ghost use Rattle.mem.specs.ContextLayout.{context_bytes, context_numbers};
@@ -8,11 +9,12 @@ use byteorder::{ByteOrder, LittleEndian};
 use label::Shape;
 use std::alloc::{AllocError, Global};
 
-/// Replaces the bytes of a vector by the context of a relay in a campaign that provides for `bound` traitors. `values`
-/// are the values that the general took for the labels he relays, in the order of their ranks.
+/// Replaces `bytes` by the context of a general in one round of a campaign with this bound. `shape` has the general,
+/// the round and the other numbers of the campaign. `values` are the orders that he took for the labels that he relays,
+/// in the order of their ranks.
 ///
-/// The vector must have room for 4,096 bytes, and nothing is allocated. A relay has at most 990 labels (13 generals in
-/// round 5: 11 * 10 * 9). After the eight header numbers there is room for 1,016 values.
+/// The vector must have room for 4,096 bytes, so that nothing is allocated. A general relays at most 990 labels, with
+/// 13 generals in round 5 (11 * 10 * 9), and there is room for 1,016 orders.
 pub fn write_context(bytes: &mut Vec<u8>, shape: Shape, bound: u8, values: &[u32])
     requires room { 4096 ≤ vec_capacity bytes.old }
     requires rounds { shape.round ≤ shape.generals }
@@ -38,11 +40,12 @@ pub fn write_context(bytes: &mut Vec<u8>, shape: Shape, bound: u8, values: &[u32
     };
 }
 
-/// Creates the context with this header of eight numbers, then `numbers`, then zeros up to 4,096 bytes.
+/// Returns a context that begins with the eight numbers of `header`, then has `numbers`, and then zeros up to 4,096
+/// bytes. All numbers take 4 bytes.
 ///
 /// # Errors
 ///
-/// Returns `AllocError` if the memory for the 4,096 bytes cannot be allocated.
+/// `AllocError` if out of memory.
 pub fn context_telling(
     alloc: Global,
     header: &[u32; 8],
@@ -60,7 +63,7 @@ pub fn context_telling(
     Ok(bytes)
 }
 
-/// Appends the bytes of `numbers`, 4 each in little-endian order. The vector must have room for them.
+/// Appends each number as 4 bytes in little-endian order. The vector must have room for them.
 fn spell(bytes: &mut Vec<u8>, numbers: &[u32])
     requires room { vec_len bytes.old + 4 * length numbers.now ≤ vec_capacity bytes.old }
     ensures bytes { bytes.new.items ≡ bytes.old.items ++ flat_map (little_bytes 4) numbers.now }

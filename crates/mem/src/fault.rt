@@ -1,15 +1,15 @@
-//! The reasons for which a load or a store fails.
-/// The reason for which a load or a store fails.
+//! Why a load or a store fails.
+/// Why a load or a store fails.
 #[derive(Clone, Copy, PartialEq, Eq)]
 pub enum MemoryFault {
-    /// A register that is used has no value.
+    /// The base register or the stored register is unset.
     UnsetRegister,
-    /// A number is used as a pointer, or only part of a pointer would be stored.
+    /// The base is a number, or a pointer would be stored in fewer than 8 bytes.
     PointerUse,
-    /// The window is not within its region.
+    /// The bytes to access are not all in the region of the pointer.
     OutOfBounds,
-    /// The window holds neither bytes only nor one whole pointer.
+    /// The stack cells to load hold neither a number nor one whole pointer.
     NoBytes,
-    /// The program stores into the context, which it may only read.
+    /// The program stores to the context, which it may only read.
     ContextWrite,
 }

@@ -1,11 +1,12 @@
-//! The memory of a program, by cells: the stack, which it reads and writes, and the context, which it reads.
+//! The memory of a program: the stack, which it reads and writes, and the context, which it reads. A cell is one byte
+//! of the stack.
 //!
-//! `load`, `load_signed` and `store` check each access, whatever its pointer is, and return a fault if it is not
-//! allowed. The tests call them. The machine calls `read`, `read_signed`, `write_number` and `write_pointer` instead.
-//! These four require that the access succeeds, as the verifier has proved for the machine's programs.
+//! `load`, `load_signed` and `store` check each access, and return a fault if it is not allowed. The tests call them.
+//! The machine calls `read`, `read_signed`, `write_number` and `write_pointer` instead. These four require that the
+//! access succeeds, as the verifier has proved for the machine's programs.
 //!
-//! The module `layout` gives the layout of a context. A context is 4,096 bytes of little-endian numbers, 4 bytes each.
-//! Eight numbers describe the relay and its campaign. After them is the value taken for each label.
+//! The module `layout` gives the layout of a context, which is 4,096 bytes of 4-byte little-endian numbers. The first
+//! eight describe the campaign, the round and the general. After them is the order that he took for each label.
 #![tactic(auto)]
 
 mod access;

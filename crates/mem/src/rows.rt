@@ -1,4 +1,4 @@
-//! Loads and stores of several numbers in a row at a pointer, as helpers need them.
+//! Loads and stores several numbers at a pointer, for the helpers `send_row` and `board_copy`.
 ghost use Rattle.std.specs.Prelude.{◌≡◌, ◌+◌, ◌-◌, ◌*◌, ◌≤◌, take, drop, replicate, length, Ok, Err, IfOk, IfErr};
 ghost use Rattle.semantics.specs.Memory.{with_words, room_of};
 ghost use Rattle.mem.specs.Answers.{IsAnswer, cause_of};
@@ -13,12 +13,12 @@ use crate::window::{part_at, stack_part};
 use insn::Size;
 use semantics::{Region, Value};
 
-/// Loads `count` numbers of 4 bytes each at the pointer `base`. The rest of the returned array is zeros.
+/// Loads `count` numbers of 4 bytes each at the pointer `base`. Returns them with zeros after them.
 ///
 /// # Errors
 ///
-/// Returns a `MemoryFault` if `base` is not a pointer, the numbers are not within its region, or one of their cells is
-/// not a byte.
+/// A `MemoryFault` if `base` is not a pointer, the numbers are not all in its region, or a stack cell among them is not
+/// a byte.
 pub fn load_row(
     stack: &Stack,
     context: &Context,
@@ -40,7 +40,8 @@ pub fn load_row(
     Ok(row)
 }
 
-/// Loads the number in the 4 bytes at `place` of `region`.
+/// Loads the number in the 4 bytes of `region` from index `place` on. Fails with `NoBytes` if a stack cell there is not
+/// a byte.
 fn word_in(
     stack: &Stack,
     context: &Context,
@@ -56,8 +57,8 @@ fn word_in(
     }
 }
 
-/// Stores `words`, 8 bytes each, at the pointer `base`. Stores nothing if `base` is not a pointer into the stack, or
-/// the words do not fit there.
+/// Stores `words`, 8 bytes each, at the pointer `base`. Stores nothing if `base` is not a pointer into the stack, or if
+/// the words do not fit into the stack there.
 pub fn store_words(stack: &mut Stack, base: Value, words: &[u64])
     requires { length words.now ≤ 64 }
     ensures { stack.new ≡ with_words stack.old base words.now }

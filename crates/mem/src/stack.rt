@@ -1,4 +1,4 @@
-//! The stack: 512 cells that a program reads and writes, each of them empty, a byte or a piece of a pointer.
+//! The stack: 512 cells that a program reads and writes. A cell is empty, a byte, or a piece of a stored pointer.
 ghost use Rattle.std.specs.Prelude.{◌≡◌, ◌+◌, ◌<◌, ◌≤◌, ◌↔◌, IsTrue, replicate, take, drop, map, length, slice_index_or, IsOk, Ok};
 ghost use Rattle.word.specs.Bytes.{little_bytes};
 ghost use Rattle.insn.specs.Insn.{bytes_of};
@@ -17,12 +17,12 @@ use std::marker::Model;
 /// A stack: the 512 cells that a program reads and writes. Contracts see it as a list of cells.
 #[derive(Drop)]
 pub struct Stack {
-    /// The kind of each cell. It is 0 if the cell is empty, and 1 for a byte. The pieces of a pointer into the stack
-    /// have the kinds 2 to 9, those of a pointer into the context 10 to 17.
+    /// The kind of each cell: 0 if it is empty, and 1 if it is a byte. The pieces of a pointer into the stack have the
+    /// kinds 2 to 9, and those of a pointer into the context 10 to 17.
     kinds: [u8; 512],
-    /// The byte of each cell. It has a meaning only if the cell's kind is a byte.
+    /// The byte in each cell. It has no meaning if the cell is not a byte.
     bytes: [u8; 512],
-    /// For each cell, the offset of the last pointer whose first piece was stored there.
+    /// For each cell, the offset of the pointer whose first piece was last stored there.
     offsets: [u32; 512],
 }
 
@@ -38,26 +38,26 @@ impl Model for Stack {
     ghost invariant = { λ s. HasRoom s.kinds s.bytes s.offsets };
 }
 
-/// The kind of a cell that holds a byte.
+/// The kind of a cell that is a byte.
 const BYTE: u8 = 1;
 
-/// The kind of a cell that holds the first piece of a pointer into the stack.
+/// The kind of a cell that is the first piece of a pointer into the stack.
 const PIECE: u8 = 2;
 
-/// The kinds of 8 cells that hold bytes, as one number.
+/// The kinds of 8 cells that are bytes, as one number.
 const BYTES: u64 = 0x0101_0101_0101_0101;
 
-/// The kinds of the 8 cells that hold a pointer into the stack, as one little-endian number.
+/// The kinds of the 8 pieces of a pointer into the stack, as one little-endian number.
 const STACK_PIECES: u64 = 0x0908_0706_0504_0302;
 
-/// The kinds of the 8 cells that hold a pointer into the context, as one little-endian number.
+/// The kinds of the 8 pieces of a pointer into the context, as one little-endian number.
 const CONTEXT_PIECES: u64 = 0x1110_0f0e_0d0c_0b0a;
 
 impl Stack {
     /// The number of cells.
     pub const CELLS: usize = 512;
 
-    /// Creates a stack of empty cells.
+    /// Returns a stack of empty cells.
     pub fn new() -> Stack
         ensures { result ≡ replicate 512 Cell.Empty }
     {
@@ -68,14 +68,14 @@ impl Stack {
         }
     }
 
-    /// Empties every cell. Only the kinds are written: a byte or an offset is never read for an empty cell.
+    /// Empties all cells. Only their kinds are written, because nothing else is read of an empty cell.
     pub fn clear(&mut self)
         ensures { self.new ≡ replicate 512 Cell.Empty }
     {
         self.kinds = [0; 512];
     }
 
-    /// Does nothing. Its contract says that a stack has 512 cells.
+    /// Does nothing. Its contract states that a stack has 512 cells.
     pub(crate) fn recall(&self)
         ensures { length self.now ≡ 512 }
     {
@@ -93,7 +93,7 @@ impl Stack {
         }
     }
 
-    /// Checks whether two stacks hold the same in every cell.
+    /// Checks whether all cells have the same content as those of `other`.
     pub fn same(&self, other: &Stack) -> bool
         ensures { IsTrue result ↔ (self.now ≡ other.now) }
     {
@@ -107,7 +107,7 @@ impl Stack {
         true
     }
 
-    /// Returns the cell at `place`.
+    /// Returns the cell with index `place`, 0 to 511.
     pub(crate) fn cell(&self, place: usize) -> Cell
         requires { place < 512 }
         ensures { result ≡ slice_index_or self.now place Cell.Empty }
@@ -124,8 +124,8 @@ impl Stack {
         Cell::Piece(piece, region_of(kind), self.offsets[first].cast_signed())
     }
 
-    /// Loads the number or the pointer in the window of `size` bytes at `place`. Returns `NoBytes` if the window holds
-    /// neither bytes only nor one whole pointer.
+    /// Loads the number or the pointer in the `size` cells from index `place` on. Fails with `NoBytes` if there is
+    /// neither.
     pub(crate) fn value(&self, place: usize, size: Size) -> Result<Value, MemoryFault>
         requires { place + bytes_of size ≤ 512 }
         ensures { IsAnswer (value_in (take (bytes_of size) (drop place self.now))) result }
@@ -147,8 +147,8 @@ impl Stack {
         }
     }
 
-    /// Reads the little-endian number in the cells of the stack that begin at index `place`. `size` says how many they
-    /// are. Fails with `NoBytes` if one of the cells does not hold a byte.
+    /// Loads the little-endian number in the `size` cells from index `place` on. Fails with `NoBytes` if one of them is
+    /// not a byte.
     pub(crate) fn number(&self, place: usize, size: Size) -> Result<u64, MemoryFault>
         requires { place + bytes_of size ≤ 512 }
         ensures { IsAnswer (number_in (take (bytes_of size) (drop place self.now))) result }
@@ -159,7 +159,8 @@ impl Stack {
         }
     }
 
-    /// Loads the number in the 4 bytes at `place`. Returns `NoBytes` if one of the cells is not a byte.
+    /// Loads the little-endian number in the 4 cells from index `place` on. Fails with `NoBytes` if one of them is not
+    /// a byte.
     pub(crate) fn word(&self, place: usize) -> Result<u32, MemoryFault>
         requires { place + 4 ≤ 512 }
         ensures { IsAnswer (number_in (take 4 (drop place self.now))) result }
@@ -170,8 +171,8 @@ impl Stack {
         }
     }
 
-    /// Loads the number or the pointer in the window of `size` bytes at `place`. The caller must know that the window
-    /// holds one.
+    /// Loads the number or the pointer in the `size` cells from index `place` on. The caller must know that there is
+    /// one.
     #[inline(always)]
     pub(crate) fn known_value(&self, place: usize, size: Size) -> Value
         requires inside { place + bytes_of size ≤ 512 }
@@ -184,7 +185,7 @@ impl Stack {
         }
     }
 
-    /// Loads the number or the pointer in the 8 cells from `place` on. The caller must know that they hold one.
+    /// Loads the number or the pointer in the 8 cells from index `place` on. The caller must know that there is one.
     #[inline(always)]
     fn known_double(&self, place: usize) -> Value
         requires inside { place + 8 ≤ 512 }
@@ -199,7 +200,8 @@ impl Stack {
         }
     }
 
-    /// Loads the number in the window of `size` bytes at `place`. The caller must know that all its cells are bytes.
+    /// Loads the little-endian number in the `size` cells from index `place` on. The caller must know that all of them
+    /// are bytes.
     #[inline(always)]
     pub(crate) fn known_number(&self, place: usize, size: Size) -> u64
         requires inside { place + bytes_of size ≤ 512 }
@@ -209,7 +211,7 @@ impl Stack {
         number_at(&self.bytes, place, size)
     }
 
-    /// Stores the low `size` bytes of a number at `place`.
+    /// Stores the low `size` bytes of a number in the cells from index `place` on.
     #[inline(always)]
     pub(crate) fn put_number(&mut self, place: usize, size: Size, number: u64)
         requires { place + bytes_of size ≤ 512 }
@@ -219,7 +221,7 @@ impl Stack {
         put(&mut self.bytes, place, size, number);
     }
 
-    /// Stores the 8 pieces of a pointer at `place`.
+    /// Stores a pointer as its 8 pieces, in the cells from index `place` on.
     #[inline(always)]
     pub(crate) fn put_pointer(&mut self, place: usize, region: Region, offset: i32)
         requires { place + 8 ≤ 512 }
@@ -230,7 +232,7 @@ impl Stack {
     }
 }
 
-/// Returns the region of the pointer that a piece of this kind belongs to.
+/// Returns the region of a stored pointer, one of whose pieces has this kind.
 fn region_of(kind: u8) -> Region
     ensures { result ≡ region_of kind }
 {
@@ -241,7 +243,7 @@ fn region_of(kind: u8) -> Region
     }
 }
 
-/// Returns the kinds of the 8 cells that hold a pointer into this region, as one number.
+/// Returns the kinds of the 8 pieces of a pointer into this region, as one number.
 fn pieces(region: Region) -> u64
     ensures { result ≡ pieces region }
 {

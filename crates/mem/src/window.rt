@@ -1,4 +1,5 @@
-//! Computes where a window, the bytes of one access, is in its region, and checks that it is within the region.
+//! Computes the window of an access, the bytes of its region that it touches, and checks that they are all in the
+//! region.
 ghost use Rattle.std.specs.Prelude.{◌≡◌, ◌+◌, ◌+ℤ◌, ◌≤◌, IfOk, IsOk, Ok};
 ghost use Rattle.insn.specs.Insn.{bytes_of};
 ghost use Rattle.semantics.specs.Memory.{inside, window, stack_place, room_of};
@@ -11,8 +12,8 @@ use crate::stack::Stack;
 use insn::Size;
 use semantics::{Region, Value};
 
-/// Checks that a window of `size` bytes at `place` is within a region of `room` bytes. Returns its place, or
-/// `OutOfBounds`.
+/// Returns `place`, the index of a window's first byte, if all of its `size` bytes are in a region of `room` bytes.
+/// Fails with `OutOfBounds` otherwise.
 fn inside(room: usize, size: usize, place: i64) -> Result<usize, MemoryFault>
     requires { size ≤ 512 }
     ensures answer { IsAnswer (inside room size place) result }
@@ -29,8 +30,8 @@ fn inside(room: usize, size: usize, place: i64) -> Result<usize, MemoryFault>
     }
 }
 
-/// Returns the place of a window in its region, from the pointer's offset and the distance. Returns `OutOfBounds` if
-/// the window is not within the region.
+/// Returns the index in the region of the first of `size` bytes at `offset` + `distance`. Fails with `OutOfBounds` if
+/// not all of them are in the region.
 fn window(region: Region, offset: i32, distance: i16, size: usize) -> Result<usize, MemoryFault>
     requires { size ≤ 512 }
     ensures answer { IsAnswer (window region (offset +ℤ distance) size) result }
@@ -43,11 +44,12 @@ fn window(region: Region, offset: i32, distance: i16, size: usize) -> Result<usi
     }
 }
 
-/// Returns the region and the place of the window of `size` bytes at the pointer `base` plus `distance`.
+/// Returns the region of the pointer `base`, and the index in it of the first of `size` bytes at `base` plus
+/// `distance`.
 ///
 /// # Errors
 ///
-/// Returns a `MemoryFault` if `base` is not a pointer, or the window is not within its region.
+/// A `MemoryFault` if `base` is not a pointer, or if not all of these bytes are in its region.
 pub fn part_at(base: Value, distance: i16, size: usize) -> Result<(Region, usize), MemoryFault>
     requires { size ≤ 512 }
     ensures answer { IsAnswer (place_at base distance size) result }
@@ -63,11 +65,12 @@ pub fn part_at(base: Value, distance: i16, size: usize) -> Result<(Region, usize
     }
 }
 
-/// Returns the region and the place of the window of an access at the pointer `base` plus `distance`.
+/// Returns the region of the pointer `base`, and the index in it of the first byte of an access at `base` plus
+/// `distance`.
 ///
 /// # Errors
 ///
-/// Returns a `MemoryFault` if `base` is not a pointer, or the window is not within its region.
+/// A `MemoryFault` if `base` is not a pointer, or if not all bytes of the access are in its region.
 pub fn place_at(base: Value, distance: i16, size: Size) -> Result<(Region, usize), MemoryFault>
     ensures answer { IsAnswer (place_at base distance (bytes_of size)) result }
     ensures fits { IfOk result (λ p. p.1 + bytes_of size ≤ room_of p.0) }
@@ -75,11 +78,11 @@ pub fn place_at(base: Value, distance: i16, size: Size) -> Result<(Region, usize
     part_at(base, distance, size.bytes())
 }
 
-/// Returns the place in the stack of the window of `size` bytes at `base` plus `distance`, where the program stores.
+/// Returns the index in the stack of the first of `size` bytes that are stored at `base` plus `distance`.
 ///
 /// # Errors
 ///
-/// Returns a `MemoryFault` if `base` is not a pointer into the stack, or the window is not within the stack.
+/// A `MemoryFault` if `base` is not a pointer into the stack, or if not all of these bytes are in the stack.
 pub fn stack_part(base: Value, distance: i16, size: usize) -> Result<usize, MemoryFault>
     requires { size ≤ 512 }
     ensures answer { IsAnswer (stack_place base distance size) result }
@@ -93,11 +96,11 @@ pub fn stack_part(base: Value, distance: i16, size: usize) -> Result<usize, Memo
     }
 }
 
-/// Returns the place in the stack of the window of a store at `base` plus `distance`.
+/// Returns the index in the stack of the first byte of a store at `base` plus `distance`.
 ///
 /// # Errors
 ///
-/// Returns a `MemoryFault` if `base` is not a pointer into the stack, or the window is not within the stack.
+/// A `MemoryFault` if `base` is not a pointer into the stack, or if not all bytes of the store are in the stack.
 pub fn stack_place(base: Value, distance: i16, size: Size) -> Result<usize, MemoryFault>
     ensures answer { IsAnswer (stack_place base distance (bytes_of size)) result }
     ensures fits { IfOk result (λ p. p + bytes_of size ≤ 512) }
@@ -105,8 +108,8 @@ pub fn stack_place(base: Value, distance: i16, size: Size) -> Result<usize, Memo
     stack_part(base, distance, size.bytes())
 }
 
-/// Returns the place of a window in a region of `room` bytes. The caller must know that the window is within the
-/// region.
+/// Returns `place`, the index of an access's first byte in a region of `room` bytes. The caller must know that all
+/// bytes of the access are in the region.
 #[inline(always)]
 fn known_inside(room: usize, size: Size, place: i64) -> usize
     requires { IsOk (inside room (bytes_of size) place) }
@@ -118,7 +121,8 @@ fn known_inside(room: usize, size: Size, place: i64) -> usize
     place as usize
 }
 
-/// Returns the place of a window in its region. The caller must know that the window is within the region.
+/// Returns the index in the region of the first byte of an access at `offset` + `distance`. The caller must know that
+/// all bytes of the access are in the region.
 #[inline(always)]
 pub fn known_place(region: Region, offset: i64, distance: i16, size: Size) -> usize
     requires { IsOk (window region (offset +ℤ distance) (bytes_of size)) }

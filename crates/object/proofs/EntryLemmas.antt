@@ -68,7 +68,7 @@ other_path next bytes place format other =
     let no : (format.content == 1) ≡ false = grind (arith, common_steps) in
     rw no refl
 
--- where the first value is not the path, it is one of those behind it
+-- If the first value is not the path, the path is one of the values after it.
 pub path_on : (n : ℕ) (formats : List ℕ) (from : ℕ) (bytes : List ℕ) (place : ℕ) (format : Format) (next : ℕ) (path : Option Path) →
     0 < n → Some format ≡ format_at from formats → format.content ≢ 1 → Some next ≡ behind_value format.form place bytes →
     path ≡ path_in (n - 1) formats format.next bytes next → path ≡ path_in n formats from bytes place
@@ -79,7 +79,7 @@ path_on n formats from bytes place format next path some first other behind rest
     ∙ (sym (other_path later bytes place format other)
     ∙ (ap (option_and_then (path_by later bytes place)) first ∙ sym (path_some n formats from bytes place some))))
 
--- what is left of the entries stands behind one more
+-- The remaining entries begin after one more entry.
 pub entries_on : (n count : ℕ) (formats : List ℕ) (from : ℕ) (bytes : List ℕ) (place next : ℕ) → 0 < n →
     Some next ≡ behind_entry count formats from bytes place →
     behind_entries n count formats from bytes place ≡ behind_entries (n - 1) count formats from bytes next

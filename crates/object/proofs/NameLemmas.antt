@@ -1,4 +1,4 @@
--- Names that can be told on a line are texts.
+-- Names that can be printed on a line are texts.
 use Rattle.std.proofs.Common.{◌≡◌, ℕ, zero, suc, ◌<◌, List, [], ◌∷◌, true, IsUtf8, arith, lit<}
 use Rattle.std.specs.Prelude.{slice_index, nat_le, nat_lt}
 use Rattle.std.specs.List.{list_all}

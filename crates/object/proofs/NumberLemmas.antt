@@ -27,7 +27,7 @@ on_last signed place bytes more inside low =
     let last : nat_lt (number_at 1 place bytes) 128 ≡ true = grind (arith, common_steps) in
     rw (here, last) refl
 
--- a number of one byte
+-- A number of one byte.
 pub number_last : (signed : Bool) (n place : ℕ) (bytes : List ℕ) (byte value : ℕ) → 0 < n → place < length bytes →
     byte ≡ number_at 1 place bytes → byte < 128 → value ≡ last_byte signed byte →
     Some (record { value = value; next = place + 1 }) ≡ number_in signed n place bytes

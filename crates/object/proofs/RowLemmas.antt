@@ -21,13 +21,13 @@ machine_suc : (header : Header) (bytes : List ℕ) (origins : Origins) (n : ℕ)
 unfolding machine_after
 machine_suc header bytes origins n m e = ap (option_and_then (next_of header bytes origins)) e
 
--- the machine behind one more instruction
+-- The machine after one more instruction.
 pub comes_on : (header : Header) (bytes : List ℕ) (origins : Origins) (m : Machine) (s : Stepped) →
     Comes header bytes origins m → step_at header m.place bytes ≡ Some s → Comes header bytes origins (moved origins m s)
 comes_on header bytes origins m s come step =
     (suc come.0, machine_suc header bytes origins come.0 m come.1 ∙ ap (option_map (moved origins m)) step)
 
--- the same with what the code has for its parts
+-- The machine after one more instruction, by its parts in the code.
 pub comes_as : (header : Header) (bytes : List ℕ) (origins : Origins) (place : ℕ) (registers : LineRegisters) (rows : List LineRow)
     (s : Stepped) (registers' : LineRegisters) (rows' : List LineRow) →
     Comes header bytes origins (machine_at place registers rows) → Some s ≡ step_at header place bytes →

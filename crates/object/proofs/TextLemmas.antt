@@ -43,7 +43,7 @@ pub texts_none : (names : ℕ → List ℕ) (rows : List LineRow) (start : ℕ) 
 unfolding texts_of
 texts_none names rows start items e = ap (map string_bytes) e
 
--- one text more
+-- One more text.
 pub texts_pushed : (names : ℕ → List ℕ) (rows : List LineRow) (start n : ℕ) (items items' : List (String Global)) (text : String Global) →
     map string_bytes items ≡ texts_of names rows start n → items' ≡ items ++ text ∷ [] → string_bytes text ≡ text_at names rows start n →
     map string_bytes items' ≡ texts_of names rows start (n + 1)

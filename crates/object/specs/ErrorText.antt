@@ -6,14 +6,14 @@ use Rattle.object.specs.declared.fault.Damage.TheVariants.{Sections, Section, Sy
 use Rattle.object.specs.declared.fault.ObjectFault.{ObjectFault}
 use Rattle.object.specs.declared.fault.ObjectFault.TheVariants.{NoObject, Damaged, NoFunction, Several, Names, Leaves}
 
--- Returns the damaged part of an object.
+-- Returns where an object is damaged, as text.
 abbrev pub place_of : Damage → List ℕ
 place_of Sections = codes "sections"
 place_of (Section index) = codes "section " ++ decimal index
 place_of (Symbol index) = codes "symbol " ++ decimal index
 place_of (Relocations index) = codes "relocations " ++ decimal index
 
--- Returns the text of a fault: its code, and the damaged part or the unit.
+-- Returns the text of a fault: its code, and where the object is damaged or at which unit the fault is.
 abbrev pub told : ObjectFault → List ℕ
 told NoObject = codes "O1"
 told (Damaged damage) = codes "O2 " ++ place_of damage

@@ -6,16 +6,17 @@ use Rattle.text.specs.Parts.{before}
 use Rattle.object.specs.Number.{number_at}
 use Rattle.object.specs.declared.leb128.Read.{Read}
 
--- Returns the value of the last byte of a LEB128 number, which is below 128. In a signed number its bit of value 64 is
--- the sign, and the value is taken modulo 2^64.
+-- Returns the value of the last byte of a LEB128 number. In a signed number, a byte of 64 or more means the byte - 128,
+-- modulo 2^64.
 abbrev pub last_byte : Bool → ℕ → ℕ
 last_byte signed byte = if signed && nat_le 64 byte then byte + (2 ^ 64 - 128) else byte
 
--- Returns the number whose lowest seven bits are in this byte, which is 128 or more, and whose other bits follow.
+-- Prepends a byte of 128 or more to a LEB128 number: the low seven bits of the result are those of the byte, and the
+-- higher bits are the number `more`, modulo 2^64.
 abbrev pub joined : ℕ → Read → Read
 joined byte more = record { value = (more.value * 128 % 2 ^ 64 + (byte - 128)) % 2 ^ 64; next = more.next }
 
--- Returns the number that begins with the byte at index `place`, given the number that the bytes after it encode.
+-- Returns the LEB128 number at index `place`. `more` is the number that begins at the next index, if there is one.
 abbrev pub number_on : Bool → ℕ → List ℕ → Option Read → Option Read
 number_on signed place bytes more =
     if nat_le (length bytes) place then None
@@ -23,8 +24,8 @@ number_on signed place bytes more =
     then Some (record { value = last_byte signed (number_at 1 place bytes); next = place + 1 })
     else option_map (joined (number_at 1 place bytes)) more
 
--- Returns the LEB128 number at the byte index `place`, of at most `most` bytes and modulo 2^64, and the byte index
--- after it.
+-- Returns the LEB128 number at the byte index `place`, modulo 2^64, and the byte index after it. The number has at most
+-- `most` bytes.
 unfoldable pub number_in : Bool → ℕ → ℕ → List ℕ → Option Read
 number_in signed zero place bytes = None
 number_in signed (suc most) place bytes = number_on signed place bytes (number_in signed most (place + 1) bytes)

@@ -1,6 +1,6 @@
--- Relocations (System V ABI, "Relocation": Elf64_Rel, Elf64_Rela), each of which says which symbol a place of a section
--- names. In code for BPF these are R_BPF_64_64, the 64 bits of an lddw, and R_BPF_64_32, the number of a call (LLVM,
--- "BPF Relocation Types").
+-- Relocations (System V ABI, "Relocation": Elf64_Rel, Elf64_Rela). Each says that a place in a section refers to a
+-- symbol. In code for BPF they are R_BPF_64_64, for the 64 bits of an lddw, and R_BPF_64_32, for the number of a call
+-- (LLVM, "BPF Relocation Types").
 use Rattle.std.specs.Prelude.{ℕ, ◌+◌, ◌*◌, ◌/◌, ◌-◌, List, length, Bool, ◌==◌, ◌&&◌, nat_lt, nat_le, if◌then◌else◌}
 use Rattle.std.specs.Prelude.{Option, Some, None}
 use Rattle.object.specs.declared.section.SectionHeader.{SectionHeader}
@@ -24,17 +24,17 @@ relocation_at size index relocations = record {
   symbol = number_at 4 (size * index + 12) relocations;
 }
 
--- Returns whether the relocation changes the function's code.
+-- Returns whether the relocation changes the function's code. It must be one of the function's section.
 abbrev pub is_within : Relocation → Symbol → Bool
 is_within relocation function =
     nat_le function.value relocation.place && nat_lt relocation.place (function.value + function.size)
 
--- Returns the fault of a unit whose code names the symbol: it leaves the function if the symbol is code, because the
--- machine has no calls of functions, and otherwise it names data, which the machine does not have.
+-- Returns the fault of the unit of the function's code that refers to the symbol: `Leaves` if the symbol is code,
+-- because the machine has no calls of functions, and otherwise `Names`, because the machine has no data.
 abbrev pub named_at : List ℕ → Symbol → ℕ → ObjectFault
 named_at table symbol unit = if is_code (section_at symbol.section table) then Leaves unit else Names unit
 
--- Returns the fault of a relocation, if it changes the function's code.
+-- Returns the fault of the relocation with this index, if it changes the function's code.
 abbrev pub relocation_fault : List ℕ → List ℕ → Symbol → ℕ → List ℕ → ℕ → Option ObjectFault
 relocation_fault table symbols function size relocations index =
     if is_within (relocation_at size index relocations) function
@@ -42,7 +42,7 @@ relocation_fault table symbols function size relocations index =
     (((relocation_at size index relocations).place - function.value) / 8))
     else None
 
--- Returns the first fault of a section's relocations, if they change the function's section.
+-- Returns the first fault of a section's relocations, if they change the section of the function.
 abbrev pub relocations_fault : List ℕ → List ℕ → List ℕ → Symbol → ℕ → Option ObjectFault
 relocations_fault object table symbols function index =
     if is_relocations (section_at index table) && ((section_at index table).info == function.section)
@@ -52,11 +52,11 @@ relocations_fault object table symbols function index =
     (length (section_bytes object (section_at index table)) / relocation_size (section_at index table))
     else None
 
--- Returns whether the unit calls a function of the program: its opcode is 0x85, and its src is 1 (RFC 9669, section
+-- Returns whether the unit calls a function of the same object: its opcode is 0x85, and its src is 1 (RFC 9669, section
 -- 4.3.2).
 abbrev pub is_call : List ℕ → ℕ → Bool
 is_call code unit = (number_at 1 (8 * unit) code == 133) && (number_at 1 (8 * unit + 1) code / 16 == 1)
 
--- Returns the fault of a unit that calls a function of the program.
+-- Returns the fault of a unit that calls a function of the same object.
 abbrev pub call_fault : List ℕ → ℕ → Option ObjectFault
 call_fault code unit = if is_call code unit then Some (Leaves unit) else None

@@ -11,7 +11,7 @@ use Rattle.object.specs.declared.registers.LineRegisters.{LineRegisters}
 use Rattle.object.specs.declared.registers.LineRow.{LineRow}
 use Rattle.object.specs.Steps.{step_at}
 
--- A function from the byte index of an operand to its address, if that address is in the function's section.
+-- The address that the operand at a byte index means, if it is in the function's section.
 abbrev pub Origins : Type 0
 Origins = ℕ → Option ℕ
 
@@ -23,12 +23,13 @@ at_start = record { address = 0; inside = false; file = 1; line = 1 }
 abbrev pub advanced : LineRegisters → ℕ → ℕ → LineRegisters
 advanced r address line = record r { address = (r.address + address) % 2 ^ 64; line = (r.line + line) % 2 ^ 64 }
 
--- Returns the registers with the address that an operand sets, if it is in the function's section.
+-- Returns the registers with a new address in the function's section. Without an address, they are marked as outside
+-- this section.
 abbrev pub started : LineRegisters → Option ℕ → LineRegisters
 started r None = record r { inside = false }
 started r (Some address) = record r { address = address; inside = true }
 
--- Returns the registers after an instruction.
+-- Returns the registers after an instruction. `r` are those before it.
 abbrev pub after : Origins → LineRegisters → Step → LineRegisters
 after origins r (steps.Row address line) = advanced r address line
 after origins r (steps.Address by) = advanced r by 0
@@ -38,7 +39,7 @@ after origins r (steps.Start place) = started r (origins place)
 after origins r steps.End = at_start
 after origins r steps.Other = r
 
--- Returns a row with these registers. `last` says whether it ends a sequence.
+-- Returns a row with these registers. `last` says that it ends a sequence.
 abbrev pub row_with : LineRegisters → Bool → LineRow
 row_with r last = record { registers = r; last = last }
 
@@ -55,7 +56,7 @@ pub record Machine : Type 0 where
   pub registers : LineRegisters
   pub rows : List LineRow
 
--- Returns the state after an instruction that was read.
+-- Returns the state after the instruction `s`.
 abbrev pub moved : Origins → Machine → Stepped → Machine
 moved origins m s = record {
   place = s.next;
@@ -63,7 +64,7 @@ moved origins m s = record {
   rows = m.rows ++ option_to_list (row_by m.registers s.step);
 }
 
--- Returns the state after the next instruction, if there is an instruction.
+-- Returns the state after the next instruction, if it is complete.
 abbrev pub next_of : Header → List ℕ → Origins → Machine → Option Machine
 next_of header bytes origins m = option_map (moved origins m) (step_at header m.place bytes)
 
@@ -73,7 +74,7 @@ machine_after header bytes origins zero = Some (record { place = header.program;
 machine_after header bytes origins (suc n) =
     option_and_then (next_of header bytes origins) (machine_after header bytes origins n)
 
--- States that the machine reaches this state after some number of instructions.
+-- States that the machine is in this state after some number of instructions.
 abbrev pub Comes : Header → List ℕ → Origins → Machine → Type 0
 Comes header bytes origins m = (n : ℕ) × (machine_after header bytes origins n ≡ Some m)
 
@@ -82,12 +83,12 @@ abbrev pub HasRows : Header → List ℕ → Origins → List LineRow → Type 0
 HasRows header bytes origins rows =
     (m : Machine) × Comes header bytes origins m × (length bytes ≡ m.place) × (m.rows ≡ rows)
 
--- States that the program reaches a place with no instruction before the end of the bytes.
+-- States that the machine reaches an instruction that is not complete, before the end of the bytes.
 abbrev pub BreaksOff : Header → List ℕ → Origins → Type 0
 BreaksOff header bytes origins =
     (m : Machine) × Comes header bytes origins m × (m.place < length bytes) × (step_at header m.place bytes ≡ None)
 
--- States that the result has the rows of the program, or it is empty because the program breaks off.
+-- States that the result has the rows of the program, or is `None` because an instruction is not complete.
 abbrev pub GivesRows : Header → List ℕ → Origins → Option (Vec LineRow Global) → Type 0
 GivesRows header bytes origins None = BreaksOff header bytes origins
 GivesRows header bytes origins (Some rows) = HasRows header bytes origins rows.items

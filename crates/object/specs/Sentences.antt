@@ -4,7 +4,7 @@ use Rattle.object.specs.declared.fault.Damage.TheVariants.{Sections, Section, Sy
 use Rattle.object.specs.declared.fault.ObjectFault.{ObjectFault}
 use Rattle.object.specs.declared.fault.ObjectFault.TheVariants.{NoObject, Damaged, NoFunction, Several, Names, Leaves}
 
--- Returns what a fault means, and what to do about it.
+-- Returns a sentence that says what a fault means, and what to do about it.
 abbrev pub sentence_of : ObjectFault → List ℕ
 sentence_of NoObject = codes "this is not a relocatable 64-bit little-endian ELF object for BPF (machine 247)"
 sentence_of (Damaged Sections) = codes "the header is cut off, or the section headers are not within the file"

@@ -1,15 +1,15 @@
--- The parts of an object that a line number program needs.
+-- The bytes of an object that are needed to run its line number program.
 use Rattle.std.specs.Prelude.{◌≤◌, length}
 use Rattle.object.specs.declared.source.LineSections.{LineSections}
 use Rattle.object.specs.Origin.{origin_of}
 use Rattle.object.specs.Rows.{Origins}
 
--- Returns the address of an operand of the line number program in the function's section, if it is in that section.
+-- Returns the address that an operand means, if it is in the function's section.
 abbrev pub origins_of : LineSections → Origins
 origins_of source place =
     origin_of source.bytes.now source.symbols.now source.section source.size source.relocations.now place
 
--- States that the relocations have 16 to 24 bytes each, and at most 2^16 bytes together.
+-- States that relocations have 16 to 24 bytes each, and at most 65,536 bytes together.
 pub record IsSource (source : LineSections) : Type 0 where
   pub least : 16 ≤ source.size
   pub most : source.size ≤ 24

@@ -1,4 +1,5 @@
-//! Checks an object for damage: parts that are not within the file, or not within the part that contains them.
+//! Checks an ELF object for damage: a section that is not within the file, a function that is not within its section,
+//! or a relocation of a symbol that does not exist.
 ghost use Rattle.std.specs.Prelude.{◌≡◌, ◌<◌, ◌≤◌, ◌+◌, ◌*◌, ◌/◌, ◌^◌, length};
 ghost use Rattle.object.specs.First.{first_some};
 ghost use Rattle.object.specs.Damage.{is_section_whole, section_damage, is_symbol_whole, symbol_damage, relocation_damage, relocations_damage, tables_damage};
@@ -16,7 +17,8 @@ fn has_section(object: &[u8], section: SectionHeader) -> bool
     section.has_no_bytes() || (section.size <= length && section.start <= length - section.size)
 }
 
-/// Returns the damage of a section, if its bytes are not within the file.
+/// Returns the damage of the section with this index in the section header table `table`, or `None` if the section's
+/// bytes are within the file or it has none there.
 fn of_section(object: &[u8], table: &[u8], index: usize) -> Option<Damage>
     requires { index < 2 ^ 32 }
     ensures { result ≡ section_damage object.now table.now index }
@@ -28,7 +30,8 @@ fn of_section(object: &[u8], table: &[u8], index: usize) -> Option<Damage>
     }
 }
 
-/// Returns the damage of the first section whose bytes are not within the file.
+/// Returns the damage of the first of `count` sections whose bytes are not within the file, or `None` if there is no
+/// such section. `table` is the section header table.
 fn first_section(object: &[u8], table: &[u8], count: usize) -> Option<Damage>
     requires { count < 2 ^ 32 }
     ensures { result ≡ first_some (section_damage object.now table.now) count }
@@ -42,7 +45,8 @@ fn first_section(object: &[u8], table: &[u8], count: usize) -> Option<Damage>
     None
 }
 
-/// Returns whether a function's name begins within the strings, and its code is within its section.
+/// Returns whether a function's name begins within the string table `strings`, and its code is within its section.
+/// `table` is the section header table.
 fn has_symbol(table: &[u8], strings: &[u8], symbol: Symbol) -> bool
     ensures { result ≡ is_symbol_whole table.now strings.now symbol }
 {
@@ -52,7 +56,8 @@ fn has_symbol(table: &[u8], strings: &[u8], symbol: Symbol) -> bool
         && symbol.value <= room - symbol.size
 }
 
-/// Returns the damage of a symbol, if it is a function whose name or code is not in its place.
+/// Returns the damage of the symbol with this index in the symbol table `symbols`. Returns `None` unless the symbol is
+/// a function whose name is not within `strings`, or whose code is not within its section.
 fn of_symbol(table: &[u8], symbols: &[u8], strings: &[u8], index: usize) -> Option<Damage>
     requires { 24 * index + 24 < 2 ^ 64 }
     ensures { result ≡ symbol_damage table.now symbols.now strings.now index }
@@ -65,7 +70,8 @@ fn of_symbol(table: &[u8], symbols: &[u8], strings: &[u8], index: usize) -> Opti
     }
 }
 
-/// Returns the damage of the first function whose name or code is not in its place.
+/// Returns the damage of the first function in the symbol table `symbols` whose name is not within `strings`, or whose
+/// code is not within its section. Returns `None` if there is no such function.
 fn first_symbol(table: &[u8], symbols: &[u8], strings: &[u8]) -> Option<Damage>
     ensures { result ≡ first_some (symbol_damage table.now symbols.now strings.now) (length symbols.now / 24) }
 {
@@ -78,7 +84,9 @@ fn first_symbol(table: &[u8], symbols: &[u8], strings: &[u8]) -> Option<Damage>
     None
 }
 
-/// Returns the damage of a relocation, if its symbol does not exist.
+/// Returns the damage of the relocation with this index if its symbol does not exist, and otherwise `None`. `section`
+/// is the index of the section with `relocations`, `symbols` the number of symbols, and `size` the number of bytes of
+/// each relocation.
 fn of_relocation(
     section: usize,
     symbols: usize,
@@ -96,7 +104,9 @@ fn of_relocation(
     }
 }
 
-/// Returns the damage of the first of these relocations whose symbol does not exist.
+/// Returns the damage of the first relocation in `relocations` whose symbol does not exist, or `None` if there is no
+/// such relocation. `section` is the index of the section with `relocations`, `symbols` the number of symbols, and
+/// `size` the number of bytes of each relocation.
 fn first_relocation(
     section: usize,
     symbols: usize,
@@ -116,8 +126,9 @@ fn first_relocation(
     None
 }
 
-/// Returns the damage of a section's relocations. They must belong to the table of symbols, and their symbols must
-/// exist.
+/// Returns the damage of the section with this index if it contains relocations, and otherwise `None`. Its relocations
+/// are damaged if they do not use the symbol table, which is section `home`, or if the symbol of one does not exist.
+/// `symbols` is the number of symbols.
 fn of_relocations(
     object: &[u8],
     table: &[u8],
@@ -143,7 +154,8 @@ fn of_relocations(
     )
 }
 
-/// Returns the damage of the first section whose relocations are damaged.
+/// Returns the damage of the first of `count` sections whose relocations are damaged, or `None` if there is no such
+/// section. `home` is the index of the symbol table's section, and `symbols` the number of symbols.
 fn first_relocations(
     object: &[u8],
     table: &[u8],
@@ -163,8 +175,9 @@ fn first_relocations(
     None
 }
 
-/// Returns the first damage of an object. It checks the sections, then the functions among the symbols, then the
-/// relocations.
+/// Returns the first damage of an object, or `None` if it has none. The sections are checked first, then the functions,
+/// then the relocations. `table` has the headers of the `count` sections, and `home` is the index of the symbol table's
+/// section.
 pub fn first_damage(
     object: &[u8],
     table: &[u8],

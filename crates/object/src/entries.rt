@@ -1,25 +1,26 @@
-//! The tables of directories and files of DWARF 5: their formats and entries.
+//! Reads the tables of directories and files in line number information of DWARF 5. A table has formats, which say what
+//! values an entry consists of, and then entries.
 ghost use Rattle.std.specs.Prelude.{◌≡◌, ◌≤◌, ◌+◌, length, IfSome};
 ghost use Rattle.object.specs.Entries.{size_of, within, behind_block, behind_number, behind_varying, behind_value, format_behind, format_at, behind_formats, behind_entry, path_in, behind_entries, entries_by, entries_behind, entries_at};
 
 use crate::leb128::{Read, string_at, unsigned_at};
 use crate::number::byte_at;
 
-/// The format of one value of an entry.
+/// The format of one value in the entries of a table.
 #[derive(Clone, Copy)]
 pub struct Format {
-    /// The content of the value: 1 is the path (DW_LNCT_path).
+    /// What the value is. 1 means the path (DW_LNCT_path).
     pub content: u64,
-    /// The form of the value (DW_FORM_..).
+    /// How the value is encoded (DW_FORM_..).
     pub form: u64,
-    /// The byte index after the content and the form.
+    /// The byte index after the format.
     pub next: usize,
 }
 
-/// A table of entries.
+/// The header of a table of directories or files.
 #[derive(Clone, Copy)]
 pub struct EntryTable {
-    /// The number of formats of an entry.
+    /// The number of formats, which is the number of values of each entry.
     pub formats: u8,
     /// The byte index of the first format.
     pub from: usize,
@@ -29,16 +30,17 @@ pub struct EntryTable {
     pub first: usize,
 }
 
-/// The path of a file: a value and its form.
+/// Where the path of a file is, and how it is encoded.
 #[derive(Clone, Copy)]
 pub struct Path {
-    /// The form of the value.
+    /// How the path is encoded (DW_FORM_..).
     pub form: u64,
-    /// The byte index of the value.
+    /// The byte index of the path.
     pub place: usize,
 }
 
-/// Returns the number of bytes of a value in a form of fixed size, or 0 if the form has no fixed size.
+/// Returns the number of bytes of a value in this form (DW_FORM_..), or 0 if the form has no fixed size or is not
+/// supported.
 fn size_of(form: u64) -> usize
     ensures size { result ≡ size_of form }
     ensures bound { result ≤ 16 }
@@ -71,8 +73,8 @@ fn within(bytes: &[u8], place: usize, size: u64) -> Option<usize>
     }
 }
 
-/// Returns the byte index after a block that begins with its size at index `place`, or `None` if the block does not end
-/// within `bytes`.
+/// Returns the byte index after the block at index `place`. A block is a number of bytes in LEB128, and then that
+/// number of bytes. Returns `None` if the block does not end within `bytes`.
 fn behind_block(bytes: &[u8], place: usize) -> Option<usize>
     ensures read { result ≡ behind_block place bytes.now }
     ensures within { IfSome result (λ next. next ≤ length bytes.now) }
@@ -81,7 +83,8 @@ fn behind_block(bytes: &[u8], place: usize) -> Option<usize>
     within(bytes, size.next, size.value)
 }
 
-/// Returns the byte index after the LEB128 number at index `place`, or `None` if there is no such number.
+/// Returns the byte index after the LEB128 number at index `place`, or `None` if there is no number of at most 10
+/// bytes.
 fn behind_number(bytes: &[u8], place: usize) -> Option<usize>
     ensures read { result ≡ behind_number place bytes.now }
     ensures within { IfSome result (λ next. next ≤ length bytes.now) }
@@ -90,7 +93,8 @@ fn behind_number(bytes: &[u8], place: usize) -> Option<usize>
     Some(number.next)
 }
 
-/// Returns the byte index after a value at index `place` whose form has no fixed size: a string, a number or a block.
+/// Returns the byte index after the value at index `place`, if its form is a string, a LEB128 number or a block.
+/// Returns `None` for another form, or if the value does not end within `bytes`.
 fn behind_varying(bytes: &[u8], form: u64, place: usize) -> Option<usize>
     requires few { length bytes.now ≤ 65536 }
     requires inside { place ≤ length bytes.now }
@@ -108,7 +112,8 @@ fn behind_varying(bytes: &[u8], form: u64, place: usize) -> Option<usize>
     }
 }
 
-/// Returns the byte index after the value of this form at index `place`.
+/// Returns the byte index after the value at index `place`, which has this form (DW_FORM_..). Returns `None` if the
+/// form is not supported, or the value does not end within `bytes`.
 fn behind_value(bytes: &[u8], form: u64, place: usize) -> Option<usize>
     requires few { length bytes.now ≤ 65536 }
     requires inside { place ≤ length bytes.now }
@@ -123,7 +128,7 @@ fn behind_value(bytes: &[u8], form: u64, place: usize) -> Option<usize>
     }
 }
 
-/// Reads the format at the byte index `place` of `formats`.
+/// Reads the format at the byte index `place` of `formats`, or returns `None` if there is no complete format.
 fn format_at(formats: &[u8], place: usize) -> Option<Format>
     ensures { result ≡ format_at place formats.now }
 {
@@ -131,7 +136,8 @@ fn format_at(formats: &[u8], place: usize) -> Option<Format>
     format_behind(formats, content)
 }
 
-/// Reads the form of a format. `content` is the content, which was read before it.
+/// Reads the second number of a format, its form, and returns the format. `content` is the format's first number.
+/// Returns `None` if there is no second number.
 fn format_behind(formats: &[u8], content: Read) -> Option<Format>
     ensures { result ≡ format_behind formats.now content }
 {
@@ -143,7 +149,7 @@ fn format_behind(formats: &[u8], content: Read) -> Option<Format>
     })
 }
 
-/// Returns the byte index after the `count` formats that begin at index `place`.
+/// Returns the byte index after the `count` formats that begin at index `place`, or `None` if they are not complete.
 #[tactic(auto, using(crate::proofs::EntryLemmas::formats_none, crate::proofs::EntryLemmas::formats_some))]
 fn behind_formats(formats: &[u8], count: u8, place: usize) -> Option<usize>
     ensures { result ≡ behind_formats count place formats.now }
@@ -157,8 +163,8 @@ fn behind_formats(formats: &[u8], count: u8, place: usize) -> Option<usize>
     }
 }
 
-/// Returns the byte index after the entry at index `place` of `bytes`. The entry has `count` formats, which begin at
-/// index `from` of `formats`.
+/// Returns the byte index after the entry at index `place` of `bytes`, or `None` if the entry does not end within
+/// `bytes`. The entry has `count` values, whose formats begin at index `from` of `formats`.
 #[tactic(auto, using(crate::proofs::EntryLemmas::entry_none, crate::proofs::EntryLemmas::entry_some))]
 fn behind_entry(formats: &[u8], count: u8, from: usize, bytes: &[u8], place: usize) -> Option<usize>
     requires few { length bytes.now ≤ 65536 }
@@ -178,8 +184,8 @@ fn behind_entry(formats: &[u8], count: u8, from: usize, bytes: &[u8], place: usi
     }
 }
 
-/// Returns the path of the entry at index `place` of `bytes`, or `None` if it has none. The entry has `count` formats,
-/// which begin at index `from` of `formats`.
+/// Returns where the path of the entry at index `place` of `bytes` is, or `None` if the entry has no path. The entry
+/// has `count` values, whose formats begin at index `from` of `formats`.
 #[tactic(auto, using(crate::proofs::EntryLemmas::path_none, crate::proofs::EntryLemmas::path_some))]
 pub fn path_in(formats: &[u8], count: u8, from: usize, bytes: &[u8], place: usize) -> Option<Path>
     requires few { length bytes.now ≤ 65536 }
@@ -206,8 +212,9 @@ pub fn path_in(formats: &[u8], count: u8, from: usize, bytes: &[u8], place: usiz
     }
 }
 
-/// Returns the byte index after `entries` entries, the first of which begins at index `place` of `bytes`. Each has
-/// `count` formats, which begin at index `from` of `formats`.
+/// Returns the byte index after `entries` entries, the first of which begins at index `place` of `bytes`. Returns
+/// `None` if they do not end within `bytes`. Each entry has `count` values, whose formats begin at index `from` of
+/// `formats`.
 #[tactic(auto, using(crate::proofs::EntryLemmas::entries_none))]
 pub fn behind_entries(
     entries: u64,
@@ -233,7 +240,8 @@ pub fn behind_entries(
     Some(next)
 }
 
-/// Returns the table whose number of entries was read, or `None` if there are more entries than bytes.
+/// Returns the header of a table with `count` entries and `formats` formats, or `None` if there are more entries than
+/// bytes. The formats begin at index `from`.
 fn entries_by(bytes: &[u8], formats: u8, from: usize, count: Read) -> Option<EntryTable>
     requires { count.next ≤ length bytes.now }
     ensures read { result ≡ entries_by formats from bytes.now count }
@@ -251,7 +259,8 @@ fn entries_by(bytes: &[u8], formats: u8, from: usize, count: Read) -> Option<Ent
     })
 }
 
-/// Reads the number of entries of a table whose formats end at the byte index `next`.
+/// Reads the number of entries at the byte index `next`, where the formats end, and returns the header of the table.
+/// Returns `None` if there is no number, or if there are more entries than bytes.
 fn entries_behind(bytes: &[u8], formats: u8, from: usize, next: usize) -> Option<EntryTable>
     ensures read { result ≡ entries_behind formats from bytes.now next }
     ensures few { IfSome result (λ entries. entries.count ≤ length bytes.now) }
@@ -261,7 +270,8 @@ fn entries_behind(bytes: &[u8], formats: u8, from: usize, next: usize) -> Option
     entries_by(bytes, formats, from, count)
 }
 
-/// Reads the table of entries at the byte index `place`. Returns `None` if the table does not end within `bytes`.
+/// Reads the header of the table at the byte index `place`. Returns `None` if its formats or its number of entries are
+/// not complete, or if there are more entries than bytes.
 pub fn entries_at(bytes: &[u8], place: usize) -> Option<EntryTable>
     requires few { length bytes.now ≤ 65536 }
     requires inside { place ≤ length bytes.now }

@@ -12,7 +12,7 @@ use crate::relocation::{first_call, first_named};
 use crate::section::{SectionHeader, count_sections, has_table, is_for_bpf, read_table};
 use crate::symbol::{Symbol, find_symbols};
 
-/// Returns the bytes of the table of symbols, which is in the section with the index `home`.
+/// Returns the symbol table's bytes. `home` is the index of its section, and `table` the section header table.
 fn symbols_of<'a>(object: &'a [u8], table: &[u8], home: usize) -> &'a [u8]
     requires { home < 2 ^ 32 }
     ensures { result.now ≡ symbols_in object.now table.now home }
@@ -20,7 +20,8 @@ fn symbols_of<'a>(object: &'a [u8], table: &[u8], home: usize) -> &'a [u8]
     SectionHeader::read(table, home).bytes(object)
 }
 
-/// Returns the strings to which the table of symbols links.
+/// Returns the string table with the symbols' names. `home` is the index of the symbol table's section, and `table` the
+/// section header table.
 fn strings_of<'a>(object: &'a [u8], table: &[u8], home: usize) -> &'a [u8]
     requires { home < 2 ^ 32 }
     ensures { result.now ≡ strings_in object.now table.now home }
@@ -29,7 +30,8 @@ fn strings_of<'a>(object: &'a [u8], table: &[u8], home: usize) -> &'a [u8]
     SectionHeader::read(table, link).bytes(object)
 }
 
-/// Returns the first fault of an object, whichever function is asked for.
+/// Returns the first fault of an object that does not depend on the entry function: it is not an object for BPF, or it
+/// is damaged. Returns `None` if there is no such fault.
 fn fault_of(object: &[u8]) -> Option<ObjectFault>
     ensures { result ≡ object_fault object.now }
 {
@@ -50,7 +52,8 @@ fn fault_of(object: &[u8]) -> Option<ObjectFault>
     }
 }
 
-/// Returns the index of a symbol, if it is at least `least` and the symbol is a function that fits.
+/// Returns `index` if the symbol with this index can be the entry, and otherwise `None`. It can if it is a function
+/// with this name or, if no name is given, a global function, and `index` is at least `least`.
 fn entry_at(
     table: &[u8],
     symbols: &[u8],
@@ -71,7 +74,8 @@ fn entry_at(
     }
 }
 
-/// Returns the index of the first function from `least` on that fits.
+/// Returns the index, at least `least`, of the first function with this name or, if no name is given, of the first
+/// global function. Returns `None` if there is no such function.
 fn first_entry(
     table: &[u8],
     symbols: &[u8],
@@ -91,7 +95,11 @@ fn first_entry(
     None
 }
 
-/// Returns the index of the only function that fits. It fails with `NoFunction` or `Several`.
+/// Returns the index of the only function with this name or, if no name is given, of the only global function.
+///
+/// # Errors
+///
+/// `NoFunction` if there is no such function, and `Several` if there are several.
 fn choose(
     table: &[u8],
     symbols: &[u8],
@@ -110,7 +118,7 @@ fn choose(
     }
 }
 
-/// Returns the code of a function.
+/// Returns the bytecode of a function, or no bytes if it is not within its section.
 fn code_of<'a>(object: &'a [u8], table: &[u8], function: Symbol) -> &'a [u8]
     ensures { result.now ≡ code_in object.now table.now function }
 {
@@ -121,7 +129,8 @@ fn code_of<'a>(object: &'a [u8], table: &[u8], function: Symbol) -> &'a [u8]
     )
 }
 
-/// Returns the first fault of a function's code: a relocation that changes it, or a call of a function.
+/// Returns the first fault of a function's code, or `None` if it has none. The faults are a relocation that changes the
+/// code, and a call of another function.
 fn fault_in(
     object: &[u8],
     table: &[u8],
@@ -139,7 +148,8 @@ fn fault_in(
     first_call(code_of(object, table, function))
 }
 
-/// Returns the entry function of an object that has no fault of its own.
+/// Returns the entry function of an object that is whole and for BPF. Fails if there is no such function or several, or
+/// if its code has a fault.
 fn find_entry(object: &[u8], name: Option<&[u8]>) -> Result<Symbol, ObjectFault>
     ensures { result ≡ found_in object.now (parts_of object.now) (asked name.entry) }
 {
@@ -156,12 +166,13 @@ fn find_entry(object: &[u8], name: Option<&[u8]>) -> Result<Symbol, ObjectFault>
     }
 }
 
-/// Returns the entry function: the function with this name or, if no name is given, the only global function.
+/// Returns the entry function of an object: the function with this name or, if no name is given, the only global
+/// function.
 ///
 /// # Errors
 ///
-/// The first fault: the file is not an object for BPF, a part is damaged, there is no such function or several, a
-/// relocation changes its code, or it calls a function of the object.
+/// The first fault: the file is not an object for BPF, it is damaged, there is no such function or several, a
+/// relocation changes the function's code, or the function calls another function of the object.
 pub fn function(object: &[u8], name: Option<&[u8]>) -> Result<Symbol, ObjectFault>
     ensures { result ≡ function_of object.now (asked name.entry) }
 {
@@ -171,8 +182,8 @@ pub fn function(object: &[u8], name: Option<&[u8]>) -> Result<Symbol, ObjectFaul
     }
 }
 
-/// Returns the code of the entry function, as a part of the object. The entry is the function with this name or, if no
-/// name is given, the only global function.
+/// Returns the bytecode of the entry function. The entry is the function with this name or, if no name is given, the
+/// only global function.
 ///
 /// # Errors
 ///

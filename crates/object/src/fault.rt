@@ -5,33 +5,33 @@ ghost use Rattle.object.specs.Sentences.{sentence_of};
 use std::error::Error;
 use std::fmt;
 
-/// The part of an object that is not within the file, or not within the part that contains it.
+/// Where an object is damaged: something is not within the file, or not within its section or table.
 #[derive(Clone, Copy, Debug, PartialEq, Eq, Drop)]
 pub enum Damage {
-    /// The header of the object, or the headers of its sections.
+    /// The header of the object, or the section header table.
     Sections,
     /// The section with this index.
     Section(usize),
-    /// The function with this index among the symbols: its name, or its code.
+    /// The function with this index in the symbol table: its name or its code.
     Symbol(usize),
-    /// The relocations in the section with this index, or a symbol that they name.
+    /// The relocations in the section with this index: they use another symbol table, or a symbol that does not exist.
     Relocations(usize),
 }
 
-/// Why an object has no code that can be run.
+/// Why an object has no bytecode that can be run.
 #[derive(Clone, Copy, Debug, PartialEq, Eq, Drop)]
 pub enum ObjectFault {
     /// O1: the file is not a relocatable ELF object of 64 bits, little-endian, for BPF.
     NoObject,
-    /// O2: a part of the object is not within the file, or not within the part that contains it.
+    /// O2: the object is damaged.
     Damaged(Damage),
     /// O3: there is no function with the given name or, if no name is given, no global function.
     NoFunction,
     /// O4: there are several functions with the given name or, if no name is given, several global functions.
     Several,
-    /// O5: the unit names data, or a function that is not in the object.
+    /// O5: the 8-byte unit with this index in the entry's code uses data, or a function that is not in the object.
     Names(usize),
-    /// O6: the unit calls or names a function of the object.
+    /// O6: the 8-byte unit with this index in the entry's code calls or uses a function of the object.
     Leaves(usize),
 }
 

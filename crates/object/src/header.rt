@@ -1,17 +1,17 @@
-//! The header of a line number program.
+//! Reads the header of a line number program (DWARF 5 and 4).
 ghost use Rattle.std.specs.Prelude.{◌≡◌, ◌<◌, ◌≤◌, ◌^◌, length, IfSome};
 ghost use Rattle.object.specs.Header.{fields_of, widened, header_from, header_in, is_read, header_of};
 
 use crate::number::{byte_at, half_at, word_at};
 
-/// The header of a line number program, as far as addresses, files and lines need it.
+/// The fields of a line number program's header that are needed to find the file and line of an address.
 #[derive(Clone, Copy)]
 pub struct Header {
     /// The version: 4 or 5.
     pub version: u16,
-    /// The field minimum_instruction_length.
+    /// The field minimum_instruction_length: the number of bytes by which an advance of 1 moves the address.
     pub shortest: u8,
-    /// The field line_base, modulo 2^64.
+    /// The field line_base, a signed number, modulo 2^64.
     pub base: u64,
     /// The field line_range.
     pub range: u8,
@@ -19,13 +19,13 @@ pub struct Header {
     pub opcodes: u8,
     /// The byte index of the tables of directories and files.
     pub tables: usize,
-    /// The place where the program begins.
+    /// The byte index at which the instructions begin.
     pub program: usize,
-    /// The place where the program ends.
+    /// The byte index after the last instruction.
     pub end: usize,
 }
 
-/// Returns the place of minimum_instruction_length.
+/// Returns the byte index of the field minimum_instruction_length in this version of DWARF.
 fn fields_of(version: u16) -> usize
     ensures place { result ≡ fields_of version }
     ensures low { 10 ≤ result }
@@ -34,7 +34,7 @@ fn fields_of(version: u16) -> usize
     if version == 5 { 12 } else { 10 }
 }
 
-/// Returns a byte, read as a signed number, modulo 2^64.
+/// Returns a byte as a signed number from -128 to 127, modulo 2^64.
 fn widened(byte: u8) -> u64
     ensures { result ≡ widened byte }
 {
@@ -45,7 +45,8 @@ fn widened(byte: u8) -> u64
     }
 }
 
-/// Reads the header, given the place of minimum_instruction_length.
+/// Reads the header of a line number program, in this version of DWARF. `fields` is the byte index of its field
+/// minimum_instruction_length.
 fn header_from(bytes: &[u8], version: u16, fields: usize) -> Header
     requires low { 10 ≤ fields }
     requires high { fields ≤ 12 }
@@ -64,7 +65,8 @@ fn header_from(bytes: &[u8], version: u16, fields: usize) -> Header
     }
 }
 
-/// Returns whether a header is supported, and its program is within the bytes.
+/// Returns whether a header is supported, and its program is within the bytes. Supported are versions 4 and 5 with one
+/// operation an instruction, a line_range above 0, and an opcode_base from 1 to 13.
 fn is_read(header: Header, bytes: &[u8]) -> bool
     ensures { result ≡ is_read header bytes.now }
 {
@@ -78,7 +80,8 @@ fn is_read(header: Header, bytes: &[u8]) -> bool
         && header.end <= bytes.len()
 }
 
-/// Returns the header of the first line number program, or `None` if it is not supported.
+/// Returns the header of the first line number program in `bytes`, or `None` if it is not supported or its program is
+/// not within `bytes`.
 pub fn header_of(bytes: &[u8]) -> Option<Header>
     ensures read { result ≡ header_of bytes.now }
     ensures range { IfSome result (λ header. 0 < header.range) }

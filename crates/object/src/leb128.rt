@@ -5,7 +5,7 @@ ghost use Rattle.object.specs.Numbers.{last_byte, joined, number_in, unsigned_at
 use crate::number::byte_at;
 use text::{Stop, cut};
 
-/// The greatest number of bytes of a number in LEB128 that is read.
+/// The greatest number of bytes in a LEB128 number.
 const MOST: u8 = 10;
 
 /// A number that was read, and the byte index after it.
@@ -17,8 +17,8 @@ pub struct Read {
     pub next: usize,
 }
 
-/// Returns the value of the last byte of a LEB128 number, which is below 128. In a signed number, a byte of 64 or more
-/// is negative, and its value is taken modulo 2^64.
+/// Returns the value of the last byte of a LEB128 number. In a signed number, a byte of 64 or more means `byte` - 128,
+/// and is returned modulo 2^64.
 fn last_byte(signed: bool, byte: u8) -> u64
     requires { byte < 128 }
     ensures { result ≡ last_byte signed byte }
@@ -30,7 +30,8 @@ fn last_byte(signed: bool, byte: u8) -> u64
     }
 }
 
-/// Returns the number whose lowest seven bits are in this byte, and whose other bits follow.
+/// Prepends a byte to a LEB128 number: the low seven bits of the result are those of `byte`, and the higher bits are
+/// the number `more`, modulo 2^64.
 fn joined(byte: u8, more: Read) -> Read
     requires { 128 ≤ byte }
     ensures { result ≡ joined byte more }
@@ -86,7 +87,7 @@ pub fn signed_at(bytes: &[u8], place: usize) -> Option<Read>
     number_in(true, MOST, bytes, place)
 }
 
-/// Returns the bytes from index `place` on. There are none if `place` is past the end.
+/// Returns the bytes from index `place` on, or no bytes if `place` is past the end.
 fn rest(bytes: &[u8], place: usize) -> &[u8]
     ensures { result.now ≡ drop place bytes.now }
 {
@@ -97,7 +98,7 @@ fn rest(bytes: &[u8], place: usize) -> &[u8]
     }
 }
 
-/// Returns the bytes from index `place` on, up to but not including the first zero.
+/// Returns the bytes from index `place` on, up to but not including the first zero or the end.
 pub fn string_at(bytes: &[u8], place: usize) -> &[u8]
     ensures read { result.now ≡ string_at place bytes.now }
     ensures bound { length result.now ≤ length bytes.now }

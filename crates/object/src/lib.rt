@@ -1,6 +1,6 @@
-//! Reads ELF objects for BPF. Finds the code of one function, or the first fault (System V ABI, "Object Files"; LLVM's
-//! BPF relocations). Finds for each unit of a function the file and line of its source (DWARF 5 and 4, "Line Number
-//! Information").
+//! Reads ELF objects for BPF: the bytecode of one function, or the object's first fault (System V ABI, "Object Files";
+//! LLVM's BPF relocations). Also finds the source file and line of each unit of the bytecode (DWARF 5 and 4, "Line
+//! Number Information").
 #![tactic(auto)]
 
 mod damage;

@@ -1,4 +1,4 @@
-//! The names of source files, by their numbers in line number information.
+//! Finds the name of a source file by its number in line number information (DWARF 5 and 4).
 ghost use Rattle.std.specs.Prelude.{◌≡◌, ◌<◌, ◌≤◌, ◌+◌, ◌-◌, length, false, true, IfSome, MatchOption};
 ghost use Rattle.std.specs.List.{list_all};
 ghost use Rattle.object.specs.First.{first_some};
@@ -9,11 +9,12 @@ use crate::header::Header;
 use crate::leb128::string_at;
 use crate::number::{byte_at, word_at};
 
-/// The formats of version 4's files, as version 5 writes them: the path (DW_FORM_string), and directory, time and size
-/// (DW_FORM_udata).
+/// The formats of version 4's files, written as in version 5: the path (DW_FORM_string), and the directory, time and
+/// size (DW_FORM_udata).
 const FILE_FORMATS: [u8; 8] = [1, 8, 2, 15, 3, 15, 4, 15];
 
-/// Returns the path of the entry at the byte index `place`, or `None` if the entry has none.
+/// Returns where the path is in the entry at the byte index `place`, or `None` if the entry has none. `files` is the
+/// header of the table of files.
 fn path_of_entry(bytes: &[u8], files: EntryTable, place: usize) -> Option<Path>
     requires few { length bytes.now ≤ 65536 }
     requires inside { place ≤ length bytes.now }
@@ -22,7 +23,8 @@ fn path_of_entry(bytes: &[u8], files: EntryTable, place: usize) -> Option<Path>
     path_in(bytes, files.formats, files.from, bytes, place)
 }
 
-/// Returns the path of the file with this number in a table of version 5.
+/// Returns where the path of the file with this number is, in version 5. `files` is the header of the table of files.
+/// Returns `None` if the table does not have the file or its path.
 fn path_among(bytes: &[u8], file: u64, files: EntryTable) -> Option<Path>
     requires few { length bytes.now ≤ 65536 }
     requires inside { files.first ≤ length bytes.now }
@@ -35,7 +37,8 @@ fn path_among(bytes: &[u8], file: u64, files: EntryTable) -> Option<Path>
     path_of_entry(bytes, files, place)
 }
 
-/// Returns the table of files, which follows the table of directories.
+/// Reads the header of the table of files, which follows the table of directories. Returns `None` if the directories or
+/// that header are not complete.
 fn files_behind(bytes: &[u8], directories: EntryTable) -> Option<EntryTable>
     requires few { length bytes.now ≤ 65536 }
     requires inside { directories.first ≤ length bytes.now }
@@ -52,7 +55,8 @@ fn files_behind(bytes: &[u8], directories: EntryTable) -> Option<EntryTable>
     entries_at(bytes, place)
 }
 
-/// Returns the table of files of version 5, where the two tables begin at `tables`.
+/// Reads the header of the table of files in version 5. `tables` is the byte index of the table of directories, which
+/// precedes it. Returns `None` if the directories or that header are not complete.
 fn files_at(bytes: &[u8], tables: usize) -> Option<EntryTable>
     requires few { length bytes.now ≤ 65536 }
     requires inside { tables ≤ length bytes.now }
@@ -63,8 +67,8 @@ fn files_at(bytes: &[u8], tables: usize) -> Option<EntryTable>
     files_behind(bytes, directories)
 }
 
-/// Returns the path of the file with this number, for a program of version 5. The tables of directories and files begin
-/// at the byte index `tables`.
+/// Returns where the path of the file with this number is, in version 5. `tables` is the byte index of the table of
+/// directories, which precedes the table of files. Returns `None` if there is no such path.
 fn path_in_five(bytes: &[u8], tables: usize, file: u64) -> Option<Path>
     requires few { length bytes.now ≤ 65536 }
     requires inside { tables ≤ length bytes.now }
@@ -74,8 +78,8 @@ fn path_in_five(bytes: &[u8], tables: usize, file: u64) -> Option<Path>
     path_among(bytes, file, files)
 }
 
-/// Returns the byte index `tables` + `n` if there is an empty string of the list of strings that begins at index
-/// `tables`.
+/// Returns the byte index `tables` + `n` if an empty string begins there, and otherwise `None`. The strings end with a
+/// zero each, and the first begins at index `tables`.
 fn empty_here(bytes: &[u8], tables: usize, n: usize) -> Option<usize>
     requires few { length bytes.now ≤ 65536 }
     requires inside { tables + n < length bytes.now }
@@ -90,7 +94,8 @@ fn empty_here(bytes: &[u8], tables: usize, n: usize) -> Option<usize>
     }
 }
 
-/// Returns the byte index of the empty string that ends the directories of version 4, or `None` if there is none.
+/// Returns the byte index of the empty string that ends the directories of version 4, or `None` if there is none. The
+/// directories begin at index `tables`.
 fn directories_end(bytes: &[u8], tables: usize) -> Option<usize>
     requires few { length bytes.now ≤ 65536 }
     requires inside { tables ≤ length bytes.now }
@@ -106,7 +111,8 @@ fn directories_end(bytes: &[u8], tables: usize) -> Option<usize>
     None
 }
 
-/// Returns the path of the file after `before` others in version 4, where the directories end at the byte index `end`.
+/// Returns where the path of the file after the first `before` files is, in version 4, or `None` if there is no such
+/// file. The list of files begins after the byte index `end`.
 fn path_behind(bytes: &[u8], before: u64, end: usize) -> Option<Path>
     requires few { length bytes.now ≤ 65536 }
     requires inside { end < length bytes.now }
@@ -116,8 +122,8 @@ fn path_behind(bytes: &[u8], before: u64, end: usize) -> Option<Path>
     path_in(&FILE_FORMATS, 4, 0, bytes, place)
 }
 
-/// Returns the path of the file with this number, for a program of version 4. The lists of directories and files begin
-/// at the byte index `tables`.
+/// Returns where the path of the file with this number is, in version 4. The first file has number 1. `tables` is the
+/// byte index of the list of directories, which precedes the list of files. Returns `None` if there is no such path.
 fn path_in_four(bytes: &[u8], tables: usize, file: u64) -> Option<Path>
     requires few { length bytes.now ≤ 65536 }
     requires inside { tables ≤ length bytes.now }
@@ -130,7 +136,8 @@ fn path_in_four(bytes: &[u8], tables: usize, file: u64) -> Option<Path>
     path_behind(bytes, file - 1, end)
 }
 
-/// Returns the path of a file, in the version of the header.
+/// Returns where the path of the file with this number is, in the header's version of DWARF, or `None` if there is no
+/// such path.
 fn path_of(header: Header, bytes: &[u8], file: u64) -> Option<Path>
     requires few { length bytes.now ≤ 65536 }
     requires inside { header.tables ≤ length bytes.now }
@@ -143,7 +150,8 @@ fn path_of(header: Header, bytes: &[u8], file: u64) -> Option<Path>
     }
 }
 
-/// Returns the name of a path. It is empty if the form is not one of a string.
+/// Returns the path's bytes, or no bytes if the path's form is not supported. The path is in `bytes` (.debug_line), or
+/// refers to `line_strings` (.debug_line_str) or to `strings` (.debug_str).
 fn name_at<'a>(bytes: &'a [u8], line_strings: &'a [u8], strings: &'a [u8], path: Path) -> &'a [u8]
     ensures { result.now ≡ name_at bytes.now line_strings.now strings.now path }
 {
@@ -158,7 +166,8 @@ fn name_at<'a>(bytes: &'a [u8], line_strings: &'a [u8], strings: &'a [u8], path:
     }
 }
 
-/// Returns the name of a file, or the empty text if the tables do not have it.
+/// Returns the path of the file with this number, or no bytes if it is not found. The path is in `bytes` (.debug_line),
+/// or refers to `line_strings` (.debug_line_str) or to `strings` (.debug_str).
 pub fn name_of<'a>(
     header: Header,
     bytes: &'a [u8],
@@ -176,28 +185,29 @@ pub fn name_of<'a>(
     }
 }
 
-/// Returns whether a byte is a visible character of ASCII or a space.
+/// Returns whether a byte is a visible ASCII character or a space.
 fn is_visible(byte: u8) -> bool
     ensures { result ≡ is_visible byte }
 {
     32 <= byte && byte < 127
 }
 
-/// Returns whether all bytes are visible characters of ASCII or spaces.
+/// Returns whether all bytes of a name are visible ASCII characters or spaces.
 fn are_visible(name: &[u8]) -> bool
     ensures { result ≡ list_all is_visible name.now }
 {
     name.iter().all(|byte| is_visible(*byte))
 }
 
-/// Returns whether a name can be printed on a line: it has 1 to 255 visible characters or spaces.
+/// Returns whether a name can be printed on a line: it consists of 1 to 255 visible ASCII characters or spaces.
 fn is_plain(name: &[u8]) -> bool
     ensures { result ≡ is_plain name.now }
 {
     !name.is_empty() && name.len() <= 255 && are_visible(name)
 }
 
-/// Returns a name as text, or `None` if it cannot be printed on a line.
+/// Returns a name as text, or `None` if it cannot be printed on a line: it must consist of 1 to 255 visible ASCII
+/// characters or spaces.
 pub fn plain(name: &[u8]) -> Option<&str>
     ensures { MatchOption result (is_plain name.now ≡ false) (λ text. (is_plain name.now ≡ true)
         × (text.now ≡ name.now)) }

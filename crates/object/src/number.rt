@@ -1,4 +1,4 @@
-//! Reads numbers and windows of bytes, if the bytes exist.
+//! Reads little-endian numbers and ranges of bytes that may be past the end.
 ghost use Rattle.std.specs.Prelude.{◌≡◌, ◌+◌, length, nat_le};
 ghost use Rattle.object.specs.Number.{number_at, window};
 
@@ -11,7 +11,7 @@ fn has(bytes: &[u8], place: usize, size: usize) -> bool
     size <= bytes.len() && place <= bytes.len() - size
 }
 
-/// Returns the byte at index `place`, or 0 if `bytes` ends before it.
+/// Returns the byte at index `place`, or 0 if `bytes` has no such index.
 pub fn byte_at(bytes: &[u8], place: usize) -> u8
     ensures { result ≡ number_at 1 place bytes.now }
 {
@@ -22,8 +22,7 @@ pub fn byte_at(bytes: &[u8], place: usize) -> u8
     }
 }
 
-/// Returns the 16-bit little-endian number in the 2 bytes from index `place` on, or 0 if `bytes` ends before the last
-/// of them.
+/// Returns the 16-bit little-endian number in the 2 bytes from index `place` on, or 0 if `bytes` does not have both.
 pub fn half_at(bytes: &[u8], place: usize) -> u16
     ensures { result ≡ number_at 2 place bytes.now }
 {
@@ -34,8 +33,8 @@ pub fn half_at(bytes: &[u8], place: usize) -> u16
     }
 }
 
-/// Returns the 32-bit little-endian number in the 4 bytes from index `place` on, or 0 if `bytes` ends before the last
-/// of them.
+/// Returns the 32-bit little-endian number in the 4 bytes from index `place` on, or 0 if `bytes` does not have all
+/// four.
 pub fn word_at(bytes: &[u8], place: usize) -> u32
     ensures { result ≡ number_at 4 place bytes.now }
 {
@@ -46,8 +45,8 @@ pub fn word_at(bytes: &[u8], place: usize) -> u32
     }
 }
 
-/// Returns the 64-bit little-endian number in the 8 bytes from index `place` on, or 0 if `bytes` ends before the last
-/// of them.
+/// Returns the 64-bit little-endian number in the 8 bytes from index `place` on, or 0 if `bytes` does not have all
+/// eight.
 pub fn double_at(bytes: &[u8], place: usize) -> u64
     ensures { result ≡ number_at 8 place bytes.now }
 {
@@ -58,7 +57,7 @@ pub fn double_at(bytes: &[u8], place: usize) -> u64
     }
 }
 
-/// Returns the `size` bytes from `start` on, or none if not all of them exist.
+/// Returns the `size` bytes from index `start` on, or no bytes if `bytes` does not have all of them.
 pub fn window(bytes: &[u8], start: u64, size: u64) -> &[u8]
     ensures { result.now ≡ window start size bytes.now }
 {

@@ -1,4 +1,4 @@
-//! The addresses in the function's section to which the operands of a line number program refer.
+//! Finds the addresses that the operands of a line number program mean, by the relocations of .debug_line.
 ghost use Rattle.std.specs.Prelude.{◌≡◌, ◌<◌, ◌≤◌, ◌+◌, ◌*◌, ◌/◌, ◌^◌, length};
 ghost use Rattle.object.specs.First.{first_some};
 ghost use Rattle.object.specs.Origin.{addend_of, address_in, origin_here, origin_of};
@@ -7,7 +7,8 @@ use crate::number::double_at;
 use crate::relocation::Relocation;
 use crate::symbol::Symbol;
 
-/// Returns the number that a relocation adds to its symbol's value.
+/// Returns the number that the relocation with this index adds to its symbol's value. A relocation of `size` 16 bytes
+/// has this number in `bytes` at index `place`, and one of 24 bytes has it in itself.
 fn addend_of(bytes: &[u8], size: usize, relocations: &[u8], index: usize, place: usize) -> u64
     requires { size * index + 24 < 2 ^ 64 }
     ensures { result ≡ addend_of size index relocations.now place bytes.now }
@@ -32,7 +33,7 @@ fn address_in(section: u16, symbol: Symbol, addend: u64) -> Option<u64>
 }
 
 /// Returns the address that the relocation with this index gives to the operand at the byte index `place`. Returns
-/// `None` if it changes another place or its symbol is in another section.
+/// `None` if the relocation is not of this operand, or its symbol is not in the section with the number `section`.
 fn origin_here(
     bytes: &[u8],
     symbols: &[u8],
@@ -54,8 +55,8 @@ fn origin_here(
     address_in(section, symbol, addend)
 }
 
-/// Returns the address of the operand at the byte index `place`, or `None` if it is not in the section with the number
-/// `section`.
+/// Returns the address that the relocations give to the operand at the byte index `place`. Returns `None` if no
+/// relocation is of this operand with a symbol in the section with the number `section`.
 pub fn origin_of(
     bytes: &[u8],
     symbols: &[u8],

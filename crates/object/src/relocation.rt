@@ -1,4 +1,4 @@
-//! Relocations, and the faults of code that names symbols or calls functions.
+//! Reads relocations, and finds the first one that changes a function's code, and the first call of another function.
 ghost use Rattle.std.specs.Prelude.{◌≡◌, ◌<◌, ◌≤◌, ◌+◌, ◌*◌, ◌/◌, ◌^◌, length};
 ghost use Rattle.object.specs.First.{first_some};
 ghost use Rattle.object.specs.Relocation.{named_at, relocation_fault, relocations_fault, is_call, call_fault};
@@ -8,10 +8,10 @@ use crate::number::{byte_at, double_at, word_at};
 use crate::section::SectionHeader;
 use crate::symbol::Symbol;
 
-/// A relocation: a place of a section, and the symbol that it names (Elf64_Rel, Elf64_Rela).
+/// A relocation: a place in a section that is to be changed, and the symbol that it refers to (Elf64_Rel, Elf64_Rela).
 #[derive(Clone, Copy)]
 pub struct Relocation {
-    /// The place in its section, in bytes (r_offset).
+    /// The byte index of the place in its section (r_offset).
     pub place: u64,
     /// The index of the symbol (the upper half of r_info).
     pub symbol: u32,
@@ -28,7 +28,8 @@ impl Relocation {
         if section.kind == 9 { 16 } else { 24 }
     }
 
-    /// Returns the relocation with this index. Past the table its fields are zero.
+    /// Returns the relocation with this index. Fields past the end of `relocations` are zero. `size` is the number of
+    /// bytes of each relocation.
     pub fn read(relocations: &[u8], size: usize, index: usize) -> Relocation
         requires { size * index + 16 < 2 ^ 64 }
         ensures { result ≡ relocation_at size index relocations.now }
@@ -40,7 +41,8 @@ impl Relocation {
         }
     }
 
-    /// Returns whether the relocation changes the function's code.
+    /// Returns whether the relocation changes the code of `function`. It must be a relocation of the function's
+    /// section.
     fn is_in(self, function: Symbol) -> bool
         ensures { result ≡ is_within self function }
     {
@@ -48,7 +50,8 @@ impl Relocation {
     }
 }
 
-/// Returns the fault of a unit of the function's code that names the symbol.
+/// Returns the fault of the 8-byte unit with this index in the entry's code, which refers to `symbol`: `Leaves` if the
+/// symbol is in a section of code of the object, and otherwise `Names`.
 fn fault_of(table: &[u8], symbol: Symbol, unit: usize) -> ObjectFault
     ensures { result ≡ named_at table.now symbol unit }
 {
@@ -59,7 +62,8 @@ fn fault_of(table: &[u8], symbol: Symbol, unit: usize) -> ObjectFault
     }
 }
 
-/// Returns the fault of a relocation, if it changes the function's code.
+/// Returns the fault of the relocation with this index if it changes the code of `function`, and otherwise `None`.
+/// `size` is the number of bytes of each relocation.
 fn fault_at(
     table: &[u8],
     symbols: &[u8],
@@ -81,7 +85,8 @@ fn fault_at(
     }
 }
 
-/// Returns the fault of the first of these relocations that changes the function's code.
+/// Returns the fault of the first relocation in `relocations` that changes the code of `function`, or `None` if there
+/// is no such relocation. `size` is the number of bytes of each relocation.
 fn first_fault(
     table: &[u8],
     symbols: &[u8],
@@ -102,8 +107,8 @@ fn first_fault(
     None
 }
 
-/// Returns the fault of the first relocation in the section at `index` that changes the code of `function`. Returns
-/// `None` if there is none, or if the section does not hold relocations of the function's section.
+/// Returns the fault of the first relocation in the section at `index` that changes the code of `function`, or `None`
+/// if there is no such relocation. `table` is the section header table.
 fn section_fault(
     object: &[u8],
     table: &[u8],
@@ -149,7 +154,7 @@ pub fn first_named(
     None
 }
 
-/// Returns whether a unit calls a function of the program.
+/// Returns whether the 8-byte unit with this index calls a function of the same object.
 fn calls(code: &[u8], unit: usize) -> bool
     requires { 8 * unit + 8 < 2 ^ 64 }
     ensures { result ≡ is_call code.now unit }
@@ -157,7 +162,8 @@ fn calls(code: &[u8], unit: usize) -> bool
     byte_at(code, 8 * unit) == 0x85 && byte_at(code, 8 * unit + 1) / 16 == 1
 }
 
-/// Returns the fault of a unit, if it calls a function of the program.
+/// Returns the fault `Leaves` if the 8-byte unit with this index calls a function of the same object, and otherwise
+/// `None`.
 fn fault_of_call(code: &[u8], unit: usize) -> Option<ObjectFault>
     requires { 8 * unit + 8 < 2 ^ 64 }
     ensures { result ≡ call_fault code.now unit }
@@ -169,7 +175,8 @@ fn fault_of_call(code: &[u8], unit: usize) -> Option<ObjectFault>
     }
 }
 
-/// Returns the fault of the first unit that calls a function of the program.
+/// Returns the fault of the first 8-byte unit that calls a function of the same object, or `None` if there is no such
+/// unit.
 pub fn first_call(code: &[u8]) -> Option<ObjectFault>
     ensures { result ≡ first_some (call_fault code.now) (length code.now / 8) }
 {

@@ -1,4 +1,4 @@
-//! The state machine of a line number program, which appends rows.
+//! Runs a line number program: its state machine appends rows of addresses, files and lines.
 ghost use Rattle.std.specs.Prelude.{◌≡◌, ◌<◌, ◌≤◌, ◌++◌, length, IfOk, OnOk, option_to_list};
 ghost use Rattle.object.specs.Rows.{GivesRows, advanced, after, at_start, row_by, started};
 ghost use Rattle.object.specs.Sources.{IsSource, origins_of};
@@ -22,7 +22,7 @@ fn at_start() -> LineRegisters
     }
 }
 
-/// Returns the registers with address and line advanced, modulo 2^64.
+/// Returns the registers with `address` added to the address and `line` added to the line, modulo 2^64.
 fn advanced(registers: LineRegisters, address: u64, line: u64) -> LineRegisters
     ensures { result ≡ advanced registers address line }
 {
@@ -32,7 +32,8 @@ fn advanced(registers: LineRegisters, address: u64, line: u64) -> LineRegisters
     next
 }
 
-/// Returns the registers with a new address, or marked as outside the function's section if there is none.
+/// Returns the registers with a new address in the function's section. Without an address, they are marked as outside
+/// this section.
 fn started(registers: LineRegisters, address: Option<u64>) -> LineRegisters
     ensures { result ≡ started registers address }
 {
@@ -47,7 +48,8 @@ fn started(registers: LineRegisters, address: Option<u64>) -> LineRegisters
     next
 }
 
-/// Returns the row that an instruction appends, if it appends one.
+/// Returns the row that an instruction appends, or `None` if it appends none. `registers` are those before the
+/// instruction.
 fn row_by(registers: LineRegisters, step: Step) -> Option<LineRow>
     ensures { result ≡ row_by registers step }
 {
@@ -64,7 +66,7 @@ fn row_by(registers: LineRegisters, step: Step) -> Option<LineRow>
     }
 }
 
-/// Appends the row of an instruction, if it has one.
+/// Appends the row of an instruction to `rows`, if the instruction has one.
 fn put_row(rows: &mut Vec<LineRow>, registers: LineRegisters, step: Step) -> Result<(), AllocError>
     ensures { OnOk result (rows.new.items ≡ rows.old.items ++ option_to_list (row_by registers step)) }
 {
@@ -77,7 +79,7 @@ fn put_row(rows: &mut Vec<LineRow>, registers: LineRegisters, step: Step) -> Res
     }
 }
 
-/// Returns the registers after an instruction.
+/// Returns the registers after an instruction. `registers` are those before it.
 fn after(source: &LineSections, registers: LineRegisters, step: Step) -> LineRegisters
     requires { IsSource source.now }
     ensures { result ≡ after (origins_of source.now) registers step }
@@ -97,7 +99,8 @@ fn after(source: &LineSections, registers: LineRegisters, step: Step) -> LineReg
     }
 }
 
-/// Returns the address of the operand at the byte index `place`, or `None` if it is not in the function's section.
+/// Returns the address that the operand at the byte index `place` means, or `None` if it is not in the function's
+/// section.
 fn origin(source: &LineSections, place: usize) -> Option<u64>
     requires { IsSource source.now }
     ensures { result ≡ origins_of source.now place }
@@ -112,8 +115,8 @@ fn origin(source: &LineSections, place: usize) -> Option<u64>
     )
 }
 
-/// Returns the rows of a program that ends exactly at the end of the bytes. Returns `None` if the program breaks off
-/// before that end.
+/// Returns the rows that a line number program appends, or `None` if its last instruction is not complete. The program
+/// begins at `header.program` and ends with the bytes of `source`.
 ///
 /// # Errors
 ///

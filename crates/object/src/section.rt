@@ -1,10 +1,10 @@
-//! The header and the sections of an ELF object.
+//! Reads the header and the sections of an ELF object.
 ghost use Rattle.std.specs.Prelude.{◌≡◌, ◌<◌, ◌^◌};
 ghost use Rattle.object.specs.Section.{is_bpf_object, section_count, section_table, is_table_whole};
 
 use crate::number::{byte_at, double_at, half_at, window, word_at};
 
-/// Returns whether the file is a relocatable object of 64 bits, little-endian, for BPF (Elf64_Ehdr).
+/// Returns whether the file is a 64-bit little-endian relocatable ELF object for BPF (Elf64_Ehdr).
 pub fn is_for_bpf(object: &[u8]) -> bool
     ensures { result ≡ is_bpf_object object.now }
 {
@@ -15,7 +15,7 @@ pub fn is_for_bpf(object: &[u8]) -> bool
         && half_at(object, 18) == 247
 }
 
-/// Returns the number of sections.
+/// Returns the number of sections that the object's header states (e_shnum).
 pub fn count_sections(object: &[u8]) -> usize
     ensures count { result ≡ section_count object.now }
     ensures bound { result < 2 ^ 16 }
@@ -23,7 +23,7 @@ pub fn count_sections(object: &[u8]) -> usize
     usize::from(half_at(object, 60))
 }
 
-/// Returns the headers of the sections, or none if they are not all within the file.
+/// Returns the section header table, or no bytes if it is not within the file.
 pub fn read_table(object: &[u8]) -> &[u8]
     ensures { result.now ≡ section_table object.now }
 {
@@ -34,7 +34,8 @@ pub fn read_table(object: &[u8]) -> &[u8]
     )
 }
 
-/// Returns whether the headers of the object and of its sections are within the file.
+/// Returns whether the object's header and the section header table are within the file, and a section header has 64
+/// bytes.
 pub fn has_table(object: &[u8]) -> bool
     ensures { result ≡ is_table_whole object.now }
 {
@@ -43,21 +44,21 @@ pub fn has_table(object: &[u8]) -> bool
         && read_table(object).len() == 64 * count_sections(object)
 }
 
-/// The header of a section, as far as it is read (Elf64_Shdr).
+/// The fields of a section header that are needed here (Elf64_Shdr).
 #[derive(Clone, Copy)]
 pub struct SectionHeader {
     /// The type of the section (sh_type).
     pub kind: u32,
     /// The flags of the section (sh_flags).
     pub flags: u64,
-    /// The place where the section begins in the file (sh_offset).
+    /// The byte index in the file at which the section begins (sh_offset).
     pub start: u64,
     /// The size of the section in bytes (sh_size).
     pub size: u64,
-    /// The strings of a table of symbols, or the symbols of a table of relocations, as the index of a section
-    /// (sh_link).
+    /// The index of another section (sh_link): in a symbol table, the section with the names of the symbols; in a table
+    /// of relocations, the symbol table.
     pub link: u32,
-    /// The section that a table of relocations changes, as its index (sh_info).
+    /// In a table of relocations, the index of the section that they change (sh_info).
     pub info: u32,
 }
 
@@ -65,7 +66,8 @@ impl SectionHeader {
     ghost use Rattle.std.specs.Prelude.{◌≡◌, ◌<◌, ◌^◌};
     ghost use Rattle.object.specs.Section.{section_at, section_bytes, has_no_bytes, is_code, is_relocations};
 
-    /// Returns the header of the section with this index. Past the table its fields are zero.
+    /// Returns the header of the section with this index in the section header table. Fields past the end of `table`
+    /// are zero.
     pub fn read(table: &[u8], index: usize) -> SectionHeader
         requires { index < 2 ^ 32 }
         ensures { result ≡ section_at index table.now }
@@ -88,7 +90,7 @@ impl SectionHeader {
         self.kind == 0 || self.kind == 8
     }
 
-    /// Returns the bytes of the section, or none if they are not all within the file.
+    /// Returns the bytes of the section, or no bytes if it has none in the file or they are not within the file.
     #[tactic(auto, unfolding(crate::specs::Section::section_bytes))]
     pub fn bytes(self, object: &[u8]) -> &[u8]
         ensures { result.now ≡ section_bytes object.now self }

@@ -7,22 +7,23 @@ use crate::header::Header;
 use crate::leb128::{Read, signed_at, unsigned_at};
 use crate::number::{byte_at, half_at};
 
-/// The effect of an instruction on addresses, files and lines.
+/// The effect of an instruction on the registers address, file and line.
 #[derive(Clone, Copy)]
 pub enum Step {
-    /// Advances the address and the line, and appends a row: a special opcode, or DW_LNS_copy.
+    /// Adds these numbers to the address and the line, modulo 2^64, and appends a row: a special opcode, or
+    /// DW_LNS_copy.
     Row(u64, u64),
-    /// Advances the address, modulo 2^64.
+    /// Adds this number of bytes to the address, modulo 2^64.
     Address(u64),
-    /// Advances the line, modulo 2^64.
+    /// Adds this number to the line, modulo 2^64.
     Line(u64),
-    /// Sets the number of the file.
+    /// Sets the file to this number.
     File(u64),
-    /// Sets the address to the operand at this byte index.
+    /// Sets the address to the one that the operand at this byte index means.
     Start(usize),
-    /// Appends a row that ends the sequence.
+    /// Appends a row that ends the sequence, and resets the registers.
     End,
-    /// Has no effect on addresses, files and lines.
+    /// Changes neither the address, the file nor the line.
     Other,
 }
 
@@ -35,8 +36,8 @@ pub struct Stepped {
     pub next: usize,
 }
 
-/// Returns the distance by which a special opcode advances the address. `above` is its distance from the first special
-/// opcode.
+/// Returns the number of bytes that a special opcode adds to the address. `above` is the opcode's distance from the
+/// first special opcode, `header.opcodes`.
 fn address_advance(header: Header, above: u8) -> u64
     requires { 0 < header.range }
     ensures { result ≡ address_advance header above }
@@ -44,7 +45,8 @@ fn address_advance(header: Header, above: u8) -> u64
     u64::from(header.shortest) * u64::from(above / header.range)
 }
 
-/// Returns the instruction of a special opcode. `above` is its distance from the first special opcode.
+/// Returns the effect of a special opcode. `above` is the opcode's distance from the first special opcode,
+/// `header.opcodes`.
 fn special(header: Header, above: u8) -> Step
     requires { 0 < header.range }
     ensures { result ≡ special header above }
@@ -53,7 +55,8 @@ fn special(header: Header, above: u8) -> Step
     Step::Row(address_advance(header, above), line)
 }
 
-/// Reads DW_LNS_advance_pc, whose operand is at the byte index `place`.
+/// Reads DW_LNS_advance_pc, whose operand is the LEB128 number at the byte index `place`. Returns `None` if there is no
+/// such number.
 fn advance_pc(header: Header, bytes: &[u8], place: usize) -> Option<Stepped>
     ensures read { result ≡ by_number (advance_step header) (unsigned_at place bytes.now) }
     ensures on { IfSome result (λ s. place < s.next) }
@@ -67,7 +70,8 @@ fn advance_pc(header: Header, bytes: &[u8], place: usize) -> Option<Stepped>
     })
 }
 
-/// Reads DW_LNS_advance_line, whose operand is at the byte index `place`.
+/// Reads DW_LNS_advance_line, whose operand is the signed LEB128 number at the byte index `place`. Returns `None` if
+/// there is no such number.
 fn advance_line(bytes: &[u8], place: usize) -> Option<Stepped>
     ensures read { result ≡ by_number Step.Line (signed_at place bytes.now) }
     ensures on { IfSome result (λ s. place < s.next) }
@@ -80,7 +84,8 @@ fn advance_line(bytes: &[u8], place: usize) -> Option<Stepped>
     })
 }
 
-/// Reads DW_LNS_set_file, whose operand is at the byte index `place`.
+/// Reads DW_LNS_set_file, whose operand is the LEB128 number at the byte index `place`. Returns `None` if there is no
+/// such number.
 fn set_file(bytes: &[u8], place: usize) -> Option<Stepped>
     ensures read { result ≡ by_number Step.File (unsigned_at place bytes.now) }
     ensures on { IfSome result (λ s. place < s.next) }
@@ -93,7 +98,8 @@ fn set_file(bytes: &[u8], place: usize) -> Option<Stepped>
     })
 }
 
-/// Reads an opcode without effect, whose operand is the LEB128 number at the byte index `place`.
+/// Reads an opcode without an effect on address, file and line, whose operand is the LEB128 number at the byte index
+/// `place`. Returns `None` if there is no such number.
 fn pass_number(bytes: &[u8], place: usize) -> Option<Stepped>
     ensures read { result ≡ by_number no_step (unsigned_at place bytes.now) }
     ensures on { IfSome result (λ s. place < s.next) }
@@ -106,7 +112,8 @@ fn pass_number(bytes: &[u8], place: usize) -> Option<Stepped>
     })
 }
 
-/// Reads DW_LNS_fixed_advance_pc, whose operand is the 2 bytes at index `place`.
+/// Reads DW_LNS_fixed_advance_pc, whose operand is the 2 bytes at index `place`. Returns `None` if `bytes` does not
+/// have both.
 fn fixed_advance(bytes: &[u8], place: usize) -> Option<Stepped>
     ensures read { result ≡ fixed_advance place bytes.now }
     ensures on { IfSome result (λ s. place ≤ s.next) }
@@ -122,7 +129,8 @@ fn fixed_advance(bytes: &[u8], place: usize) -> Option<Stepped>
     }
 }
 
-/// Reads a standard opcode, whose operands begin at the byte index `place`.
+/// Reads the standard opcode `opcode`, whose operands begin at the byte index `place`. Returns `None` if the operand
+/// that it needs is not there.
 fn standard(header: Header, opcode: u8, bytes: &[u8], place: usize) -> Option<Stepped>
     requires range { 0 < header.range }
     requires opcodes { header.opcodes ≤ 13 }
@@ -152,7 +160,7 @@ fn standard(header: Header, opcode: u8, bytes: &[u8], place: usize) -> Option<St
     })
 }
 
-/// Returns the step of the line number program for a standard opcode without operands.
+/// Returns the effect of a standard opcode without operands.
 fn alone(header: Header, opcode: u8) -> Step
     requires range { 0 < header.range }
     requires opcodes { header.opcodes ≤ 13 }
@@ -167,7 +175,8 @@ fn alone(header: Header, opcode: u8) -> Step
     }
 }
 
-/// Returns the instruction of an extended opcode of `size` bytes, whose operands begin at the byte index `place`.
+/// Returns the effect of an extended opcode. `size` is the number of bytes of the opcode and its operands, which begin
+/// at the byte index `place`.
 fn extended_step(size: u64, opcode: u8, place: usize) -> Step
     ensures { result ≡ extended_step size opcode place }
 {
@@ -180,7 +189,8 @@ fn extended_step(size: u64, opcode: u8, place: usize) -> Step
     }
 }
 
-/// Reads an extended opcode. `size` is its size in bytes, which was read before it.
+/// Reads an extended opcode. `size.value` is the number of bytes of the opcode and its operands, and `size.next` the
+/// byte index of the opcode. Returns `None` if the size is 0 or they do not end within `bytes`.
 fn extended_of(bytes: &[u8], size: Read) -> Option<Stepped>
     requires { size.next ≤ length bytes.now }
     ensures read { result ≡ extended_of bytes.now size }
@@ -197,7 +207,8 @@ fn extended_of(bytes: &[u8], size: Read) -> Option<Stepped>
     })
 }
 
-/// Reads an extended opcode, which begins with its size at the byte index `place`.
+/// Reads an extended opcode. The byte index `place` is that of its size, a LEB128 number. Returns `None` if the
+/// instruction is not complete.
 fn extended(bytes: &[u8], place: usize) -> Option<Stepped>
     ensures read { result ≡ extended place bytes.now }
     ensures on { IfSome result (λ s. place < s.next) }
@@ -207,7 +218,7 @@ fn extended(bytes: &[u8], place: usize) -> Option<Stepped>
     extended_of(bytes, size)
 }
 
-/// Reads the instruction at the byte index `place`. Returns `None` if there is no complete instruction.
+/// Reads the instruction at the byte index `place`. Returns `None` if it does not end within `bytes`.
 #[tactic(auto, unfolding(crate::specs::Steps::step_at))]
 pub fn step_at(header: Header, bytes: &[u8], place: usize) -> Option<Stepped>
     requires range { 0 < header.range }

@@ -1,4 +1,4 @@
-//! The symbols of an ELF object.
+//! Reads the symbols of an ELF object, and finds its symbol table.
 ghost use Rattle.std.specs.Prelude.{◌≡◌, ◌<◌, ◌≤◌, ◌+◌, ◌*◌, ◌^◌, drop, IfSome};
 ghost use Rattle.object.specs.First.{first_some};
 ghost use Rattle.object.specs.Symbol.{symbols_here, symbols_section, begins_with_name};
@@ -6,18 +6,18 @@ ghost use Rattle.object.specs.Symbol.{symbols_here, symbols_section, begins_with
 use crate::number::{byte_at, double_at, half_at, word_at};
 use crate::section::SectionHeader;
 
-/// A symbol, as far as it is read (Elf64_Sym).
+/// The fields of a symbol that are needed here (Elf64_Sym).
 #[derive(Clone, Copy)]
 pub struct Symbol {
-    /// The place where the symbol's name begins in the strings (st_name).
+    /// The byte index of the symbol's name in the string table (st_name).
     pub name: u32,
-    /// The binding and the kind of the symbol (st_info).
+    /// The binding (upper four bits) and the type (lower four bits) of the symbol (st_info).
     pub info: u8,
-    /// The index of the symbol's section (st_shndx).
+    /// The index of the section that contains what the symbol names (st_shndx).
     pub section: u16,
-    /// The place where the symbol begins in its section (st_value).
+    /// The byte index in the section of what the symbol names (st_value).
     pub value: u64,
-    /// The size of the symbol in bytes (st_size).
+    /// The number of bytes of what the symbol names (st_size).
     pub size: u64,
 }
 
@@ -26,7 +26,7 @@ impl Symbol {
     ghost use Rattle.object.specs.Symbol.{symbol_at, is_function, is_global, asked, fits};
     ghost use Rattle.object.specs.Section.{section_at};
 
-    /// Returns the symbol with this index. Past the table its fields are zero.
+    /// Returns the symbol with this index in the symbol table. Fields past the end of `symbols` are zero.
     pub fn read(symbols: &[u8], index: usize) -> Symbol
         requires { 24 * index + 24 < 2 ^ 64 }
         ensures { result ≡ symbol_at index symbols.now }
@@ -41,28 +41,29 @@ impl Symbol {
         }
     }
 
-    /// Returns the header of the symbol's section.
+    /// Returns the header of the symbol's section, from the section header table `table`.
     pub fn home(self, table: &[u8]) -> SectionHeader
         ensures { result ≡ section_at self.section table.now }
     {
         SectionHeader::read(table, usize::from(self.section))
     }
 
-    /// Returns whether the symbol is a function in a section of code.
+    /// Returns whether the symbol is a function in a section of executable code.
     pub fn is_code(self, table: &[u8]) -> bool
         ensures { result ≡ is_function table.now self }
     {
         self.info % 16 == 2 && self.home(table).holds_code()
     }
 
-    /// Returns whether the symbol is global, so that other objects see it.
+    /// Returns whether the symbol is global or weak, so that other objects see it.
     pub fn is_seen(self) -> bool
         ensures { result ≡ is_global self }
     {
         self.info / 16 == 1 || self.info / 16 == 2
     }
 
-    /// Returns whether the symbol has the given name or, if none is given, whether it is global.
+    /// Returns whether the symbol has the given name in the string table `strings`. If no name is given, returns
+    /// whether the symbol is global or weak.
     pub fn answers(self, strings: &[u8], name: Option<&[u8]>) -> bool
         ensures { result ≡ fits strings.now self (asked name.entry) }
     {
@@ -73,7 +74,7 @@ impl Symbol {
     }
 }
 
-/// Returns the bytes from a place on, or none if the place is past the end.
+/// Returns the bytes from index `place` on, or no bytes if `place` is past the end.
 fn rest(bytes: &[u8], place: usize) -> &[u8]
     ensures { result.now ≡ drop place bytes.now }
 {
@@ -84,7 +85,7 @@ fn rest(bytes: &[u8], place: usize) -> &[u8]
     }
 }
 
-/// Returns whether the bytes begin with a name and a zero.
+/// Returns whether `bytes` begins with `name` and then a zero.
 fn begins(bytes: &[u8], name: &[u8]) -> bool
     ensures { result ≡ begins_with_name bytes.now name.now }
 {
@@ -92,7 +93,8 @@ fn begins(bytes: &[u8], name: &[u8]) -> bool
     length < bytes.len() && &bytes[..length] == name && bytes[length] == 0
 }
 
-/// Returns the index of the first section that is a table of symbols, or the number of sections if there is none.
+/// Returns the index of the first of `count` sections that is a symbol table, or `count` if there is none. `table` is
+/// the section header table.
 pub fn find_symbols(table: &[u8], count: usize) -> usize
     requires { count < 2 ^ 16 }
     ensures section { result ≡ symbols_section table.now count }
@@ -104,7 +106,7 @@ pub fn find_symbols(table: &[u8], count: usize) -> usize
     }
 }
 
-/// Returns the index of the section, if it is a table of symbols.
+/// Returns `index` if the section with this index is a symbol table, and otherwise `None`.
 fn symbols_at(table: &[u8], index: usize) -> Option<usize>
     requires { index < 2 ^ 32 }
     ensures here { result ≡ symbols_here table.now index }
@@ -117,7 +119,8 @@ fn symbols_at(table: &[u8], index: usize) -> Option<usize>
     }
 }
 
-/// Returns the index of the first section that is a table of symbols, if there is one.
+/// Returns the index of the first of `count` sections that is a symbol table, or `None` if there is none. `table` is
+/// the section header table.
 fn first_symbols(table: &[u8], count: usize) -> Option<usize>
     requires { count < 2 ^ 16 }
     ensures first { result ≡ first_some (symbols_here table.now) count }

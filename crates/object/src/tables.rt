@@ -12,10 +12,10 @@ use crate::section::{SectionHeader, count_sections, read_table};
 use crate::source::LineSections;
 use crate::symbol::find_symbols;
 
-/// The greatest number of bytes of a section that is read.
+/// The greatest number of bytes of a section of line number information. A longer section counts as missing.
 const MOST: usize = 65_536;
 
-/// Returns the bytes of a section, or none if there are more than 2^16.
+/// Returns the bytes of a section, or no bytes if there are more than 65,536.
 fn short(bytes: &[u8]) -> &[u8]
     ensures short { result.now ≡ short bytes.now }
     ensures bound { length result.now ≤ 65536 }
@@ -23,7 +23,7 @@ fn short(bytes: &[u8]) -> &[u8]
     if bytes.len() <= MOST { bytes } else { &[] }
 }
 
-/// Returns the bytes of the section with this index, or none if there are more than 2^16.
+/// Returns the bytes of the section with this index, or no bytes if there are more than 65,536.
 fn bytes_of(object: &[u8], index: usize) -> &[u8]
     requires { index < 2 ^ 32 }
     ensures read { result.now ≡ bytes_of object.now index }
@@ -32,7 +32,7 @@ fn bytes_of(object: &[u8], index: usize) -> &[u8]
     short(SectionHeader::read(read_table(object), index).bytes(object))
 }
 
-/// Returns the bytes of the string table that has the names of the sections.
+/// Returns the bytes of the string table that has the sections' names.
 fn section_names(object: &[u8]) -> &[u8]
     ensures { result.now ≡ section_names object.now }
 {
@@ -71,7 +71,7 @@ fn first_named(table: &[u8], count: usize, names: &[u8], name: &[u8]) -> Option<
     None
 }
 
-/// Returns the index of the first section with this name, or 0 if there is none.
+/// Returns the index of the object's first section with this name, or 0 if there is none.
 fn section_named(object: &[u8], name: &[u8]) -> usize
     ensures section { result ≡ section_named object.now name.now }
     ensures bound { result < 2 ^ 16 }
@@ -83,7 +83,7 @@ fn section_named(object: &[u8], name: &[u8]) -> usize
     }
 }
 
-/// Returns the index of a section, if it has relocations of the section `home`.
+/// Returns `index` if the section with this index contains relocations of the section `home`, and otherwise `None`.
 fn relocates_here(table: &[u8], home: usize, index: usize) -> Option<usize>
     requires { index < 2 ^ 32 }
     ensures here { result ≡ relocates_here table.now home index }
@@ -97,7 +97,8 @@ fn relocates_here(table: &[u8], home: usize, index: usize) -> Option<usize>
     }
 }
 
-/// Returns the index of the first section with relocations of the section `home`, if there is one.
+/// Returns the index of the first of `count` sections that contains relocations of the section `home`, or `None` if
+/// there is none. `table` is the section header table.
 fn first_relocating(table: &[u8], count: usize, home: usize) -> Option<usize>
     requires { count < 2 ^ 16 }
     ensures first { result ≡ first_some (relocates_here table.now home) count }
@@ -112,7 +113,8 @@ fn first_relocating(table: &[u8], count: usize, home: usize) -> Option<usize>
     None
 }
 
-/// Returns the index of the first section with relocations of the section `home`, or 0 if there is none.
+/// Returns the index of the object's first section that contains relocations of the section `home`, or 0 if there is
+/// none.
 fn relocations_of(object: &[u8], home: usize) -> usize
     ensures section { result ≡ relocations_of object.now home }
     ensures bound { result < 2 ^ 16 }
@@ -123,7 +125,7 @@ fn relocations_of(object: &[u8], home: usize) -> usize
     }
 }
 
-/// Returns the index of .debug_line, or 0 if there is no such section.
+/// Returns the index of the section .debug_line, or 0 if there is no such section.
 fn lines_section(object: &[u8]) -> usize
     ensures section { result ≡ lines_section object.now }
     ensures bound { result < 2 ^ 16 }
@@ -131,8 +133,7 @@ fn lines_section(object: &[u8]) -> usize
     section_named(object, b".debug_line")
 }
 
-/// Returns the bytes of the section .debug_line. There are none if there is no such section or it has more than 65,536
-/// bytes.
+/// Returns the bytes of the section .debug_line, or no bytes if there is no such section or it has more than 65,536.
 pub fn lines_in(object: &[u8]) -> &[u8]
     ensures read { result.now ≡ lines_in object.now }
     ensures bound { length result.now ≤ 65536 }
@@ -140,23 +141,22 @@ pub fn lines_in(object: &[u8]) -> &[u8]
     bytes_of(object, lines_section(object))
 }
 
-/// Returns the bytes of the section .debug_line_str. There are none if there is no such section or it has more than
-/// 65,536 bytes.
+/// Returns the bytes of the section .debug_line_str, or no bytes if there is no such section or it has more than
+/// 65,536.
 pub fn line_strings_in(object: &[u8]) -> &[u8]
     ensures { result.now ≡ line_strings_in object.now }
 {
     bytes_of(object, section_named(object, b".debug_line_str"))
 }
 
-/// Returns the bytes of the section .debug_str. There are none if there is no such section or it has more than 65,536
-/// bytes.
+/// Returns the bytes of the section .debug_str, or no bytes if there is no such section or it has more than 65,536.
 pub fn strings_in(object: &[u8]) -> &[u8]
     ensures { result.now ≡ strings_in object.now }
 {
     bytes_of(object, section_named(object, b".debug_str"))
 }
 
-/// Returns the bytes of the first table of symbols. There are none if the object has no such table.
+/// Returns the bytes of the object's first symbol table, or no bytes if it has none.
 fn symbols_in(object: &[u8]) -> &[u8]
     ensures { result.now ≡ symbols_in object.now }
 {
@@ -165,9 +165,8 @@ fn symbols_in(object: &[u8]) -> &[u8]
     SectionHeader::read(table, home).bytes(object)
 }
 
-/// Returns the line number program in `bytes` with what is needed to resolve its addresses: the symbols of `object` and
-/// the relocations of its .debug_line section. `section` is the index of the section that contains the function whose
-/// lines are wanted.
+/// Returns the line number program in `bytes`, with the symbols and relocations of `object` that its addresses need.
+/// `section` is the index of the section with the function whose lines are wanted.
 pub fn source_in<'a>(object: &'a [u8], bytes: &'a [u8], section: u16) -> LineSections<'a>
     ensures whole { IsSource result }
     ensures bytes { result.bytes.now ≡ bytes.now }

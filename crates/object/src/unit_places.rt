@@ -1,4 +1,4 @@
-//! The place of each unit of a function in its source text, as file and line.
+//! Finds the source file and line of each 8-byte unit of a function's code.
 ghost use Rattle.std.specs.Prelude.{◌≡◌, ◌<◌, ◌≤◌, ◌+◌, ◌++◌, codes, decimal, length, map, string_bytes, IfOk};
 ghost use Rattle.object.specs.Entry.{function_of};
 ghost use Rattle.object.specs.Symbol.{asked};
@@ -14,10 +14,11 @@ use crate::symbol::Symbol;
 use crate::tables::{line_strings_in, lines_in, source_in, strings_in};
 use std::alloc::{AllocError, Global};
 
-/// The greatest number of units of a program.
+/// The greatest number of units of a program. A unit has 8 bytes.
 const MOST_UNITS: u64 = 4096;
 
-/// Returns the rows of the object's line number program. There are none without a header, or if the program breaks off.
+/// Returns the rows of the object's line number program. There are no rows if there is no header, or if the program's
+/// last instruction is not complete. `section` is the index of the section whose lines are wanted.
 fn rows_of(
     alloc: Global,
     object: &[u8],
@@ -38,7 +39,8 @@ fn rows_of(
     }
 }
 
-/// Returns whether an address of the function's section is at a row or after it, and before the next row.
+/// Returns whether a row gives the file and line of this address: the address is at or after `row`, and before `next`,
+/// the next row of the same sequence.
 fn is_of(address: u64, row: LineRow, next: LineRow) -> bool
     ensures { result ≡ is_of address row next }
 {
@@ -48,7 +50,7 @@ fn is_of(address: u64, row: LineRow, next: LineRow) -> bool
         && address < next.registers.address
 }
 
-/// Returns the row with this index, if the address is between it and the next row.
+/// Returns the row with this index if it gives the file and line of this address, and otherwise `None`.
 fn row_here(rows: &[LineRow], address: u64, index: usize) -> Option<LineRow>
     requires { index + 1 < length rows.now }
     ensures { result ≡ row_here rows.now address index }
@@ -61,7 +63,7 @@ fn row_here(rows: &[LineRow], address: u64, index: usize) -> Option<LineRow>
     }
 }
 
-/// Returns the first row to which an address belongs.
+/// Returns the first row that gives the file and line of this address, or `None` if there is no such row.
 fn row_of(rows: &[LineRow], address: u64) -> Option<LineRow>
     ensures { result ≡ row_of rows.now address }
 {
@@ -74,7 +76,7 @@ fn row_of(rows: &[LineRow], address: u64) -> Option<LineRow>
     None
 }
 
-/// Returns the name of the file with this number, or the empty text if the header is missing or does not have it.
+/// Returns the path of the file with this number, or no bytes if there is no header or the path is not found.
 fn name_in(object: &[u8], header: Option<Header>, file: u64) -> &[u8]
     requires { header ≡ header_of (lines_in object.now) }
     ensures { result.now ≡ name_in object.now header file }
@@ -91,14 +93,15 @@ fn name_in(object: &[u8], header: Option<Header>, file: u64) -> &[u8]
     }
 }
 
-/// Returns the text `FILE:LINE`.
+/// Returns a file and line as text, such as `traitor.c:12`.
 fn joined(alloc: Global, name: &str, line: u64) -> Result<String, AllocError>
     ensures { IfOk result (λ text. string_bytes text ≡ name.now ++ codes ":" ++ decimal line) }
 {
     format!(in alloc; "{name}:{line}")
 }
 
-/// Returns the text `FILE:LINE`, or the empty text if the name cannot be printed on a line.
+/// Returns a file and line as text, such as `traitor.c:12`. The text is empty if the name cannot be printed on a line:
+/// it must consist of 1 to 255 visible ASCII characters or spaces.
 fn told(alloc: Global, name: &[u8], line: u64) -> Result<String, AllocError>
     ensures { IfOk result (λ text. string_bytes text ≡ told name.now line) }
 {
@@ -108,7 +111,8 @@ fn told(alloc: Global, name: &[u8], line: u64) -> Result<String, AllocError>
     }
 }
 
-/// Returns the file and line of a row as text, or the empty text if there is no row or no line.
+/// Returns the file and line of a row as text, such as `traitor.c:12`. The text is empty if there is no row, its line
+/// is 0, or its file's name cannot be printed on a line.
 fn told_of(
     alloc: Global,
     object: &[u8],
@@ -127,7 +131,8 @@ fn told_of(
     }
 }
 
-/// Returns the file and line of each of the first `units` units of a function.
+/// Returns the file and line of each of the first `units` 8-byte units of a function as text, such as `traitor.c:12`. A
+/// text is empty if the file or the line is not known.
 fn texts_of(
     alloc: Global,
     object: &[u8],
@@ -149,8 +154,9 @@ fn texts_of(
     Ok(texts)
 }
 
-/// Returns the file and line of each unit of a function, as `FILE:LINE`, for up to 4,096 units. A text is empty if the
-/// file or the line is not known. Damaged tables, and sections of more than 2^16 bytes, count as missing.
+/// Returns the file and line of each 8-byte unit of a function as text, such as `traitor.c:12`, for up to 4,096 units.
+/// A text is empty if the file or the line is not known. Damaged tables, and sections of more than 65,536 bytes, count
+/// as missing.
 ///
 /// # Errors
 ///
@@ -164,8 +170,9 @@ pub fn places(alloc: Global, object: &[u8], function: Symbol) -> Result<Vec<Stri
     texts_of(alloc, object, header, rows.as_slice(), function, units)
 }
 
-/// Returns the file and line of each unit of an object's entry function, as `FILE:LINE`. The entry is the function with
-/// this name or, if no name is given, the only global function. The list is empty if the object has no such entry.
+/// Returns the file and line of each 8-byte unit of an object's entry function as text, such as `traitor.c:12`. The
+/// entry is the function with this name or, if no name is given, the only global function. The list is empty if the
+/// object has no such entry.
 ///
 /// # Errors
 ///

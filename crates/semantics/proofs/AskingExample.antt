@@ -1,4 +1,4 @@
--- A program that asks the board is sound, whatever it answers.
+-- A program that makes a request to the board is sound, whatever the board answers.
 use Rattle.std.proofs.Common.{ℕ, zero, suc, ◌≤◌, List, [], refl, true, false, arith}
 use Rattle.std.specs.Prelude.{Bool, cond, ◌∷◌, pos}
 use Rattle.insn.specs.declared.insn.Insn.TheVariants as i

@@ -1,4 +1,4 @@
--- What is entered and what is put, in every state that is reached.
+-- What is entered and which orders are set, in every state that is reached.
 use Rattle.std.proofs.Common.{◌≡◌, ℕ, ◌+◌, ◌<◌, ◌≤◌, List, [], ◌∷◌, ◌++◌, Bool, true, false, refl, sym, subst, arith, length, ltb-true}
 use Rattle.std.specs.Prelude.{if◌then◌else◌, nat_lt}
 use Rattle.std.specs.List.{AllByRecursion}
@@ -20,7 +20,7 @@ use Rattle.semantics.specs.Whole.{Each}
 use Rattle.semantics.specs.Laws.{EntriesAreFew}
 use Rattle.semantics.proofs.Walk.{changed_walk, called_walk, step_walk}
 
--- where orders are signed, no order is put
+-- With signatures, no order is set.
 abbrev pub IsUnput : Kind → Outbox → Type 0
 IsUnput Oral outbox = Unit {0}
 IsUnput (Signed held) outbox = outbox ≡ []
@@ -30,7 +30,7 @@ pub record Keeps (relay : Relay) (s : State) : Type 0 where
   pub sendable : AllByRecursion (λ entry. is_sendable relay entry ≡ true) s.entries
   pub unput : IsUnput relay.kind s.outbox
 
--- the same outbox and entries
+-- The outbox and the entries are unchanged.
 same_kept : (relay : Relay) (s t : State) → Keeps relay s → t.outbox ≡ s.outbox → t.entries ≡ s.entries → Keeps relay t
 same_kept relay s t k o e = record {
   few = subst (λ (entries : List Entry). length entries ≤ 8) (sym e) k.few;
@@ -38,7 +38,7 @@ same_kept relay s t k o e = record {
   unput = subst (λ (outbox : Outbox). IsUnput relay.kind outbox) (sym o) k.unput;
 }
 
--- where there is no row, none is written
+-- If there is no row, no order is set.
 unput_written : (kind : Kind) (shape : Shape) (choice : Choice) (outbox : Outbox) → IsUnput kind (written (record { shape = shape; kind = kind }) choice outbox)
 unput_written Oral shape choice outbox = tt
 unput_written (Signed held) shape choice outbox = refl
@@ -83,7 +83,7 @@ resumed_keeps : (relay : Relay) (request : Request) (words : List ℕ) (s : Stat
 resumed_keeps relay (Copy span) words s k = same_kept relay s _ k refl refl
 resumed_keeps relay request words s k = same_kept relay s _ k refl refl
 
--- at entry nothing is entered or put
+-- At the entry, nothing is entered or set.
 unput_empty : (kind : Kind) (shape : Shape) → IsUnput kind (empty_outbox (record { shape = shape; kind = kind }))
 unput_empty Oral shape = tt
 unput_empty (Signed held) shape = refl
@@ -95,7 +95,7 @@ reached_keeps program context relay (stepped {s = s} next before e) =
 reached_keeps program context relay (answered {s = s} request asked answer before e f) =
     resumed_keeps relay request answer asked (subst (Each (Keeps relay)) e (step_keeps program context relay s (reached_keeps program context relay before)))
 
--- nothing can be sent where orders are oral
+-- With oral messages, no entry can be made.
 none_spoken : (shape : Shape) (entries : List Entry) → AllByRecursion (λ entry. is_sendable (oral shape) entry ≡ true) entries → entries ≡ []
 none_spoken shape [] all = refl
 none_spoken shape (entry ∷ entries) all = absurd (false≢true all.0)

@@ -1,4 +1,4 @@
--- How many places a helper sets: at most one of each receiver in a row, and rows of few labels.
+-- How many orders a helper sets: at most one to each receiver in a row, in few rows.
 use Rattle.std.proofs.Common.{ℕ, zero, suc, ◌+◌, ◌-◌, ◌*◌, ◌<◌, ◌≤◌, ◌≡◌, ◌≢◌, Bool, true, false, not, cond, ◌||◌, ◌&&◌, List, [], ◌∷◌, ◌++◌, map, length, refl, sym, ap, subst, ◌∙◌, arith, inl, inr, Some, None}
 use Rattle.std.specs.Prelude.{◌==◌, if◌then◌else◌, count_by, sum_by, is_some, slice_get}
 use Rattle.std.specs.List.{enumerate_from}
@@ -14,7 +14,7 @@ use Rattle.label.proofs.Bounds.{labels-few, most, others_length_more}
 use Rattle.semantics.specs.Limits.{most_labels}
 use Rattle.semantics.specs.Outbox.{RelaysAreFew, FewPlacesAreSet, RangesAreKept, Place, Choice, places_set, at_place, along_row, at_receiver, as_taken, taken_value}
 
--- the places of a row, from a number on
+-- The places of a row, from a number on.
 abbrev pub row_from : ℕ → ℕ → List ℕ → List Place
 row_from k b ns = map (λ p. record { rank = k; number = p.0; receiver = p.1 }) (enumerate_from b ns)
 
@@ -31,7 +31,7 @@ row_none choice k misses b (n ∷ ns) =
     let rest : sets choice (row_from k (b + 1) ns) ≡ 0 = row_none choice k misses (b + 1) ns in
     rw (sets-cons choice (record { rank = k; number = b; receiver = n }) (row_from k (b + 1) ns)) (omega arith)
 
--- a choice that goes by the receiver sets a row's place at most once
+-- If orders are chosen by the receiver, at most one is set in a row.
 abbrev GoesBy : Choice → ℕ → Type 0
 GoesBy choice receiver = (p : Place) → cond (is_some (choice p)) 1 0 ≤ cond (p.receiver == receiver) 1 0
 
@@ -62,7 +62,7 @@ row_one choice receiver by s k w =
     bit true = omega arith
     bit false = omega arith
 
--- the rows, from a rank on
+-- The rows, from a rank on.
 abbrev pub rows_from : Shape → ℕ → List (List ℕ) → List (List Place)
 rows_from s a ws = map (λ label. row_from label.0 0 (receivers s label.1)) (enumerate_from a ws)
 
@@ -79,7 +79,7 @@ one_each choice s few a (w ∷ ws) =
     let rest : sets_in choice (rows_from s (a + 1) ws) ≤ length ws = one_each choice s few (a + 1) ws in
     rw (sets_in-cons choice (row_from a 0 (receivers s w)) (rows_from s (a + 1) ws)) (omega arith)
 
--- whatever is chosen, a row sets no more places than it has, and it has one for each general at most
+-- A row has at most one place for each general, so no more orders are set.
 row_few : (choice : Choice) (k b : ℕ) (ns : List ℕ) → sets choice (row_from k b ns) ≤ length ns
 row_few choice k b [] = omega arith
 row_few choice k b (n ∷ ns) =
@@ -110,7 +110,7 @@ rows_few choice s is a (w ∷ ws) =
     let rest : sets_in choice (rows_from s (a + 1) ws) ≤ 13 * length ws = rows_few choice s is (a + 1) ws in
     rw (sets_in-cons choice (row_from a 0 (receivers s w)) (rows_from s (a + 1) ws)) (omega arith)
 
--- a choice of one label sets no other row
+-- Orders of one label are set in no other row.
 no_row : (choice : Choice) (s : Shape) (label : ℕ) → ((k : ℕ) (w : List ℕ) → k ≢ label → sets choice (row_from k 0 (receivers s w)) ≡ 0) → (a : ℕ) (ws : List (List ℕ)) → label < a → sets_in choice (rows_from s a ws) ≡ 0
 no_row choice s label misses a [] l = refl
 no_row choice s label misses a (w ∷ ws) l =
@@ -130,7 +130,7 @@ one_row choice s label m misses few a (w ∷ ws) =
           omega arith
     ])
 
--- the four choices
+-- The choices of the four helpers.
 bit_of : (e : Bool) (x : ℕ) → cond (is_some (if e then Some x else None)) 1 0 ≤ cond e 1 0
 bit_of true x = omega arith
 bit_of false x = omega arith
@@ -178,7 +178,7 @@ along_few r label orders =
 pub few_places : FewPlacesAreSet
 few_places = record { sent = sent_few; along = along_few; swayed = swayed_few; taken = taken_few }
 
--- few labels are relayed
+-- A general relays few labels.
 first_only : (b : Bool) (x : List ℕ) → length (if b then x ∷ [] else []) ≤ 990
 first_only true x = omega arith
 first_only false x = omega arith
@@ -213,7 +213,7 @@ told_few (Signed held) s a = omega arith
 pub relays_few : RelaysAreFew
 relays_few r a = told_few r.kind r.shape a
 
--- so every helper's count is a word
+-- The number of orders that a helper sets has at most 64 bits.
 pub places_few : (r : Relay) (choice : Choice) → IsRelay r → places_set r choice ≤ 13 * 990
 places_few r choice is = omega (arith, rows_few choice r.shape is 0 (relayed r), relays_few r is)
 
@@ -223,7 +223,7 @@ swayed_most r receiver order is = omega (arith, swayed_few r receiver order, rel
 pub taken_most : (r : Relay) (context : List ℕ) (receiver : ℕ) → IsRelay r → places_set r (as_taken context receiver) ≤ most_labels
 taken_most r context receiver is = omega (arith, taken_few r context receiver, relays_few r is)
 
--- what each choice sets at most
+-- The greatest number of orders that each choice sets.
 pub ruleset most_set = (sent_few, swayed_most, taken_most)
 
 pub ranges_kept : RangesAreKept

@@ -28,7 +28,7 @@ module _ (program : List Insn) (context : List ℕ) (relay : Relay) where
   followed_stays k j ih answers (Exit r0 s) final = refl
   followed_stays k j ih answers (Trap cause) final = refl
 
-  -- what has exited, trapped or waits stays so, however many steps more it is given
+  -- A run that has exited, trapped or waits does not change with further steps.
   pub stays : (k j : ℕ) (answers : List (List ℕ)) (s : State) → IsFinal (onwards program context relay k answers s) →
       onwards program context relay (k + j) answers s ≡ onwards program context relay k answers s
   unfolding onwards
@@ -38,7 +38,7 @@ module _ (program : List Insn) (context : List ℕ) (relay : Relay) where
       ap (λ (n : ℕ). onwards program context relay n answers s) e
       ∙ followed_stays k j (λ more next f. stays k j more next f) answers (step program context relay s) final
 
-  -- an answer that fits its request resumes the run
+  -- An answer that fits its request resumes the run.
   pub answered : (k : ℕ) (answers : List (List ℕ)) (s : State) (request : Request) (waiting : State) (answer : List ℕ) →
       step program context relay s ≡ Ask request waiting → fits request answer ≡ true →
       onwards program context relay (suc k) (answer ∷ answers) s ≡ onwards program context relay k answers (resumed request answer waiting)

@@ -1,4 +1,4 @@
--- Soundness and plainness are neither empty nor full.
+-- The definitions of sound and of plain are true of some programs and false of others.
 use Rattle.std.proofs.Common.{◌≡◌, ℕ, zero, suc, ◌≤◌, ◌<◌, List, [], refl, sym, subst, arith, inl, inr, Some}
 use Rattle.std.specs.Prelude.{ℤ, pos, replicate, All, IsSome, ◌<ℤ◌}
 use Rattle.std.proofs.lemmas.List.Elements.{All-replicate}
@@ -34,14 +34,14 @@ trapped context relay answers = tt
 zeros_small : (n : ℕ) → All (λ b. b < 256) (replicate n 0)
 zeros_small n = All-replicate (λ b. b < 256) n 0 (omega arith)
 
--- what stands at a unit of the first program
+-- The instruction at a unit of the first program.
 first_insn : (insn : Insn) → instruction_at answer 0 ≡ Some insn → insn ≡ i.Arithmetic W64 op.Move 0 (Immediate (pos 42))
 first_insn insn e = cc
 
 second_insn : (insn : Insn) → instruction_at answer 1 ≡ Some insn → insn ≡ i.Exit
 second_insn insn e = cc
 
--- no path goes on without writing r0
+-- No path continues without writing r0.
 still_at_entry : (r : ℕ) {unit : ℕ} → Unwritten answer r unit → r ≡ 0 → unit ≡ 0
 still_at_entry r at_entry e = refl
 still_at_entry r (along {unit = unit} insn next before at kept leads) e =

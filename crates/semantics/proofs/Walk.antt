@@ -1,4 +1,4 @@
--- A walk over all kinds of instructions: what a predicate of outcomes owes of each.
+-- Every kind of instruction in turn: what is to be shown of its outcome for a predicate P.
 use Rattle.std.proofs.Common.{◌≡◌, ℕ, ℤ, pos, negsuc, ◌+◌, List, Bool, true, false, refl}
 use Rattle.std.specs.Prelude.{Option, Some, None, Result, Ok, Err, slice_set, if◌then◌else◌, ◌==◌}
 use Rattle.insn.specs.declared.insn.Insn.{Insn}
@@ -21,7 +21,8 @@ use Rattle.semantics.specs.Step.{assigned, changed, arrived, branched, exited}
 use Rattle.semantics.specs.Call.{Effect, Asks, Puts, Enters, told, effect, done, called, asked, sent, attempted, returned}
 use Rattle.semantics.specs.Execution.{executed, fetched, step}
 
--- what P owes of what is no call: a trap, a register assigned, another unit, an exit, a store
+-- What is to be shown for P if the instruction is not a call: a trap, a register that is set, another unit, an exit, a
+-- store.
 pub record Walks (s : State) (P : Outcome → Type 0) : Type 0 where
   pub trapped : (cause : Cause) → P (Trap cause)
   pub set : (dst unit : ℕ) (value : Value) → false ≡ (dst == 10) → P (Next (record s { unit = unit; registers = slice_set s.registers dst value; steps = s.steps + 1 }))
@@ -29,7 +30,7 @@ pub record Walks (s : State) (P : Outcome → Type 0) : Type 0 where
   pub exits : (n : ℕ) → P (Exit n (record s { steps = s.steps + 1 }))
   pub stores : (size : ℕ) (base : Value) (offset : ℤ) (value : Value) → P (changed s (stored s.cells size base offset value))
 
--- and of calls: a request, orders put, an entry attempted
+-- The same for a call: a request, orders that are set, an entry.
 pub record Calls (relay : Relay) (s : State) (P : Outcome → Type 0) : Type 0 where
   pub trapped : (cause : Cause) → P (Trap cause)
   pub asks : (request : Request) → P (Ask request (record s { unit = s.unit + 1; steps = s.steps + 1 }))
@@ -44,7 +45,7 @@ assigned_walk s P w dst units (Ok value) = by (dst == 10) refl
     by true e = w.trapped FrameWrite
     by false e = w.set dst (s.unit + units) value e
 
--- a store of which nothing but the outcome's shape is owed
+-- A store whose outcome needs only the right form.
 pub changed_walk : (s : State) (P : Outcome → Type 0) → ((cause : Cause) → P (Trap cause)) → ((cells : List Cell) → P (Next (record s { unit = s.unit + 1; cells = cells; steps = s.steps + 1 }))) →
     (r : Result (List Cell) Cause) → P (changed s r)
 changed_walk s P trapped stores (Err cause) = trapped cause
@@ -84,7 +85,7 @@ pub called_walk : (context : List ℕ) (relay : Relay) (s : State) (P : Outcome 
 called_walk context relay s P c None = c.trapped NoHelper
 called_walk context relay s P c (Some helper) = done_walk relay s P c (effect context s helper)
 
--- P of a call with nothing in r1: each helper takes an argument there, and so it traps
+-- P for a call with r1 unset, which traps because each helper takes an argument there.
 pub unset_walk : (context : List ℕ) (relay : Relay) (s : State) (P : Outcome → Type 0) → value_at s.registers 1 ≡ Unset → ((cause : Cause) → P (Trap cause)) → (h : Option Helper) → P (called context relay s h)
 unset_walk context relay s P e trapped None = trapped NoHelper
 unset_walk context relay s P e trapped (Some BoardGet) = rw e (trapped UnsetRegister)
@@ -109,7 +110,7 @@ fetched_walk : (context : List ℕ) (relay : Relay) (o : Option Insn) (s : State
 fetched_walk context relay None s P w c = w.trapped NoInstruction
 fetched_walk context relay (Some insn) s P w c = executed_walk context relay insn s P w c
 
--- P of every step's outcome
+-- P for the outcome of every step.
 pub step_walk : (program : List Insn) (context : List ℕ) (relay : Relay) (s : State) (P : Outcome → Type 0) → Walks s P → ((h : Option Helper) → P (called context relay s h)) → P (step program context relay s)
 unfolding step
 step_walk program context relay s P w c = fetched_walk context relay (instruction_at program s.unit) s P w c

@@ -1,4 +1,4 @@
--- States what holds of every step and run. Each statement is the contract of a function of this crate.
+-- What is true of all steps and runs. For each statement, a function of this crate has it as its contract.
 use Rattle.std.specs.Prelude.{ℕ, ◌+◌, ◌-◌, ◌<◌, ◌≡◌, ◌≤◌, true, List, [], length}
 use Rattle.std.specs.List.{AllByRecursion}
 use Rattle.insn.specs.declared.insn.Insn.{Insn}
@@ -16,14 +16,14 @@ use Rattle.semantics.specs.Safety.{IsSafe}
 use Rattle.semantics.specs.Reached.{Reached}
 use Rattle.semantics.specs.Whole.{IsWhole, HasWords, Each, CountsOnce}
 
--- States that each step adds one to the step counter, unless it traps.
+-- States that each step that does not trap adds one to the number of steps.
 abbrev pub StepsAreCounted : Type 0
 StepsAreCounted =
     (program : List Insn) (context : List ℕ) (relay : Relay) (s : State) → CountsOnce s (step program context relay s)
 
--- States that the entry state is whole, and steps and answers leave a state whole, so every reached state is whole. If
--- the instructions are well-formed and the setting is that of a campaign, its numbers have 64 bits and its bytes have
--- 8.
+-- States that every reached state is whole: it has eleven registers, 512 stack cells, and r10 at the end of the stack.
+-- If the instructions are well-formed and the run is one of a campaign, its numbers have at most 64 bits, and its bytes
+-- at most 8.
 pub record StatesStayWhole : Type 0 where
   pub at_entry : (relay : Relay) → IsWhole (entry (empty_outbox relay))
   pub stepped : (program : List Insn) (context : List ℕ) (relay : Relay) (s : State) → IsWhole s →
@@ -35,19 +35,21 @@ pub record StatesStayWhole : Type 0 where
       AllByRecursion IsInsn program → IsContext context → IsRelay relay →
       Reached program context relay answers s → HasWords s
 
--- States that a run that has exited, trapped or waits for an answer stays so after any further steps.
+-- States that a run that has exited, trapped or waits for an answer does not change with further steps.
 abbrev pub RunsStayOver : Type 0
 RunsStayOver =
     (program : List Insn) (context : List ℕ) (relay : Relay) (k j : ℕ) (answers : List (List ℕ)) (s : State) →
     IsFinal (onwards program context relay k answers s) →
     onwards program context relay (k + j) answers s ≡ onwards program context relay k answers s
 
--- States that a reached state is the result of running the program for that state's number of steps with its answers.
+-- States that a state that a run reaches is the result of running the program for the state's number of steps, with the
+-- same answers.
 abbrev pub ReachedIsRun : Type 0
 ReachedIsRun = (program : List Insn) (context : List ℕ) (relay : Relay) (answers : List (List ℕ)) (s : State) →
     Reached program context relay answers s → after program context relay answers s.steps ≡ Running s
 
--- States that a program is sound exactly if its entry state is safe for as many steps as the program has instructions.
+-- States that a program is sound exactly if its entry state is safe: from there it never traps, and it exits within as
+-- many steps as it has instructions.
 pub record SoundIsSafeAtEntry : Type 0 where
   pub sound : (program : List Insn) →
       ((context : List ℕ) (relay : Relay) → IsContext context → IsRelay relay →
@@ -57,8 +59,8 @@ pub record SoundIsSafeAtEntry : Type 0 where
       IsRelay relay →
       IsSafe program context relay (length program) (entry (empty_outbox relay))
 
--- States that every state that a sound program reaches is safe for the remaining steps, and it has taken fewer steps
--- than the program has instructions.
+-- States that every state that a sound program reaches is safe for the remaining steps, and that it has taken fewer
+-- steps than the program has instructions.
 pub record ReachedIsSafe : Type 0 where
   pub safe : (program : List Insn) (context : List ℕ) (relay : Relay) (answers : List (List ℕ)) (s : State) →
       IsSound program → IsContext context → IsRelay relay →
@@ -67,8 +69,8 @@ pub record ReachedIsSafe : Type 0 where
       IsSound program → IsContext context → IsRelay relay →
       Reached program context relay answers s → s.steps < length program
 
--- States that every reached state has at most 8 entries, and each is one that the general can send. Where orders are
--- oral there is no entry, and where they are signed the outbox stays empty.
+-- States that every reached state has at most 8 entries, and that the general may make each of them. With oral messages
+-- there are no entries, and with signatures the outbox has no orders.
 pub record EntriesAreFew : Type 0 where
   pub few : (program : List Insn) (context : List ℕ) (relay : Relay) (answers : List (List ℕ)) (s : State) →
       Reached program context relay answers s → length s.entries ≤ most_entries

@@ -1,11 +1,11 @@
 -- Defines the limits of campaigns that concern calls and contexts.
 use Rattle.std.specs.Prelude.{ℕ}
 
--- The number of generals in the largest campaign. A row of orders has at most one order for each.
+-- The greatest number of generals in a campaign, and of orders that send_row sets.
 abbrev pub most_generals : ℕ
 most_generals = 13
 
--- The number of cells of a stack. Each cell holds one byte.
+-- The number of cells of a stack. A cell is one byte.
 abbrev pub stack_size : ℕ
 stack_size = 512
 
@@ -13,15 +13,15 @@ stack_size = 512
 abbrev pub context_size : ℕ
 context_size = 4096
 
--- The number of labels that a context has room for: four bytes each, after its first 32 bytes.
+-- The number of labels for which a context has room, 4 bytes for each after the first 32 bytes.
 abbrev pub most_labels : ℕ
 most_labels = 1016
 
--- The number of chains that a general may hold in a signed campaign.
+-- The greatest number of chains of signatures that a general can hold.
 abbrev pub most_held : ℕ
 most_held = 384
 
--- The number of sets of generals, 2 ^ most_generals. A set has one bit of a word for each general.
+-- The number of sets of generals, 2 ^ most_generals. A set is a number with one bit for each general.
 abbrev pub receiver_sets : ℕ
 receiver_sets = 8192
 

@@ -20,7 +20,7 @@ abbrev pub operand_reads : Operand → List ℕ
 operand_reads (Register r) = r ∷ []
 operand_reads (Immediate n) = []
 
--- Returns the registers that an operation reads as its first operand. MOV reads none.
+-- Returns the registers that an operation reads as its first operand. A move reads none.
 abbrev pub first_reads : Operation → ℕ → List ℕ
 first_reads Move dst = []
 first_reads _ dst = dst ∷ []
@@ -52,7 +52,7 @@ writes (Swap order size dst) = dst ∷ []
 writes (LoadImmediate dst number) = dst ∷ []
 writes _ = []
 
--- Returns the units that may follow an instruction.
+-- Returns the units to which an instruction at this unit may lead.
 abbrev pub leads_to : Insn → ℕ → List ℤ
 leads_to (Jump distance) unit = (pos (unit + 1) +ℤ distance) ∷ []
 leads_to (LongJump distance) unit = (pos (unit + 1) +ℤ distance) ∷ []
@@ -60,7 +60,7 @@ leads_to (Branch width condition dst operand distance) unit = pos (unit + 1) ∷
 leads_to Exit unit = []
 leads_to i unit = pos (unit + units_of i) ∷ []
 
--- States that some path from the entry to the unit does not write register `r`.
+-- States that some path from the entry to a unit does not write register `r`.
 pub data Unwritten (program : List Insn) (r : ℕ) : ℕ → Type 0 where
   at_entry : Unwritten program r 0
   along : {unit : ℕ} (i : Insn) (next : ℕ) → Unwritten program r unit → instruction_at program unit ≡ Some i →
@@ -77,8 +77,8 @@ EndsWithExit [] = ⊥
 EndsWithExit (i ∷ []) = i ≡ Exit
 EndsWithExit (i ∷ j ∷ is) = EndsWithExit (j ∷ is)
 
--- States that the program is plain. It ends with the exit, uses neither memory nor helpers, and jumps only forward to
--- instructions. It sets each register before it is read, and never writes r10.
+-- States that the program is plain: it uses neither memory nor helpers, jumps only forward to instructions, sets each
+-- register before it is read, never writes r10, and ends with the exit.
 pub record IsPlain (program : List Insn) : Type 0 where
   pub exit_last : EndsWithExit program
   pub numbers : (unit : ℕ) (i : Insn) → instruction_at program unit ≡ Some i → IsOfNumbers i

@@ -1,9 +1,9 @@
--- Defines the words of a reply: the one word, or the words of a copy.
+-- Defines the words in a reply of the board.
 use Rattle.std.specs.Prelude.{ℕ, List, [], ◌∷◌}
 use Rattle.semantics.specs.declared.reply.Reply.{Reply}
 use Rattle.semantics.specs.declared.reply.Reply.TheVariants.{Word, Words}
 
--- Returns the words of a reply.
+-- Returns the words in a reply: one, or the words of a copy.
 abbrev pub words_in : Reply → List ℕ
 words_in (Word word) = word ∷ []
 words_in (Words words) = words

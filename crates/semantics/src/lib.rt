@@ -1,5 +1,5 @@
-//! Defines what programs mean. The types are values, cells and requests; specs/ defines steps, runs, sound programs and
-//! plain programs.
+//! Defines what programs mean. src has the types of values, stack cells and requests, and specs defines steps, runs,
+//! sound programs and plain programs.
 #![tactic(auto)]
 
 mod entry;

@@ -1,9 +1,9 @@
-//! Replies: what the board returns for a request, either one word or the words of a copy.
+//! The board's replies to requests: one word, or the words of a copy.
 ghost use Rattle.std.specs.Prelude.{◌≡◌, ◌≤◌, ◌↔◌, IfSome, IsSome, length};
 
 use std::marker::Model;
 
-/// The words that the board copied, at most 64. Contracts see them as a list.
+/// The words that the board copied, 0 to 64. Contracts see them as a list.
 #[derive(Drop)]
 pub struct Copied {
     words: Vec<u64>,
@@ -20,7 +20,7 @@ impl Model for Copied {
 }
 
 impl Copied {
-    /// Returns the words as a copy, or `None` if there are more than 64.
+    /// Returns the words as the reply to a copy, or `None` if there are more than 64.
     pub fn new(words: Vec<u64>) -> Option<Copied>
         ensures same { IfSome result (λ c. c ≡ words.items) }
         ensures there { IsSome result ↔ (length words.items ≤ 64) }
@@ -40,10 +40,10 @@ impl Copied {
     }
 }
 
-/// The board's answer to a request.
+/// The board's reply to a request.
 #[derive(Drop)]
 pub enum Reply {
-    /// The word of the board as it was before the request.
+    /// The word of the board before the request.
     Word(u64),
     /// The words that the request copied.
     Words(Copied),

@@ -1,4 +1,4 @@
--- The condition of a jump, and what is used of its numbers.
+-- The condition of a jump, and the bits of numbers that it uses.
 use Rattle.std.proofs.Common.{◌≡◌, ℕ, List, Result, Ok, Bool, refl, ap, ◌∙◌, arith}
 use Rattle.word.specs.declared.Width.{Width}
 use Rattle.word.specs.declared.Width.TheVariants.{W32, W64}
@@ -10,11 +10,11 @@ use Rattle.semantics.specs.State.{Cause, value_at, operand_value}
 use Rattle.semantics.specs.Step.{condition_of}
 use Rattle.verify.specs.declared.comparison.Comparison.{Comparison}
 
--- the condition, of the registers' values
+-- The condition for the values of the registers.
 abbrev pub decided_by : Comparison → List Value → Result Bool Cause
 decided_by c vs = condition_of c.width c.condition (value_at vs c.dst) (operand_value vs c.operand)
 
--- what is used of a number is used of that
+-- The used bits of the used bits of a number are the same bits.
 taken-twice : (w : Width) (n : ℕ) → taken w (taken w n) ≡ taken w n
 taken-twice W32 n = grind arith
 taken-twice W64 n = refl

@@ -1,4 +1,4 @@
--- Arguments that are accepted are taken.
+-- Arguments that the verifier accepts do not trap.
 use Rattle.std.proofs.Common.{◌≡◌, ℕ, ◌+◌, ◌<◌, ◌≤◌, List, [], ◌∷◌, Option, Some, None, Bool, true, false, refl, arith}
 use Rattle.std.specs.Prelude.{Ok, Err, not, nat_lt, if◌then◌else◌}
 use Rattle.std.specs.Option.{option_or}
@@ -53,7 +53,7 @@ argument_fine None (Pointer region offsets) value.Unset e c = absurd c
 argument_fine None (Pointer region offsets) (value.Number n) e c = absurd c
 argument_fine None (Pointer region offsets) (value.Pointer other offset) e c = refl
 
--- so a call refuses none of them
+-- A call traps for none of these arguments.
 pub arguments_fine : (arguments : List (Option Argument)) (r : ℕ) (known : List AbsVal) (vs : List Value) → RegistersDescribe known vs → arguments_reason arguments r known ≡ None → refused arguments r vs ≡ None
 arguments_fine [] r known vs d e = refl
 arguments_fine (None ∷ arguments) r known vs d e = arguments_fine arguments (r + 1) known vs d e
@@ -73,7 +73,7 @@ pointer_of Unset e = cc
 pointer_of (Number numbers) e = cc
 pointer_of (Pointer region offsets) e = tt
 
--- what is known of the arguments of the helpers that take a pointer
+-- What is known of the arguments of the helpers that take a pointer.
 pub copy_arguments : (known : List AbsVal) → arguments_reason (arguments_of BoardCopy) 1 known ≡ None → IsBelow 64 (known_at known 1) × IsPointer (known_at known 2) × IsBelow 65 (known_at known 3)
 copy_arguments known e =
     let first = or_parts (argument_reason (Some 64) (known_at known 1)) _ e in

@@ -1,4 +1,4 @@
--- Where calls go on.
+-- The program continues after an accepted call.
 use Rattle.std.proofs.Common.{◌≡◌, ◌∙◌, ℕ, ◌+◌, ◌*◌, ◌≤◌, List, Option, None, Some, Bool, true, false, refl, sym, ap, subst, length, replicate}
 use Rattle.std.specs.Prelude.{Result, Ok, Err, pos, IsOk, IfOk, nat_le, if◌then◌else◌, ◌==◌, nat_lt, ◌^◌}
 use Rattle.std.specs.List.{list_all}
@@ -42,7 +42,7 @@ use Rattle.verify.specs.Registers.{known_at}
 held_in : (lo hi m : ℕ) → (n : ℕ) × (Number m ≡ Number n) × IsIn lo hi n → IsIn lo hi m
 held_in lo hi m h = let same : h.0 ≡ m = let e = h.1 in cc in subst (λ (n : ℕ). IsIn lo hi n) same h.2
 
--- the cells, once the request is answered
+-- What is known describes the cells after the answer to a request.
 abbrev pub CellsStand : Known → List Cell → Value → Request → List ℕ → Type 0
 CellsStand known cells p (Copy span) words = StackDescribes known (with_words cells p words) × (length (with_words cells p words) ≡ 512)
 CellsStand known cells p _ words = StackDescribes known cells × (length cells ≡ 512)
@@ -52,7 +52,7 @@ resumed_stands : (a : AbsState) (lo hi unit : ℕ) (request : Request) (words : 
 resumed_stands a lo hi unit (Copy span) words w e puts held cells = (e, record { registers = puts _ (held_in lo hi _ held); stack = cells.0; size = cells.1 })
 resumed_stands a lo hi unit request words w e puts held cells = (e, record { registers = puts _ (held_in lo hi _ held); stack = cells.0; size = cells.1 })
 
--- whatever fitting answer comes, its cells are as is known
+-- It does so after every answer that fits.
 abbrev pub AnswersStand : Known → List Cell → Value → Request → Type 0
 AnswersStand known cells p request = (words : List ℕ) → fits request words ≡ true → CellsStand known cells p request words
 
@@ -77,17 +77,17 @@ attempted_goes a lo hi relay s (Ok entry) free puts held cells =
     let r0 : ℕ = if is_entered relay s.entries entry then 0 else 1 in
     (refl, record { registers = puts r0 (held_in lo hi r0 (held _ refl)); stack = cells.0; size = cells.1 })
 
--- what holds of all that a chain may give
+-- What is true of all that a chain of results may give.
 given_all : {A B : Type 0} (P : B → Type 0) (r : Result A Cause) (f : A → Result B Cause) → ((a : A) → r ≡ Ok a → IfOk (f a) P) → IfOk (given r f) P
 given_all P (Ok a) f h = h a refl
 given_all P (Err cause) f h = tt
 
--- a chain that fails, once its first part is not refused
+-- A chain of results fails after its first part succeeds.
 given_fails : {A B : Type 0} (r : Result A Cause) (f : A → Result B Cause) (rest : Option Cause) (cause : Cause) → or_else (refusal r) rest ≡ None → given r f ≡ Err cause → (a : A) × (r ≡ Ok a) × (rest ≡ None) × (f a ≡ Err cause)
 given_fails (Ok a) f rest cause e q = (a, refl, e, q)
 given_fails (Err other) f rest cause e q = cc
 
--- a number that is taken is the register's
+-- A number that is accepted is the one in the register.
 taken_number : (bound : ℕ) (v : Value) (n : ℕ) → below bound v ≡ Ok n → v ≡ Number n
 taken_number bound Unset n e = cc
 taken_number bound (Number m) n e = ap Number (number_if (nat_lt m bound) m n e)
@@ -171,7 +171,7 @@ row_free a context relay s cause setting d e stands q =
 kept : (a : AbsState) (new : Known) (s : State) → Describes a s → new ≡ a.stack → StackDescribes new s.cells × (length s.cells ≡ 512)
 kept a new s d e = (subst (λ (known : Known). StackDescribes known s.cells) (sym e) d.stack, d.size)
 
--- the cells behind a call: once it is answered, where it asks
+-- What is known describes the cells after a call, if it makes a request, after the answer.
 abbrev LeavesCells : Known → State → Effect → Type 0
 LeavesCells known s (Asks request) = IfOk request (AnswersStand known s.cells (value_at s.registers 2))
 LeavesCells known s _ = StackDescribes known s.cells × (length s.cells ≡ 512)
@@ -184,7 +184,7 @@ done_goes new lo hi relay s (Asks request) free puts at_once answered cells = as
 done_goes new lo hi relay s (call.Puts tells choice) free puts at_once answered cells = sent_goes new lo hi relay s (told tells) choice free puts at_once cells
 done_goes new lo hi relay s (Enters entry) free puts at_once answered cells = attempted_goes new lo hi relay s entry free puts at_once cells
 
--- a call whose arguments are accepted goes on to what is left
+-- A call whose arguments are accepted continues to what is known after it.
 pub called_goes : (helper : Helper) (a new : AbsState) (lo hi : ℕ) (context : List ℕ) (relay : Relay) (s : State) → IsSetting context relay → Describes a s → arguments_reason (arguments_of helper) 1 a.registers ≡ None →
     AcceptsThese helper (arguments_of helper) → Returns helper lo hi → WindowStands helper a new.stack → Puts lo hi new.registers s.registers → GoesOn new (s.unit + 1) (called context relay s (Some helper))
 called_goes BoardCopy a new lo hi context relay s setting d e accepts returns stands puts =

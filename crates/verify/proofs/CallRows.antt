@@ -1,4 +1,4 @@
--- The rows of calls: a call that is not refused goes on to what is left.
+-- If a call is not rejected, it continues to what is known after it.
 use Rattle.std.proofs.Common.{◌≡◌, ◌∙◌, ℕ, zero, suc, ℤ, pos, ◌+◌, ◌*◌, ◌^◌, ◌<◌, ◌≤◌, List, [], ◌∷◌, drop, length, Bool, true, false, Option, Some, None, IfSome, refl, sym, subst, arith}
 use Rattle.std.specs.Prelude.{nat_lt, if◌then◌else◌}
 use Rattle.std.specs.List.{AllZip}
@@ -69,7 +69,7 @@ behind_puts p known vs small d n inside = (within_has p n small inside, (tt, (tt
 pub behind_well : (p : ℕ × ℕ) (known : List AbsVal) → p.0 ≤ p.1 → p.1 < 2 ^ 64 → AllWell known → AllWell (known_behind (within p) known)
 behind_well p known le small all = (within_set p le small, (tt, (tt, (tt, (tt, (tt, all_drop 6 known all))))))
 
--- results are words
+-- Results are 64-bit numbers.
 results_fit : (helper : Helper) → ((returned_range helper).0 ≤ (returned_range helper).1) × ((returned_range helper).1 < 2 ^ 64)
 results_fit BoardCopy = (omega arith, omega arith)
 results_fit helper = (omega arith, omega arith)
@@ -176,7 +176,7 @@ call_goes (Some helper) a context relay s setting d flags none =
     called_goes helper a (called (Some helper) a) (returned_range helper).0 (returned_range helper).1 context relay s setting d parts.0 (calls_accept helper) (calls_return helper)
     (windows_stand helper a flags parts.0 parts.1) (behind_puts (returned_range helper) a.registers s.registers (results_fit helper).1 d.registers)
 
--- ---- what is left is well formed
+-- ---- what is known is well-formed
 
 written_flags : (certain : Bool) (o : Option Window) (known : Known) → length known.bytes ≡ 512 → length (written certain o known).bytes ≡ 512
 written_flags certain None known flags = flags

@@ -1,4 +1,4 @@
--- Windows that calls read and write.
+-- The memory that calls read and write.
 use Rattle.std.proofs.Common.{◌≡◌, ◌∙◌, ℕ, zero, suc, ◌+◌, ◌*◌, ◌≤◌, List, [], ◌∷◌, ◌++◌, map, length, Bool, true, false, refl, sym, ap, subst, arith}
 use Rattle.std.specs.Prelude.{ℤ, pos, negsuc, ◌+ℤ◌, Result, Ok, Err, IsOk, nat_le, if◌then◌else◌, ◌&&◌, ◌==◌, flat_map, slice_range}
 use Rattle.std.specs.Ordering.{int_eq}
@@ -79,7 +79,7 @@ AreBytes-append [] ys p q k l = q k l
 AreBytes-append (x ∷ xs) ys p q zero l = p 0 (omega arith)
 AreBytes-append (x ∷ xs) ys p q (suc k) l = AreBytes-append xs ys (λ j m. p (suc j) (omega arith)) q k (omega arith)
 
--- the bytes of words
+-- The bytes of words.
 abbrev pub word_cells : List ℕ → List Cell
 word_cells words = map Byte (flat_map (little_bytes 8) words)
 
@@ -97,7 +97,7 @@ length-word_cells (w ∷ words) =
     let rest : length (word_cells words) ≡ 8 * length words = length-word_cells words in
     omega arith
 
--- what bytes at each place of the window leave
+-- What is known after bytes are written at any place in the window.
 abbrev pub Overwrites : Known → List Cell → ℕ → ℕ → ℕ → Type 0
 Overwrites new cells place size n = (at : ℕ) (bytes : List Cell) → AreBytes bytes → length bytes ≡ n → place ≤ at → at + n ≤ place + size → StackDescribes new (overwritten cells at bytes)
 
@@ -123,7 +123,7 @@ words_found new low high place size most cells (value.Pointer Stack o) words lon
           size = subst Q e (length-overwritten cells (word_cells words) at inside ∙ long);
         }
 
--- where pointer and count are one number each, the words stand at the window's place
+-- If the pointer has one offset and the count is one number, the words are exactly in the window.
 pub certain_place : (low high : ℤ) (lo hi place size n at : ℕ) → (int_eq low high && (lo == hi)) ≡ true → IsIn lo hi n → pos place ≡ (low +ℤ pos 0) +ℤ pos 512 → pos (place + size) ≡ ((high +ℤ pos 0) +ℤ pos 512) +ℤ pos (8 * hi) →
     place ≤ at → at + 8 * n ≤ place + size → (place ≡ at) × (8 * n ≡ size)
 certain_place low high lo hi place size n at certain within first last ge le =

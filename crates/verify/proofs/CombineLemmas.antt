@@ -1,4 +1,4 @@
--- An operation other than a move: one check after the other, and what dst takes.
+-- An operation other than a move: its checks in order, and the new value of dst.
 use Rattle.std.proofs.Common.{◌≡◌, ◌∙◌, ℕ, Bool, true, false, List, [], ◌∷◌, Option, Some, None, Result, Ok, Err, IfOk, refl, sym, ap}
 use Rattle.std.specs.Prelude.{◌==◌, is_none, option_map, slice_set, if◌then◌else◌}
 use Rattle.std.specs.Result.{result_err}
@@ -18,7 +18,7 @@ use Rattle.verify.specs.Reasons.{first_reason, is_unset, made_checks, write_chec
 use Rattle.verify.specs.Registers.{known_at, operand_known, first_known}
 use Rattle.verify.specs.Transfer.{assigned, stepped}
 
--- it reads dst
+-- The operation reads dst.
 other_made : (w : Width) (operation : Operation) (known : List AbsVal) (dst : ℕ) (x : AbsVal) → (operation ≡ Move → ⊥) →
     combined w operation (known_at known dst) x ≡ computed w operation (first_known known operation dst) x
 other_made w Add known dst x other = refl
@@ -45,7 +45,7 @@ passed : (b : Bool) (reason : Reason) → None ≡ first_reason ((b, reason) ∷
 passed true reason h = absurd cc
 passed false reason h = refl
 
--- the last check is left
+-- Only the last check remains.
 last_check : (dst : ℕ) (f s : AbsVal) (made : Option AbsVal) → None ≡ first_reason ((is_unset f, reason.Unset) ∷ []) → None ≡ first_reason ((is_unset s, reason.Unset) ∷ []) →
     None ≡ first_reason (write_checks dst) → (if is_none made then Some PointerUse else None) ≡ first_reason ((is_unset f, reason.Unset) ∷ made_checks dst s made)
 last_check dst f s made set also writable =
@@ -54,7 +54,7 @@ last_check dst f s made set also writable =
     let h : (dst == 10) ≡ false = passed (dst == 10) FrameWrite writable in
     rw (e, g, h) refl
 
--- a register takes what is made, or nothing was
+-- A register gets the result, or there was none.
 takes : (a : AbsState) (dst : ℕ) (made : Option AbsVal) (r : Result (Unit {0}) Reason) (new : List AbsVal) → result_err r ≡ (if is_none made then Some PointerUse else None) →
     IfOk r (λ u. option_map (λ v. slice_set a.registers dst v) made ≡ Some new) → outcome r (record { registers = new; stack = a.stack }) ≡ unless (if is_none made then Some PointerUse else None) (assigned a dst made)
 takes a dst None (Ok u) new e h = absurd cc

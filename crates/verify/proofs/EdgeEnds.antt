@@ -1,4 +1,4 @@
--- Edges of instructions.
+-- The units to which instructions lead.
 use Rattle.std.proofs.Common.{◌≡◌, ℕ, ◌+◌, ◌<◌, List, Some, length, inl, refl, arith}
 use Rattle.std.specs.Prelude.{pos}
 use Rattle.insn.specs.declared.insn.Insn.{Insn}
@@ -11,7 +11,7 @@ use Rattle.verify.specs.Forward.{IsForward}
 use Rattle.verify.specs.Kept.{EdgesInside}
 use Rattle.verify.proofs.Edges.{start_inside}
 
--- what goes on behind itself has its edge there
+-- An instruction that continues with the next one has its edge there.
 pub straight_edge : (i : Insn) (unit : ℕ) → IsStraight i → IsIn (pos (unit + units_of i)) (leads_to i unit)
 straight_edge (Arithmetic width operation dst operand) unit h = inl refl
 straight_edge (Negate width dst) unit h = inl refl
@@ -27,7 +27,7 @@ straight_edge (Store size base offset source) unit h = inl refl
 straight_edge (Call helper) unit h = inl refl
 straight_edge Exit unit h = absurd h
 
--- in a program that leads forward each edge ends inside
+-- In a program whose edges lead forward, each edge ends inside the program.
 pub inside_of_forward : (program : List Insn) (unit : ℕ) (i : Insn) (end : ℕ) → IsForward program → instruction_at program unit ≡ Some i → end ≡ length (slots_of program) → EdgesInside i unit end
 inside_of_forward program unit i end forward at e v edge =
     let start = (forward.edges unit i at (pos v) edge).1 in

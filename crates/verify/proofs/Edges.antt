@@ -1,4 +1,4 @@
--- A program without a structural fault leads forward, and a plain one has none.
+-- The edges of a program without a structural fault lead forward, and a plain program has no structural fault.
 use Rattle.std.proofs.Common.{◌≡◌, ℕ, ◌<◌, List, [], ◌∷◌, ◌++◌, Option, Some, None, Bool, true, false, refl, sym, subst, length, slice_get, if◌then◌else◌, arith}
 use Rattle.std.specs.Prelude.{ℤ, pos, negsuc, ◌<ℤ◌, nat_le, is_none, IsSome}
 use Rattle.std.proofs.lemmas.Bool.{lt-leb, leb-false}
@@ -12,7 +12,7 @@ use Rattle.verify.specs.declared.error.VerifyError.TheVariants.{At}
 use Rattle.verify.specs.declared.reason.Reason.TheVariants.{BackJump, JumpOut, JumpInWide}
 use Rattle.verify.specs.Structure.{Check, first_fault, target_checks}
 
--- where the checks are without fault, each part is
+-- If the checks find no fault, neither do their parts.
 pub first_fault-parts : (checks more : List Check) → first_fault (checks ++ more) ≡ None → (first_fault checks ≡ None) × (first_fault more ≡ None)
 first_fault-parts [] more e = (refl, e)
 first_fault-parts (check ∷ checks) more e = by_test check.0 (λ h. first_fault-parts checks more h) e
@@ -47,7 +47,7 @@ not_none : (o : Option Insn) → IsSome o → is_none o ≡ false
 not_none None h = absurd (cc)
 not_none (Some i) h = refl
 
--- a target without fault is an instruction further on
+-- A target without a fault is an instruction after the jump.
 pub target_fine : (program : List Insn) (unit : ℕ) (z : ℤ) → first_fault (target_checks program unit z) ≡ None → (pos unit <ℤ z) × IsStart program z
 target_fine program unit (negsuc n) e = absurd (cc)
 target_fine program unit (pos target) e =
@@ -57,7 +57,7 @@ target_fine program unit (pos target) e =
     let lt : unit < target = leb-false target unit back.0 in
     (omega (arith, ints), (target, refl, some_there (instruction_at program target) wide.0))
 
--- the last unit of a program lies before its end
+-- The last unit of a program is before its end.
 pub start_inside : (program : List Insn) (unit : ℕ) → IsSome (instruction_at program unit) → unit < length (slots_of program)
 start_inside program unit some = by_slot (slice_get (slots_of program) unit) refl some
   where
@@ -65,7 +65,7 @@ start_inside program unit some = by_slot (slice_get (slots_of program) unit) ref
     by_slot None e some = absurd (cc)
     by_slot (Some slot) e some = slice_get_within (slots_of program) unit slot (sym e)
 
--- an instruction further on is a target without fault
+-- A target that is an instruction after the jump has no fault.
 pub target_clear : (program : List Insn) (unit : ℕ) (z : ℤ) → (pos unit <ℤ z) × IsStart program z → first_fault (target_checks program unit z) ≡ None
 target_clear program unit (negsuc n) forward = absurd (let lt = forward.0 in omega (arith, ints))
 target_clear program unit (pos target) forward =

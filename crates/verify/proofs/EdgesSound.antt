@@ -1,4 +1,4 @@
--- The edges of a conditional jump: what is known where it is taken, or is not, describes the states that go that way.
+-- What is known if a conditional jump is taken, or is not, describes the states in which it is, or is not.
 use Rattle.std.proofs.Common.{◌≡◌, ◌∙◌, ℕ, ◌^◌, ◌<◌, List, length, Bool, Option, Some, None, Ok, IfSome, refl, arith, length-set}
 use Rattle.std.specs.Prelude.{◌==◌, option_map, slice_set}
 use Rattle.std.specs.Int.{w64, cast_unsigned}
@@ -32,7 +32,7 @@ use Rattle.absval.specs.declared.value.AbsVal.TheVariants.{Unset, Number, Pointe
 
 -- ---- two values
 
--- something is left of two values, and it holds these two
+-- Two values remain, and they contain these two.
 abbrev HoldEnds : Option (AbsVal × AbsVal) → Value → Value → Type 0
 HoldEnds None x y = ⊥
 HoldEnds (Some e) x y = Contains e.0 x × Contains e.1 y
@@ -74,7 +74,7 @@ abbrev HoldAll : Option (List AbsVal) → List Value → Type 0
 HoldAll None vs = ⊥
 HoldAll (Some es) vs = RegistersDescribe es vs
 
--- as many as before, and well formed
+-- The same number of registers as before, and well-formed.
 abbrev KeptAll : ℕ → Option (List AbsVal) → Type 0
 KeptAll n None = Unit {0}
 KeptAll n (Some es) = AllWell es × (length es ≡ n)
@@ -126,7 +126,7 @@ edge_kept w c way es dst (Immediate n) fits all =
 
 -- ---- states
 
--- there is a state, and it describes s
+-- There is an abstract state, and it describes s.
 abbrev pub DescribedBy : Option AbsState → State → Type 0
 DescribedBy None s = ⊥
 DescribedBy (Some a) s = Describes a s

@@ -1,4 +1,4 @@
--- Where two paths meet, what both know describes each state that either describes; and what is known at the entry.
+-- A join describes each state that one of its two parts describes. Also what is known at the entry.
 use Rattle.std.proofs.Common.{◌≡◌, ◌∙◌, ℕ, suc, ℤ, pos, ◌<◌, ◌≤◌, List, [], ◌∷◌, length, get_or, replicate, Bool, true, false, refl, sym, subst, arith, ⊎_elim}
 use Rattle.std.specs.Prelude.{◌≤ℤ◌, ◌==◌, ◌&&◌, if◌then◌else◌}
 use Rattle.std.specs.Ordering.{int_eq}

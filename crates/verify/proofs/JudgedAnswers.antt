@@ -1,4 +1,4 @@
--- What the verifier answers, from what is judged.
+-- What the verifier returns, from what `judged` says.
 use Rattle.std.proofs.Common.{◌≡◌, ◌⊎◌, inl, inr, List, Option, Some, None, refl, sym, subst}
 use Rattle.std.specs.Prelude.{IsSome}
 use Rattle.std.specs.List.{AllByRecursion}
@@ -18,11 +18,11 @@ use Rattle.verify.proofs.PassLaws.{judged_first}
 use Rattle.verify.proofs.PlainJudged.{plain_judged}
 use Rattle.verify.proofs.OwnReasons.{reason_own, instruction_own}
 
--- the fault is that of the function, or memory was refused
+-- The fault is the one of `judged`, or out of memory.
 abbrev pub IsJudged : List Insn → VerifyError → Type 0
 IsJudged program fault = (fault ≡ Memory) ⊎ (judged program ≡ Some fault)
 
--- then it is that of the first instruction that may not run, where none is of structure
+-- If there is no structural fault, it is the one of the first instruction that is rejected.
 abbrev pub IsAnswer : List Insn → VerifyError → Type 0
 IsAnswer program fault = (fault ≡ Memory) ⊎ IsFirstFault program fault
 
@@ -30,12 +30,12 @@ pub answer_of : (program : List Insn) (fault : VerifyError) → structural_fault
 answer_of program fault none (inl memory) = inl memory
 answer_of program fault none (inr some) = inr (judged_first program fault none some)
 
--- a plain program is refused only for want of memory
+-- A plain program is rejected only if memory runs out.
 pub plain_refused : (program : List Insn) (fault : VerifyError) → AllByRecursion IsInsn program → IsPlain program → IsJudged program fault → fault ≡ Memory
 plain_refused program fault well plain (inl memory) = memory
 plain_refused program fault well plain (inr some) = let none : judged program ≡ None = plain_judged program well plain in absurd cc
 
--- an instruction that stops the pass does so for a reason that is none of structure
+-- If an instruction stops the pass, the reason is not one of the structure.
 stop_own : (o : Option Insn) (known : Option AbsState) (reason : Reason) → reason_at o known ≡ Some reason → IsOwn reason × IsSome o
 stop_own None known reason e = absurd cc
 stop_own (Some i) None reason e = absurd cc

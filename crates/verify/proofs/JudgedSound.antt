@@ -1,4 +1,4 @@
--- A program in which the function finds no fault is sound.
+-- A program in which `judged` finds no fault is sound.
 use Rattle.std.proofs.Common.{◌≡◌, ◌∙◌, ℕ, zero, suc, ◌+◌, ◌<◌, ◌≤◌, List, [], ◌∷◌, length, replicate, Option, Some, None, Result, Ok, Err, IfSome, refl, sym, ap, subst, arith, ⊎_elim, ◌≢◌, length-set, get_or-set_other}
 use Rattle.std.specs.Prelude.{pos, slice_set, IsSome}
 use Rattle.std.specs.List.{AllByRecursion}
@@ -40,7 +40,8 @@ use Rattle.verify.proofs.PassSound.{AreMeant, At, Lands, along_meant, along_take
 
 -- ---- a unit is passed
 
--- what was described at the unit leads on to what is, and what was described further on still is
+-- States that were described at the unit lead to described ones, and those that were described at later units still
+-- are.
 pub record Passed (program : List Insn) (unit : ℕ) (old new : KnownSoFar) : Type 0 where
   pub leads : (i : Insn) (context : List ℕ) (relay : Relay) (s : State) → IsSetting context relay → instruction_at program unit ≡ Some i → s.unit ≡ unit → At old unit s →
       LeadsTo (λ t. IsIn (pos t.unit) (leads_to i unit) × At new t.unit t) (executed context relay i s)
@@ -48,7 +49,7 @@ pub record Passed (program : List Insn) (unit : ℕ) (old new : KnownSoFar) : Ty
   pub meant : AreMeant new
   pub count : length new ≡ length old
 
--- nothing is done where no instruction starts, or no path leads
+-- Nothing happens if no instruction starts there, or no path leads there.
 passed_by : (program : List Insn) (unit : ℕ) (old : KnownSoFar) → AreMeant old → ((i : Insn) (s : State) → instruction_at program unit ≡ Some i → At old unit s → ⊥) → Passed program unit old old
 passed_by program unit old all none = record {
   leads = λ i context relay s setting at e kept. absurd (none i s at kept);
@@ -100,12 +101,12 @@ unit_passed program unit (Some i) (Some a) old new forward well all long at know
       count = length-passed_at unit (Some i) (Some a) old (along_all (edges i unit a) taken) (ap (λ (o : Option Reason). settled o unit (along_all (edges i unit a) taken)) parts.0);
     })
 
--- ---- what a state owes at the units from one on
+-- ---- what remains to be shown of states from a unit on
 
 abbrev pub Rest : List Insn → List ℕ → Relay → KnownSoFar → ℕ → Type 0
 Rest program context relay reached unit = (s : State) → unit ≤ s.unit → IsSome (instruction_at program s.unit) → At reached s.unit s → IsSafe program context relay (left program s.unit) s
 
--- if that is paid, the entry is safe
+-- If that is shown, the entry state is safe.
 abbrev pub EntryRests : List Insn → KnownSoFar → ℕ → Type 0
 EntryRests program reached unit = (context : List ℕ) (relay : Relay) → IsContext context → IsRelay relay → Rest program context relay reached unit →
     IsSafe program context relay (length program) (entry (empty_outbox relay))
@@ -119,7 +120,7 @@ step_at program context relay unit i s at e =
 
 module _ (program : List Insn) (context : List ℕ) (relay : Relay) (old new : KnownSoFar) (unit : ℕ) (forward : IsForward program) (passed : Passed program unit old new)
     (setting : IsSetting context relay) (rest : Rest program context relay new (unit + 1)) where
-  -- a state at the unit is safe
+  -- A state at the unit is safe.
   safe_here : (i : Insn) (s : State) → instruction_at program unit ≡ Some i → s.unit ≡ unit → At old unit s → IsSafe program context relay (left program unit) s
   safe_here i s at e kept =
       let leads = passed.leads i context relay s setting at e kept in
@@ -167,7 +168,7 @@ rests_start program reached lt kept context relay c h rest =
     let start = entry (empty_outbox relay) in
     IsSafe-longer program context relay (left program 0) (length program) start (left-bound program 0) (rest start (omega arith) (first_start program lt) (kept relay))
 
--- nothing is reached yet
+-- No unit is reached yet.
 abbrev pub empty : List Insn → KnownSoFar
 empty program = replicate (length (slots_of program)) None
 
@@ -182,7 +183,7 @@ nothing_meant program v = subst (λ (o : Option AbsState). IfSome o IsMeant) (sy
 
 -- ---- the pass
 
--- what is reached at the units below one
+-- What is reached at the units before one.
 pub record Walks (program : List Insn) (unit : ℕ) (reached : KnownSoFar) : Type 0 where
   pub meant : AreMeant reached
   pub count : length reached ≡ length (slots_of program)
@@ -215,7 +216,7 @@ walks program forward well some (suc unit) reached e = by_before (passed_to prog
     by_before (Err fault) f ih = cc
     by_before (Ok before) f ih = walks_on program unit before reached forward well (ih before refl) f
 
--- behind the last unit nothing is owed
+-- After the last unit, nothing remains to be shown.
 ends : (program : List Insn) (reached : KnownSoFar) → Walks program (length (slots_of program)) reached → StartsSafe program
 ends program reached w = record {
   safe = λ context relay c h. w.rests context relay c h (λ s le some kept.

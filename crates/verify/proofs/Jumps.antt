@@ -1,4 +1,4 @@
--- Where the edges of a jump end, from where those of its instruction do.
+-- Where the edges of a jump end, from where those of its instruction end.
 use Rattle.std.proofs.Common.{◌≡◌, ℕ, sym, subst}
 use Rattle.std.specs.Prelude.{ℤ}
 use Rattle.word.specs.declared.Width.{Width}

@@ -1,4 +1,4 @@
--- In an accepted program each state of a run is as is known at its unit.
+-- In an accepted program, what is known at a unit describes each state of a run there.
 use Rattle.std.proofs.Common.{◌≡◌, ◌∙◌, ℕ, zero, suc, ◌+◌, ◌-◌, ◌<◌, ◌≤◌, List, length, Option, Some, None, Result, Ok, Err, refl, sym, subst, arith}
 use Rattle.std.specs.Prelude.{pos, IsSome}
 use Rattle.std.specs.List.{AllByRecursion}
@@ -35,7 +35,7 @@ use Rattle.verify.proofs.JudgedSound.{Passed, unit_passed, step_at, some_is, fir
 
 module _ (program : List Insn) (forward : IsForward program) (well : AllByRecursion IsInsn program) (some : 0 < length (slots_of program)) (last : KnownSoFar)
     (through : passed_to program (length (slots_of program)) ≡ Ok last) where
-  -- the pass comes to each unit
+  -- The pass reaches each unit.
   came : (unit : ℕ) → unit ≤ length (slots_of program) → (reached : KnownSoFar) × (passed_to program unit ≡ Ok reached)
   came unit le = by_result (passed_to program unit) refl
     where
@@ -50,7 +50,7 @@ module _ (program : List Insn) (forward : IsForward program) (well : AllByRecurs
       let g : passed_on program unit (Ok old) ≡ Ok new = subst (λ (r : Result KnownSoFar VerifyError). passed_on program unit r ≡ Ok new) e f in
       unit_passed program unit (instruction_at program unit) (reached_at old unit) old new forward well w.meant w.count refl refl g
 
-  -- what is described further on still is, as the pass comes there
+  -- States that are described at later units still are when the pass reaches them.
   carries : (n unit v : ℕ) (s : State) → unit + n ≡ v → v ≤ length (slots_of program) → (old new : KnownSoFar) → passed_to program unit ≡ Ok old → passed_to program v ≡ Ok new → At old v s → At new v s
   carries zero unit v s e le old new f g at =
       let same : unit ≡ v = omega (arith, e) in
@@ -62,12 +62,12 @@ module _ (program : List Insn) (forward : IsForward program) (well : AllByRecurs
       let next = came (suc unit) (omega (arith, lt, le)) in
       carries n (suc unit) v s (omega (arith, e)) le next.0 new next.1 g ((passes unit old next.0 f next.1).keeps v s lt at)
 
-  -- it stands at an instruction, and is as is known there
+  -- The state is at an instruction, and what is known there describes it.
   record Stands (s : State) : Type 0 where
     inside : IsSome (instruction_at program s.unit)
     known : (reached : KnownSoFar) → passed_to program s.unit ≡ Ok reached → At reached s.unit s
 
-  -- each state that may follow does
+  -- So is each state that may follow.
   follows : (context : List ℕ) (relay : Relay) → IsSetting context relay → (t : State) → Stands t → LeadsTo Stands (step program context relay t)
   follows context relay setting t stands =
       subst (λ (o : Outcome). LeadsTo Stands o) (sym (step_at program context relay t.unit found.0 t found.1 refl))
@@ -137,7 +137,7 @@ states_as_known program well some e context relay answers s c h reached =
     let forward = forward_of_structure program parts.0 in
     as_known program forward well some parts.1 parts.2 s parts.0 (reached_stands program forward well some parts.1 parts.2 context relay (record { is_context = c; is_relay = h }) reached)
 
--- a state of a run as the pass comes to its unit
+-- A state of a run when the pass reaches its unit.
 pub record Standing (program : List Insn) (s : State) : Type 0 where
   pub within : s.unit < length (slots_of program)
   pub start : IsSome (instruction_at program s.unit)

@@ -1,4 +1,4 @@
--- Registers that are known to hold numbers, and the checks that pass on them.
+-- Registers that are known to hold numbers, and the checks that accept them.
 use Rattle.std.proofs.Common.{◌≡◌, inl, inr, ℕ, ◌<◌, List, [], ◌∷◌, ◌++◌, arith, refl, sym, Bool, true, false, Option, Some, None, eqb-true}
 use Rattle.std.specs.Prelude.{◌==◌, if◌then◌else◌}
 use Rattle.word.specs.declared.Operation.{Operation}
@@ -16,7 +16,7 @@ use Rattle.verify.specs.Reasons.{first_reason, is_unset, made_checks, write_chec
 use Rattle.absval.specs.declared.value.AbsVal.TheVariants.{Unset, Number, Pointer}
 use Rattle.absval.specs.declared.value.AbsVal.{AbsVal}
 
--- the register is known to hold a number
+-- The register is known to hold a number.
 abbrev pub number_at : List AbsVal → ℕ → Bool
 number_at known r = is_number (known_at known r)
 
@@ -46,7 +46,7 @@ pub right_in : (rs ss : List ℕ) (r : ℕ) → IsIn r ss → IsIn r (rs ++ ss)
 right_in [] ss r h = h
 right_in (x ∷ rs) ss r h = inr (right_in rs ss r h)
 
--- ---- so the checks pass
+-- ---- the checks accept it
 
 pub made_none : (dst : ℕ) (value : AbsVal) (made : Option AbsVal) → is_number value ≡ true → (dst ≡ 10 → ⊥) → AreNumbers made → first_reason (made_checks dst value made) ≡ None
 made_none dst Unset made h other k = absurd cc

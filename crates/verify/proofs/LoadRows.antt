@@ -1,4 +1,4 @@
--- The rows of loads: what is known of a loaded value holds of it, and there is one.
+-- A load that is not rejected has a result, and what is known of it is true.
 use Rattle.std.proofs.Common.{◌≡◌, ◌∙◌, ℕ, zero, suc, ℤ, ◌+◌, ◌-◌, ◌*◌, ◌/◌, ◌%◌, ◌^◌, ◌<◌, ◌≤◌, List, map, length, Bool, true, false, Option, Some, None, Result, Ok, Err, IfSome, IfOk, refl, sym, ap, subst, arith, ⊎_elim}
 use Rattle.std.specs.Prelude.{◌==◌, ◌≤ℤ◌, slice_range, if◌then◌else◌, option_map}
 use Rattle.std.specs.Ordering.{int_eq}
@@ -56,7 +56,7 @@ byte_if : (t : Bool) (c : Cell) → t ≡ true → IsByteIf t c → IsByte c
 byte_if true c e h = h
 byte_if false c e h = cc
 
--- a part of a window whose cells are known to be bytes
+-- A part of a window whose cells are known to be bytes.
 pub bytes_there : (known : Known) (cells : List Cell) (w : Window) (at n : ℕ) → StackDescribes known cells → length cells ≡ 512 → w.place + w.size ≤ 512 → all_bytes known.bytes w.place w.size ≡ true →
     w.place ≤ at → at + n ≤ w.place + w.size → AreBytes (slice_range cells at (at + n))
 bytes_there known cells w at n d long fits all ge le k lt =
@@ -101,7 +101,7 @@ pieces_give region offset = if_true (are_pieces region offset 0 (pieces_of regio
 here_at : (z : ℤ) → z ≤ℤ z
 here_at z = omega (arith, ints)
 
--- a pointer that is known to stand at a place
+-- A pointer that is known to be stored at a place.
 abbrev Found : List Cell → ℕ → Option AbsVal → Type 0
 Found cells place o = IfSome o (λ e. Gives e (value_in (slice_range cells place (place + 8))))
 
@@ -140,7 +140,7 @@ spilled_meant known size.Double w = by_test (λ (o : Option AbsVal). IfSome o Is
 
 -- ---- loads
 
--- what a load from a part of the stack's window gives
+-- What a load from a part of the window on the stack gives.
 abbrev Gets : Size → List Cell → ℕ → Result AbsVal Reason → Type 0
 Gets s cells at r = IfOk r (λ e. Gives e (value_in (slice_range cells at (at + bytes_of s))))
 
@@ -164,7 +164,7 @@ stack_meant known s w = by_pointer (spilled known s w) (spilled_meant known s w)
     by_pointer (Some e) h = h
     by_pointer None h = by_test (λ (o : Option Reason). IfOk (unless o (loaded_known s)) IsWell) (all_bytes known.bytes w.place w.size) None (Some StackUnset) (λ t. loaded_meant s) (λ f. tt)
 
--- what holds of each place of a window holds of what is loaded there
+-- What is true at each place of a window is true of the value that is loaded there.
 abbrev Loads : List ℕ → List Cell → Size → ℤ → Value → Result AbsVal Reason → Type 0
 Loads context cells s distance v r = IfOk r (λ e. Gives e (loaded context cells (bytes_of s) v distance))
 
@@ -203,7 +203,7 @@ load_meant known s (Pointer region at) distance = by_window region (window_known
     by_window Context (Some w) = loaded_meant s
     by_window Stack (Some w) = stack_meant known s w
 
--- ---- loads that extend by the sign
+-- ---- sign-extended loads
 
 abbrev LoadsSigned : List ℕ → List Cell → Narrow → ℤ → Value → Result AbsVal Reason → Type 0
 LoadsSigned context cells part distance v r = IfOk r (λ e. Gives e (loaded_signed context cells part v distance))

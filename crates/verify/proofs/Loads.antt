@@ -1,4 +1,4 @@
--- What loads find.
+-- What loads read.
 use Rattle.std.proofs.Common.{◌≡◌, ◌∙◌, ℕ, zero, suc, ◌+◌, ◌-◌, ◌*◌, ◌^◌, ◌<◌, ◌≤◌, List, [], ◌∷◌, map, take, drop, length, get_or, Result, Ok, Err, refl, sym, ap, subst, arith}
 use Rattle.std.specs.Prelude.{ℤ, ◌+ℤ◌, slice_range, All}
 use Rattle.std.proofs.Math.Nat.{pow-succ'}
@@ -25,7 +25,7 @@ use Rattle.absval.specs.Windows.{LiesIn}
 use Rattle.absval.proofs.WindowRows.{Lies}
 use Rattle.absmem.specs.Describes.{IsByte, AreBytes}
 
--- bytes are found, and spell a number of so many
+-- If the cells are bytes, a load reads a number of this many bytes.
 pub number_found : (cells : List Cell) → AreBytes cells → (bytes : List ℕ) × (bytes_in cells ≡ Ok bytes) × (little_number bytes < 256 ^ length cells)
 number_found [] h = ([], refl, omega arith)
 number_found (Empty ∷ cells) h = absurd (h 0 (omega arith))
@@ -45,13 +45,13 @@ value_found (Byte b ∷ cells) h =
     let found = number_found (Byte b ∷ cells) h in
     (little_number found.0, ap (λ (r : Result (List ℕ) Cause). given r (λ bytes. Ok (value.Number (little_number bytes)))) found.1, found.2)
 
--- so a load of bytes gives a number
+-- So a load of bytes gives a number.
 pub gives_number : (r : AbsVal) (cells : List Cell) (size : ℕ) → length cells ≡ size → AreBytes cells → ((n : ℕ) → n < 256 ^ size → Contains r (value.Number n)) → Gives r (value_in cells)
 gives_number r cells size e h holds =
     let found = value_found cells h in
     subst (λ (v : Result Value Cause). Gives r v) (sym found.1) (holds found.0 (subst (λ (n : ℕ). found.0 < 256 ^ n) e found.2))
 
--- and so does one that extends them by their sign
+-- So does a sign-extended load.
 pub gives_extended : (r : AbsVal) (cells : List Cell) (part : Narrow) → length cells ≡ part_bytes part → AreBytes cells → ((n : ℕ) → n < 256 ^ part_bytes part → Contains r (value.Number (sign_extended W64 part n))) →
     Gives r (given (bytes_in cells) (λ bytes. Ok (value.Number (sign_extended W64 part (little_number bytes)))))
 gives_extended r cells part e h holds =
@@ -65,7 +65,7 @@ length-part cells at size total e le =
     let room : size ≤ length (drop at cells) = omega (arith, length-drop at cells) in
     ap (λ (m : ℕ). length (take m (drop at cells))) n ∙ length-take-le size (drop at cells) room
 
--- a part of bytes
+-- A part of cells that are bytes.
 part_bytes_of : (cells : List Cell) (at size total : ℕ) → length cells ≡ total → at + size ≤ total → AreBytes cells → AreBytes (slice_range cells at (at + size))
 part_bytes_of cells at size total e le h k l =
     let long : length (slice_range cells at (at + size)) ≡ size = length-part cells at size total e le in
@@ -82,7 +82,7 @@ length-bytes : (bs : List ℕ) → length (map Byte bs) ≡ length bs
 length-bytes [] = refl
 length-bytes (b ∷ bs) = ap suc (length-bytes bs)
 
--- the cells of a context are bytes
+-- The cells of a context are bytes.
 pub context_part : (context : List ℕ) (at size : ℕ) → length context ≡ 4096 → All (λ b. b < 256) context → at + size ≤ 4096 →
     (length (slice_range (map Byte context) at (at + size)) ≡ size) × AreBytes (slice_range (map Byte context) at (at + size))
 context_part context at size long all le =
@@ -91,7 +91,7 @@ context_part context at size long all le =
       part_bytes_of (map Byte context) at size 4096 total le (are_bytes context (λ k l. All-get_or (λ b. b < 256) context k 0 l all)),
     )
 
--- what holds of each place in the window holds of the cells at a pointer
+-- What is true at each place of the window is true of the cells at the pointer.
 pub reads_give : (r : AbsVal) (f : List Cell → Result Value Cause) (context : List ℕ) (cells : List Cell) (region : Region) (low high distance : ℤ) (first total size : ℕ) (v : Value) → IsPointerIn region low high v →
     Lies region low high distance first total size →
     ((at : ℕ) → first ≤ at → at + size ≤ first + total → Gives r (f (slice_range (region_cells context cells region) at (at + size)))) →
@@ -111,7 +111,7 @@ part_small narrow.Byte n l = omega arith
 part_small narrow.Half n l = omega arith
 part_small narrow.Word n l = omega arith
 
--- what a load at a place gives that extends by the sign
+-- What a sign-extended load at a place gives.
 pub extended_at : (r : AbsVal) (context : List ℕ) (cells : List Cell) (region : Region) (part : Narrow) (first total at : ℕ) → IsContext context → length cells ≡ 512 → first + total ≤ room_of region →
     at + part_bytes part ≤ first + total → (region ≡ Stack → AreBytes (slice_range cells at (at + part_bytes part))) → ((n : ℕ) → n < 2 ^ 64 → Contains r (value.Number (sign_extended W64 part n))) →
     Gives r (given (bytes_in (slice_range (region_cells context cells region) at (at + part_bytes part))) (λ bytes. Ok (value.Number (sign_extended W64 part (little_number bytes)))))

@@ -1,4 +1,4 @@
--- What is known of registers: it is well formed, and holds the registers' values.
+-- What is known of registers is well-formed, and contains the registers' values.
 use Rattle.std.proofs.Common.{ℕ, zero, suc, ◌^◌, ◌<◌, List, [], ◌∷◌, arith}
 use Rattle.std.specs.Prelude.{slice_set}
 use Rattle.std.specs.Int.{w64, cast_unsigned}
@@ -39,7 +39,7 @@ all_set (b ∷ known) (suc r) a all h = (all.0, all_set known r a all.1 h)
 
 -- ---- operands
 
--- an immediate number is a word
+-- An immediate number is a 64-bit number.
 abbrev pub IsWord : Operand → Type 0
 IsWord (Register r) = Unit {0}
 IsWord (Immediate n) = cast_unsigned w64 n < 2 ^ 64

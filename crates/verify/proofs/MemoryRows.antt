@@ -1,4 +1,4 @@
--- Rows of the table of loads and stores.
+-- The checks of loads and stores, case by case.
 use Rattle.std.proofs.Common.{ap₂, ◌≡◌, ◌∙◌, ℕ, zero, suc, ◌+◌, ◌<◌, ◌≤◌, List, Bool, true, false, Option, Some, None, Result, Ok, Err, refl, sym, ap, subst, arith}
 use Rattle.std.specs.Prelude.{ℤ, ◌&&◌, ◌-◌, ◌↔◌, IsTrue, if◌then◌else◌}
 use Rattle.std.specs.Option.{ok_or}
@@ -26,7 +26,7 @@ window_refused : (o : Option Window) → result_err (ok_or o Bounds) ≡ write_r
 window_refused None = refl
 window_refused (Some w) = refl
 
--- the stack's window is refused where it leaves the stack
+-- A window that may leave the stack is rejected.
 pub stack_refused : (region : Region) (r : Result Window Reason) (low high distance x : ℤ) (size : ℕ) → region ≡ Stack → x ≡ distance → r ≡ ok_or (window_known Stack low high x size) Bounds →
     result_err r ≡ write_refused region (window_known region low high distance size)
 stack_refused region r low high distance x size e f g = rw (g, f, e) (window_refused (window_known Stack low high distance size))
@@ -52,7 +52,7 @@ bytes_each bytes place n e k ge lt =
     let same : place + (k - place) ≡ k = omega arith in
     subst (λ (j : ℕ). byte_at bytes j ≡ true) same (all_each bytes place n (k - place) e (omega arith))
 
--- the test of each cell is the row's
+-- Testing all cells gives the reason of the definition.
 pub bytes_tested : (b : Bool) (bytes : List Bool) (place n : ℕ) → IsTrue b ↔ ((k : ℕ) → place ≤ k → k < place + n → byte_at bytes k ≡ true) → all_bytes bytes place n ≡ b
 bytes_tested b bytes place n tests = by_test (all_bytes bytes place n) b refl refl
   where
@@ -65,19 +65,19 @@ bytes_tested b bytes place n tests = by_test (all_bytes bytes place n) b refl re
 pub stack_checked : (b : Bool) (known : Known) (region : Region) (w : Window) → region ≡ Stack → all_bytes known.bytes w.place w.size ≡ b → (if b then None else Some StackUnset) ≡ unset_in known region w
 stack_checked b known region w e f = rw (e, f) refl
 
--- a load from the stack that finds no pointer
+-- A load from the stack that finds no pointer.
 pub number_from_stack : (known : Known) (size : Size) (w : Window) (b : Bool) → None ≡ spilled known size w → all_bytes known.bytes w.place w.size ≡ b →
     unless (if b then None else Some StackUnset) (loaded_known size) ≡ stack_given known size w
 number_from_stack known size w b e f = ap₂ (λ (o : Option AbsVal) (t : Bool). pointer_or o (unless (if t then None else Some StackUnset) (loaded_known size))) e (sym f)
 
--- the pointer that is found is the base
+-- The pointer that is found is the base.
 pub pointer_found : (base : AbsVal) (region : Region) (offsets : Offsets) → Ok (region, offsets) ≡ pointer_in base → base ≡ Pointer region offsets
 pointer_found Unset region offsets e = absurd cc
 pointer_found (Number numbers) region offsets e = absurd cc
 pointer_found (Pointer other at) region offsets e =
     let same : (region, offsets) ≡ (other, at) = cc in ap (λ (p : Region × Offsets). Pointer p.0 p.1) (sym same)
 
--- a window that leaves its region
+-- A window that may leave its region.
 pub load_out : (known : Known) (size : Size) (region other : Region) (low high distance x : ℤ) (n : ℕ) (reason : Reason) → region ≡ other → x ≡ distance → n ≡ bytes_of size →
     Err reason ≡ ok_or (window_known other low high x n) Bounds → Err reason ≡ load_from known size region (window_known region low high distance (bytes_of size))
 load_out known size region other low high distance x n reason e f g h = rw e (by_window (window_known other low high distance (bytes_of size)) (rw (f, g) at h))
@@ -86,7 +86,7 @@ load_out known size region other low high distance x n reason e f g h = rw e (by
     by_window None k = let same : reason ≡ Bounds = cc in rw same refl
     by_window (Some w) k = absurd cc
 
--- one that lies in it
+-- A window within its region.
 window_there : (o : Option Window) (w : Window) → Ok w ≡ ok_or o Bounds → o ≡ Some w
 window_there None w e = absurd cc
 window_there (Some v) w e = let same : w ≡ v = cc in ap Some (sym same)
@@ -107,7 +107,7 @@ signed_load_out known part base region offsets distance x n reason e f g h = rw 
 
 -- ---- stores
 
--- a pointer is stored, or why it is not
+-- What is known after a pointer is stored, or why it is rejected.
 pub pointer_left : (size : Size) (base value : AbsVal) (found other : Region × Offsets) (x distance : ℤ) (known new : Known) (r : Result (Unit {0}) Reason) →
     Ok found ≡ pointer_in base → value ≡ Pointer other.0 other.1 → x ≡ distance →
     outcome r new ≡ unless (pointer_refused size found.0 found.1 x other.1) (pointer_stored other.0 other.1.0 (window_known found.0 found.1.0 found.1.1 x 8) known) →

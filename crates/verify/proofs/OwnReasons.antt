@@ -1,4 +1,4 @@
--- The reasons of the pass are its own: none is one of structure.
+-- The reasons of the pass are never those of the structure.
 use Rattle.std.proofs.Common.{◌≡◌, ℕ, ◌+◌, List, [], ◌∷◌, Bool, true, false, Option, Some, None, Result, subst}
 use Rattle.std.specs.Prelude.{ℤ, ◌*◌, ◌==◌, if◌then◌else◌}
 use Rattle.std.specs.Option.{option_or}
@@ -36,7 +36,7 @@ abbrev pub Own : Option Reason → Type 0
 Own None = Unit {0}
 Own (Some reason) = IsOwn reason
 
--- ---- checks one after another
+-- ---- checks in order
 
 abbrev EachOwn : List Check → Type 0
 EachOwn [] = Unit {0}
@@ -185,7 +185,7 @@ instruction_own (Branch w condition dst operand distance) a = first_own (compare
 instruction_own Exit a = first_own (exit_checks (known_at a.registers 0)) (tt, (tt, tt))
 instruction_own i a = straight_own i a
 
--- so the reason that is answered is
+-- So is the reason that is returned.
 pub reason_own : (o : Option Reason) (r : Reason) → Some r ≡ o → Own o → IsOwn r
 reason_own None r e h = absurd cc
 reason_own (Some reason) r e h = let same : reason ≡ r = cc in subst (λ (x : Reason). IsOwn x) same h

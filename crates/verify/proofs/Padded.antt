@@ -1,4 +1,4 @@
--- What is kept for the first units, and for those behind them nothing.
+-- The states that are kept for the first units, and nothing for the units after them.
 use Rattle.std.proofs.Common.{◌≡◌, ◌∙◌, ℕ, zero, suc, ◌+◌, ◌-◌, ◌<◌, ◌≤◌, List, [], ◌∷◌, ◌++◌, length, replicate, Option, None, refl, sym, ap, append_assoc, length-append, arith}
 use Rattle.std.specs.Prelude.{slice_set, Box}
 use Rattle.std.specs.declared.alloc.Global.{Global}
@@ -33,13 +33,13 @@ more_unboxed [] more = refl
 more_unboxed (s ∷ states) more = ap (λ (l : KnownSoFar). unboxed s ∷ l) (more_unboxed states more)
 
 module _ (states : Places) (items : KnownSoFar) (units : ℕ) (is : padded units (all_unboxed states) ≡ items) where
-  -- as many as there are units
+  -- There is an entry for each unit.
   pub all_units : length states ≤ units → length items ≡ units
   all_units le =
       sym (ap length is) ∙ (length-append (all_unboxed states) (replicate (units - length (all_unboxed states)) None)
       ∙ omega (arith, length-map states unboxed, length-replicate {A = Option AbsState} (units - length (all_unboxed states)) None))
 
-  -- what is put at a place
+  -- A state is stored at a unit.
   pub put_at : (unit : ℕ) (x : Option (Box AbsState Global)) → unit < length states → padded units (all_unboxed (slice_set states unit x)) ≡ slice_set items unit (unboxed x)
   put_at unit x lt =
       let inside : unit < length (all_unboxed states) = omega (arith, length-map states unboxed) in
@@ -49,13 +49,13 @@ module _ (states : Places) (items : KnownSoFar) (units : ℕ) (is : padded units
       ∙ (sym (set-append_left (all_unboxed states) (replicate (units - length (all_unboxed states)) None) unit (unboxed x) inside)
       ∙ ap (λ (l : KnownSoFar). slice_set l unit (unboxed x)) is))
 
-  -- nothing stands behind
+  -- Nothing is kept for the units after the entries.
   pub none_taken : (unit : ℕ) → length states ≤ unit → items ≡ slice_set items unit None
   none_taken unit le =
       let behind : length (all_unboxed states) ≤ unit = omega (arith, length-map states unboxed) in
       sym (ap (λ (l : KnownSoFar). slice_set l unit None) (sym is) ∙ (set_behind (all_unboxed states) (units - length (all_unboxed states)) unit behind ∙ is))
 
-  -- one place more, right behind
+  -- One more entry, directly after the others.
   pub pushed : (unit : ℕ) (x : Option (Box AbsState Global)) → unit < units → length states ≡ unit → padded units (all_unboxed (states ++ x ∷ [])) ≡ slice_set items unit (unboxed x)
   pushed unit x lt here =
       let known : KnownSoFar = all_unboxed states in
@@ -68,7 +68,7 @@ module _ (states : Places) (items : KnownSoFar) (units : ℕ) (is : padded units
       ∙ (ap (λ (n : ℕ). slice_set (known ++ replicate (suc left) None) n (unboxed x)) long
       ∙ ap (λ (l : KnownSoFar). slice_set l unit (unboxed x)) before))
 
-  -- further places change nothing
+  -- More empty entries change nothing.
   pub further : (more : ℕ) → length states + more ≤ units → padded units (all_unboxed (states ++ replicate more None)) ≡ items
   further more le =
       let known : KnownSoFar = all_unboxed states in

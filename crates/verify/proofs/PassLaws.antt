@@ -1,4 +1,4 @@
--- Laws of the pass as a function: where it comes to, where it stops, and what is judged.
+-- Laws of the pass as a function: what it reaches, where it stops, and what `judged` says.
 use Rattle.std.proofs.Common.{◌≡◌, ◌∙◌, ℕ, zero, suc, ◌+◌, ◌-◌, ◌<◌, ◌≤◌, List, length, arith, refl, sym, ap, ap₂, Option, Some, None, Result, Ok, Err}
 use Rattle.std.specs.Prelude.{pos, replicate, slice_set, IsSome}
 use Rattle.std.proofs.lemmas.List.{length-replicate}
@@ -18,7 +18,7 @@ use Rattle.verify.specs.Passes.{reason_at, ComesThrough, IsFirstFault}
 use Rattle.verify.proofs.Edges.{start_inside}
 use Rattle.verify.proofs.Taken.{length-along}
 
--- the pass opens with the entry
+-- The pass begins with the entry state.
 opens : (program : List Insn) → passed_to program 0 ≡ Ok (along (pos 0, at_entry) (replicate (length (slots_of program)) None))
 unfolding passed_to
 opens program = refl
@@ -37,13 +37,13 @@ length-opens program pending e =
     let same : pending ≡ along (pos 0, at_entry) empty = cc in
     ap (λ (r : KnownSoFar). length r) same ∙ (length-along (pos 0, at_entry) empty ∙ length-replicate (length (slots_of program)) None)
 
--- and goes on from unit to unit
+-- It continues from unit to unit.
 pub goes_on : (program : List Insn) (unit : ℕ) (reached : KnownSoFar) → passed_to program unit ≡ Ok reached →
     passed_to program (suc unit) ≡ passed_at unit (instruction_at program unit) (reached_at reached unit) reached
 unfolding passed_to
 goes_on program unit reached e = ap (passed_on program unit) e
 
--- behind a fault the answer stays
+-- After a fault, the result does not change.
 stays_more : (program : List Insn) (fault : VerifyError) (unit more : ℕ) → passed_to program unit ≡ Err fault → passed_to program (more + unit) ≡ Err fault
 unfolding passed_to
 stays_more program fault unit zero e = let same : 0 + unit ≡ unit = omega arith in ap (passed_to program) same ∙ e
@@ -62,14 +62,14 @@ settled_at : (o : Option Reason) (unit : ℕ) (reached : KnownSoFar) (fault : Ve
 settled_at None unit reached fault e = absurd cc
 settled_at (Some reason) unit reached fault e = (reason, refl, cc)
 
--- a unit that is refused has a reason
+-- A unit that is rejected has a reason.
 refused_at : (unit : ℕ) (o : Option Insn) (known : Option AbsState) (reached : KnownSoFar) (fault : VerifyError) → passed_at unit o known reached ≡ Err fault →
     (reason : Reason) × (reason_at o known ≡ Some reason) × (fault ≡ At reason unit)
 refused_at unit None known reached fault e = absurd cc
 refused_at unit (Some i) None reached fault e = absurd cc
 refused_at unit (Some i) (Some a) reached fault e = settled_at (reason_of i a) unit (along_all (edges i unit a) (slice_set reached unit None)) fault e
 
--- and where there is a reason the unit is refused
+-- A unit that has a reason is rejected.
 stopped_at : (unit : ℕ) (o : Option Insn) (known : Option AbsState) (reached : KnownSoFar) (reason : Reason) → reason_at o known ≡ Some reason → passed_at unit o known reached ≡ Err (At reason unit)
 stopped_at unit None known reached reason e = absurd cc
 stopped_at unit (Some i) None reached reason e = absurd cc
@@ -79,7 +79,7 @@ there_is : (o : Option Insn) (known : Option AbsState) (reason : Reason) → rea
 there_is None known reason e = absurd cc
 there_is (Some i) known reason e = refl
 
--- a fault that the pass answers is the first one
+-- A fault that the pass returns is the first one.
 pub first_fault : (program : List Insn) (fault : VerifyError) (unit : ℕ) → passed_to program unit ≡ Err fault → IsFirstFault program fault
 unfolding passed_to
 first_fault program fault zero e = absurd cc
@@ -91,7 +91,7 @@ first_fault program fault (suc unit) e = by_before (passed_to program unit) refl
         let why = refused_at unit (instruction_at program unit) (reached_at reached unit) reached fault f in
         (unit, why.0, record { reached = reached; comes = comes; stops = why.1 }, why.2)
 
--- the first fault is what the pass answers
+-- The first fault is what the pass returns.
 first_answered : (program : List Insn) (fault : VerifyError) → IsFirstFault program fault → passed_to program (length (slots_of program)) ≡ Err fault
 first_answered program fault h =
     let stop = h.2 in
@@ -101,19 +101,19 @@ first_answered program fault h =
     goes_on program unit stop.reached stop.comes ∙ stopped_at unit (instruction_at program unit) (reached_at stop.reached unit) stop.reached h.1 stop.stops in
     stays program (At h.1 unit) (suc unit) (length (slots_of program)) (omega arith) here ∙ ap (λ (f : VerifyError). Err f) (sym h.3)
 
--- ---- what is judged
+-- ---- what `judged` says
 
 first_is : (o : Option VerifyError) (r : Result KnownSoFar VerifyError) → o ≡ None → first_of o r ≡ result_err r
 first_is None (Ok reached) e = refl
 first_is None (Err fault) e = refl
 first_is (Some fault) r e = absurd cc
 
--- without a structural fault it is what the pass answers
+-- Without a structural fault, `judged` says what the pass returns.
 pub judged_pass : (program : List Insn) → structural_fault program ≡ None → judged program ≡ result_err (passed_to program (length (slots_of program)))
 unfolding judged
 judged_pass program none = first_is (structural_fault program) (passed_to program (length (slots_of program))) none
 
--- a structural fault is judged first
+-- A structural fault is found first.
 pub structural_judged : (program : List Insn) (fault : VerifyError) → structural_fault program ≡ Some fault → judged program ≡ Some fault
 unfolding judged
 structural_judged program fault e = ap (λ (o : Option VerifyError). first_of o (passed_to program (length (slots_of program)))) e
@@ -129,7 +129,7 @@ through_first None (Ok reached) e = (reached, refl)
 through_first None (Err fault) e = absurd cc
 through_first (Some fault) r e = absurd cc
 
--- through a program that has no fault the pass comes
+-- The pass reaches the end of a program without a fault.
 pub judged_through : (program : List Insn) → judged program ≡ None → ComesThrough program
 unfolding judged
 judged_through program e = through_first (structural_fault program) (passed_to program (length (slots_of program))) e
@@ -138,7 +138,7 @@ err_is : (r : Result KnownSoFar VerifyError) (fault : VerifyError) → result_er
 err_is (Ok reached) fault e = absurd cc
 err_is (Err other) fault e = cc
 
--- and a fault that is none of structure is the first one on the pass
+-- A fault that is not structural is the first one of the pass.
 pub judged_first : (program : List Insn) (fault : VerifyError) → structural_fault program ≡ None → judged program ≡ Some fault → IsFirstFault program fault
 judged_first program fault none e =
     first_fault program fault (length (slots_of program)) (err_is (passed_to program (length (slots_of program))) fault (sym (judged_pass program none) ∙ e))

@@ -1,4 +1,4 @@
--- What the pass has reached, as edges are followed: what was described still is, and each edge's end is.
+-- What is reached after edges are followed still describes what it described, and the state at the end of each edge.
 use Rattle.std.proofs.Common.{◌≡◌, ◌∙◌, ◌≢◌, ◌⊎◌, ℕ, ℤ, pos, negsuc, ◌+◌, ◌<◌, ◌≤◌, List, [], ◌∷◌, ◌++◌, length, set, Bool, true, false, Option, Some, None, Result, Ok, Err, IfSome, inl, inr, refl, sym, ap, subst, arith, ⊎_elim, length-set, get_or-set_same, get_or-set_other}
 use Rattle.std.specs.Prelude.{◌+ℤ◌}
 use Rattle.std.proofs.lemmas.Bool.{cases_eq, cases_lt}
@@ -33,14 +33,14 @@ use Rattle.absval.specs.declared.value.AbsVal.TheVariants.{Unset, Number, Pointe
 use Rattle.absval.specs.declared.value.AbsVal.{AbsVal}
 use Rattle.verify.proofs.Taken.{length-along}
 
--- what has been reached is well formed, and describes s at a unit
+-- What is reached is well-formed, and describes s at a unit.
 abbrev pub AreMeant : KnownSoFar → Type 0
 AreMeant reached = (v : ℕ) → IfSome (reached_at reached v) IsMeant
 
 abbrev pub At : KnownSoFar → ℕ → State → Type 0
 At reached unit s = DescribedBy (reached_at reached unit) s
 
--- what was described still is
+-- What was described still is.
 abbrev pub Keeps : KnownSoFar → KnownSoFar → Type 0
 Keeps old new = (v : ℕ) (s : State) → At old v s → At new v s
 
@@ -58,7 +58,7 @@ joined_keeps : (o : Option AbsState) (a : AbsState) (s : State) → IfSome o IsM
 joined_keeps None a s h m d = absurd d
 joined_keeps (Some before) a s h m d = met_right a before s m h d
 
--- what is reached at a unit once an edge leads there
+-- What is reached at a unit after an edge leads there.
 set_here : (reached : KnownSoFar) (u : ℕ) (o : Option AbsState) → u < length reached → reached_at (set reached u o) u ≡ o
 set_here reached u o lt = get_or-set_same reached u o None lt
 
@@ -100,7 +100,7 @@ along_keeps (pos u) a reached all m v s h = ⊎_elim
 
 -- ---- all edges
 
--- the edges' states are well formed
+-- The states of the edges are well-formed.
 abbrev EdgesMeant : List Edge → Type 0
 EdgesMeant [] = Unit {0}
 EdgesMeant (e ∷ es) = IsMeant e.1 × EdgesMeant es
@@ -113,7 +113,7 @@ all_keeps : (es : List Edge) (reached : KnownSoFar) → EdgesMeant es → AreMea
 all_keeps [] reached h all v s k = k
 all_keeps (e ∷ es) reached h all v s k = all_keeps es (along e reached) h.1 (along_meant e.0 e.1 reached all h.0) v s (along_keeps e.0 e.1 reached all h.0 v s k)
 
--- an edge leads to the unit, and what is known along it describes s
+-- An edge leads to the unit, and what is known along it describes s.
 abbrev Leads : List Edge → ℕ → State → Type 0
 Leads [] unit s = ⊥
 Leads (e ∷ es) unit s = ((e.0 ≡ pos unit) × Describes e.1 s) ⊎ Leads es unit s
@@ -155,7 +155,7 @@ edges_meant (LoadSigned part dst base offset) unit a insn m = (follows_meant (Lo
 edges_meant (Store size base offset source) unit a insn m = (follows_meant (Store size base offset source) a insn m, tt)
 edges_meant (Call number) unit a insn m = (follows_meant (Call number) a insn m, tt)
 
--- each state that may follow is at an edge's end, and what is known along the edge describes it
+-- Each state that may follow is at the end of an edge, and what is known along the edge describes it.
 abbrev pub Follow : Insn → ℕ → AbsState → Outcome → Type 0
 Follow i unit a o = LeadsTo (λ t. IsIn (pos t.unit) (leads_to i unit) × Leads (edges i unit a) t.unit t) o
 
@@ -165,7 +165,7 @@ straight_stands i unit a s t e stands =
     let to : t.unit ≡ unit + units_of i = stands.0 ∙ ap (λ (n : ℕ). n + units_of i) e in
     (ap pos to, ap pos (sym to), stands.1)
 
--- what goes on behind itself
+-- The same for an instruction that continues with the next one.
 abbrev Behind : Insn → ℕ → AbsState → Outcome → Type 0
 Behind i unit a o = LeadsTo (λ t. (pos t.unit ≡ pos (unit + units_of i)) × (pos (unit + units_of i) ≡ pos t.unit) × Describes (transfer i a) t) o
 
@@ -192,7 +192,7 @@ jump_follows i unit distance a s e d to there =
 
 -- ---- conditional jumps
 
--- two numbers are compared
+-- Two numbers are compared.
 decided : (e f : AbsVal) (c : Comparison) (x y : Value) → first_reason (compare_checks e f) ≡ None → Contains e x → Contains f y → (t : Bool) × (condition_of c.width c.condition x y ≡ Ok t)
 decided Unset f c x y none p q = absurd cc
 decided (Pointer region o) Unset c x y none p q = absurd cc
@@ -222,7 +222,7 @@ moved_describes : (o : Option AbsState) (s : State) (unit steps : ℕ) → Descr
 moved_describes None s unit steps d = d
 moved_describes (Some a) s unit steps d = record { registers = d.registers; stack = d.stack; size = d.size }
 
--- what may follow a conditional jump
+-- The states that may follow a conditional jump.
 abbrev Branches : Comparison → ℤ → ℕ → AbsState → Outcome → Type 0
 Branches c distance unit a o = LeadsTo (λ t. IsIn (pos t.unit) (pos (unit + 1) ∷ (pos (unit + 1) +ℤ distance) ∷ []) ×
     Leads (edge_to (pos (unit + 1)) (narrowed c false a) ++ edge_to (pos (unit + 1) +ℤ distance) (narrowed c true a)) t.unit t) o
@@ -259,7 +259,7 @@ exits (Number n) s (value.Pointer region o) none p P = absurd p
 
 -- ---- each instruction
 
--- where its jump leads, if it has one
+-- Where the jump of an instruction leads, if it is one.
 abbrev pub Lands : Insn → ℕ → Type 0
 Lands i unit = (z : ℤ) → IsIn z (leads_to i unit) → (to : ℕ) × (z ≡ pos to)
 
@@ -311,7 +311,7 @@ executed_follows (Call number) unit a context relay s insn m none lands setting 
 
 -- ---- a unit is passed
 
--- each state that may follow is described where it stands
+-- Each state that may follow is described at its unit.
 pub unit_leads : (i : Insn) (unit : ℕ) (a : AbsState) (reached : KnownSoFar) (context : List ℕ) (relay : Relay) (s : State) → IsInsn i → AreMeant reached → IsMeant a → reason_of i a ≡ None → Lands i unit →
     ((v : ℕ) → IsIn (pos v) (leads_to i unit) → v < length reached) → IsSetting context relay → s.unit ≡ unit → Describes a s →
     LeadsTo (λ t. IsIn (pos t.unit) (leads_to i unit) × At (along_all (edges i unit a) reached) t.unit t) (executed context relay i s)

@@ -1,4 +1,4 @@
--- What flows along an edge where registers hold numbers.
+-- What is known along an edge if registers hold numbers.
 use Rattle.std.proofs.Common.{◌≡◌, ◌≢◌, ◌∙◌, ℕ, ◌<◌, List, [], ◌∷◌, ◌++◌, length, set, arith, refl, Bool, true, false, Option, Some, None, length-set}
 use Rattle.std.specs.Prelude.{ℤ, pos, ◌==◌, if◌then◌else◌, option_map, IfSome}
 use Rattle.std.specs.Int.{w64, cast_unsigned}
@@ -22,7 +22,7 @@ use Rattle.absval.proofs.NumberRows.{AreNumbers}
 use Rattle.absval.specs.declared.value.AbsVal.TheVariants.{Unset, Number, Pointer}
 use Rattle.absval.specs.declared.value.AbsVal.{AbsVal}
 
--- an edge of the instruction: what is no number along it was none before, and was not written
+-- Along an edge, a register that is not known to hold a number was not before, and was not written.
 pub record EdgeFine (i : Insn) (unit : ℕ) (known : List AbsVal) (e : Edge) : Type 0 where
   pub edge : IsIn e.0 (leads_to i unit)
   pub size : length e.1.registers ≡ 11
@@ -32,7 +32,7 @@ abbrev pub EdgesFine : Insn → ℕ → List AbsVal → List Edge → Type 0
 EdgesFine i unit known [] = Unit {0}
 EdgesFine i unit known (e ∷ es) = EdgeFine i unit known e × EdgesFine i unit known es
 
--- a number is put into a register
+-- A number is written to a register.
 pub put_number : (known : List AbsVal) (dst r : ℕ) (e : AbsVal) → length known ≡ 11 → dst < 11 → is_number e ≡ true → number_at (set known dst e) r ≡ false →
     (r ≢ dst) × (number_at known r ≡ false)
 put_number known dst r e size lt h =
@@ -54,7 +54,7 @@ same_edge i unit z a size edge none = record { edge = edge; size = size; blank =
 
 -- ---- conditional jumps
 
--- nothing is lost where registers are narrowed
+-- Narrowing registers loses nothing.
 abbrev pub Narrows : List AbsVal → Option (List AbsVal) → Type 0
 Narrows known o = IfSome o (λ left. (length left ≡ 11) × ((r : ℕ) → r < 11 → number_at left r ≡ false → number_at known r ≡ false))
 

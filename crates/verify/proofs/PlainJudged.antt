@@ -1,4 +1,4 @@
--- In a plain program the function finds no fault: each register that is read is known to hold a number.
+-- `judged` finds no fault in a plain program: each register that is read is known to hold a number.
 use Rattle.std.proofs.Common.{◌≡◌, ◌∙◌, ℕ, zero, suc, ◌<◌, List, [], ◌∷◌, length, arith, refl, sym, ap, subst, false, Option, Some, None, Result, Ok, ⊎_elim, length-set}
 use Rattle.std.specs.Prelude.{ℤ, pos, replicate, slice_set, IfSome}
 use Rattle.std.specs.List.{AllByRecursion}
@@ -30,7 +30,7 @@ use Rattle.verify.proofs.PlainRuns.{instruction_runs}
 use Rattle.absval.specs.declared.value.AbsVal.TheVariants.{Unset}
 use Rattle.absval.specs.declared.value.AbsVal.{AbsVal}
 
--- what is no number at a unit is unwritten on some path there
+-- A register that is not known to hold a number at a unit is unwritten on some path there.
 record FineAt (program : List Insn) (unit : ℕ) (a : AbsState) : Type 0 where
   size : length a.registers ≡ 11
   blank : (r : ℕ) → r < 11 → number_at a.registers r ≡ false → Unwritten program r unit
@@ -133,7 +133,7 @@ plain_passed program plain well some (suc unit) =
     let step = unit_passed program unit (instruction_at program unit) (reached_at before.0 unit) before.0 plain well before.2 refl (before_fine program before.0 unit before.2) in
     (step.0, ap (passed_on program unit) before.1 ∙ step.1, step.2)
 
--- a plain program is judged to have no fault
+-- `judged` finds no fault in a plain program.
 pub plain_judged : (program : List Insn) → AllByRecursion IsInsn program → IsPlain program → judged program ≡ None
 unfolding judged
 plain_judged program well plain =

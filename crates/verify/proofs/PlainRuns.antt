@@ -1,4 +1,4 @@
--- An instruction of numbers that reads numbers runs.
+-- An instruction that uses only numbers is accepted.
 use Rattle.std.proofs.Common.{◌≡◌, inl, inr, ℕ, ◌+◌, ◌<◌, [], ◌∷◌, length, arith, refl, sym, true, false, Some, None}
 use Rattle.std.specs.Prelude.{pos, ◌+ℤ◌}
 use Rattle.insn.specs.declared.insn.Insn.{Insn}
@@ -24,7 +24,7 @@ pub only_one : (r dst : ℕ) → IsIn r (dst ∷ []) → r ≡ dst
 only_one r dst (inl e) = e
 only_one r dst (inr h) = absurd h
 
--- an instruction of numbers that reads numbers runs
+-- An instruction that uses only numbers is accepted.
 pub instruction_runs : (i : Insn) (unit : ℕ) (a : AbsState) → IsOfNumbers i → (IsIn 10 (writes i) → ⊥) → IsInsn i → AllKnown (reads i) a.registers → length a.registers ≡ 11 → Runs i unit a
 instruction_runs (Arithmetic w operation dst operand) unit a plain frame well all size =
     let lt : dst < 11 = omega (arith, well.0) in

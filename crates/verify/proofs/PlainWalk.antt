@@ -11,7 +11,7 @@ use Rattle.verify.specs.Forward.{LeadsForward, IsForward}
 use Rattle.verify.proofs.Edges.{first_fault-none, target_clear}
 use Rattle.verify.proofs.Walk.{IsRest, rest_next, rest_first}
 
--- an instruction that leads forward has no fault
+-- An instruction whose edges lead forward has no fault.
 jumps_clear : (program : List Insn) (unit : ℕ) (i : Insn) → LeadsForward program unit i → first_fault (jump_checks program unit i) ≡ None
 jumps_clear program unit (Arithmetic width operation dst operand) forward = refl
 jumps_clear program unit (Negate width dst) forward = refl
@@ -43,7 +43,7 @@ last_clear (i ∷ j ∷ is) unit ends = last_clear (j ∷ is) (unit + units_of i
 pub plain_forward : (program : List Insn) → IsPlain program → IsForward program
 plain_forward program plain = record { edges = λ unit i at z e. plain.forward unit i z at e }
 
--- a plain program has no structural fault
+-- A plain program has no structural fault.
 pub structure_of_plain : (program : List Insn) → IsPlain program → structural_fault program ≡ None
 structure_of_plain program plain =
     first_fault-none (checks_from program 0 program) (last_checks 0 program)

@@ -5,7 +5,7 @@ use Rattle.insn.specs.declared.insn.Insn.TheVariants.{Arithmetic, Negate, SignEx
 use Rattle.insn.specs.Insn.{units_of}
 use Rattle.insn.specs.Program.{slots_of, joined, instruction_at}
 
--- an instruction takes one unit or two
+-- An instruction has one unit or two.
 units_cases : (i : Insn) → (units_of i ≡ 1) ⊎ (units_of i ≡ 2)
 units_cases (Arithmetic width operation dst operand) = inl refl
 units_cases (Negate width dst) = inl refl
@@ -21,18 +21,18 @@ units_cases (Store size base offset source) = inl refl
 units_cases (Call helper) = inl refl
 units_cases Exit = inl refl
 
--- what is at a unit where the first instruction takes so many
+-- What is at a unit if the first instruction has this number of units.
 sized : (j : Insn) (is : List Insn) (n v : ℕ) → units_of j ≡ n → instruction_at (j ∷ is) v ≡ joined (slice_get (Some j ∷ (replicate (n - 1) None ++ slots_of is)) v)
 sized j is n v e = ap (λ (m : ℕ). joined (slice_get (Some j ∷ (replicate (m - 1) None ++ slots_of is)) v)) e
 
--- behind the first instruction stand the others
+-- After the first instruction come the others.
 pub at_later : (j : Insn) (is : List Insn) (v : ℕ) → instruction_at (j ∷ is) (v + units_of j) ≡ instruction_at is v
 at_later j is v = ⊎_elim
     (λ e. let one : v + units_of j ≡ suc v = omega arith in ap (λ (u : ℕ). instruction_at (j ∷ is) u) one ∙ sized j is 1 (suc v) e)
     (λ e. let two : v + units_of j ≡ suc (suc v) = omega arith in ap (λ (u : ℕ). instruction_at (j ∷ is) u) two ∙ sized j is 2 (suc (suc v)) e)
     (units_cases j)
 
--- an instruction is the first one or stands behind it
+-- An instruction is the first one, or comes after it.
 abbrev pub IsFoundAt : Insn → List Insn → ℕ → Insn → Type 0
 IsFoundAt j is v i = ((v ≡ 0) × (j ≡ i)) ⊎ ((w : ℕ) × (v ≡ w + units_of j) × (instruction_at is w ≡ Some i))
 
@@ -54,7 +54,7 @@ abbrev pub counted_at : ℕ → ℕ
 counted_at zero = 1
 counted_at (suc unit) = 0
 
--- how many instructions start at the unit or behind it
+-- The number of instructions that start at the unit or after it.
 abbrev pub left : List Insn → ℕ → ℕ
 left [] unit = 0
 left (i ∷ is) unit = counted_at unit + left is (unit - units_of i)
@@ -69,7 +69,7 @@ counted-later : (u v : ℕ) → u < v → counted_at v ≡ 0
 counted-later u zero lt = absurd (omega arith)
 counted-later u (suc v) lt = refl
 
--- further on there are no more
+-- Later there are no more of them.
 pub left-le : (is : List Insn) (u v : ℕ) → u ≤ v → left is v ≤ left is u
 left-le [] u v le = omega arith
 left-le (i ∷ is) u v le =
@@ -78,7 +78,7 @@ left-le (i ∷ is) u v le =
     let here : counted_at v ≤ counted_at u = counted-le u v le in
     omega arith
 
--- behind an instruction there is one less
+-- After an instruction there is one fewer.
 pub left-falls : (is : List Insn) (u v : ℕ) (i : Insn) → instruction_at is u ≡ Some i → u < v → left is v + 1 ≤ left is u
 left-falls [] u v i at lt = absurd (cc)
 left-falls (j ∷ is) u v i at lt = ⊎_elim
@@ -101,7 +101,7 @@ left-falls (j ∷ is) u v i at lt = ⊎_elim
         let rest : left is (v - units_of j) + 1 ≤ left is w = falls (v - units_of j) (omega arith) in
         omega arith
 
--- there are no more than all
+-- There are at most as many as the program has.
 pub left-bound : (is : List Insn) (unit : ℕ) → left is unit ≤ length is
 left-bound [] unit = omega arith
 left-bound (i ∷ is) zero = let rest : left is (0 - units_of i) ≤ length is = left-bound is (0 - units_of i) in omega arith

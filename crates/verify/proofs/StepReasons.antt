@@ -1,4 +1,4 @@
--- A store: one check after the other, and what is stored.
+-- A store: its checks in order, and what is stored.
 use Rattle.std.proofs.Common.{◌≡◌, ◌∙◌, ℕ, List, [], ◌∷◌, Bool, true, false, Option, Some, None, Ok, Err, refl, sym, ap}
 use Rattle.std.specs.Prelude.{ℤ, Result, ◌==◌, if◌then◌else◌, slice_set}
 use Rattle.std.specs.Result.{result_err, result_ok}
@@ -29,11 +29,11 @@ set_next Unset next h = absurd cc
 set_next (Number n) next h = refl
 set_next (Pointer region at) next h = refl
 
--- behind one that is set the next reason stands
+-- After a value that is set, the next reason remains.
 pub set_passes : (a b : AbsVal) (next : Option Reason) → a ≡ b → None ≡ first_reason (unset_check a) → next ≡ unset_or b next
 set_passes a b next same h = set_next a next h ∙ ap (λ (x : AbsVal). unset_or x next) same
 
--- what is stored, or why it is not
+-- What is known after a store, or why it is rejected.
 pub value_left : (size : Size) (base value : AbsVal) (x offset : ℤ) (known new : Known) (r : Result (Unit {0}) Reason) → x ≡ offset →
     None ≡ first_reason (unset_check base) → None ≡ first_reason (unset_check value) → outcome r new ≡ unless (store_refused size base x value) (stored size base x value known) →
     outcome r new ≡ unless (unset_or base (unset_or value (store_refused size base offset value))) (stored size base offset value known)
@@ -43,7 +43,7 @@ value_left size base value x offset known new r f set also h =
     ∙ ap (λ (o : Option Reason). unless o (stored size base offset value known))
     (set_passes value value why refl also ∙ set_passes base base (unset_or value why) refl set))
 
--- the same of all that is known
+-- The same with what is known of each register.
 pub store_left : (size : Size) (base pointer value operand : AbsVal) (x offset : ℤ) (a : AbsState) (r : Result (Unit {0}) Reason) (new : Known) → base ≡ pointer → value ≡ operand → x ≡ offset →
     outcome r new ≡ unless (unset_or base (unset_or value (store_refused size base x value))) (stored size base x value a.stack) →
     outcome r (record a { stack = new }) ≡ unless (unset_or pointer (unset_or operand (store_refused size pointer offset operand))) (record a { stack = stored size pointer offset operand a.stack })
@@ -52,7 +52,7 @@ store_left size base pointer value operand x offset a r new e g f h =
     lifted (λ (known : Known). record a { stack = known }) r why new (stored size pointer offset operand a.stack)
     (h ∙ (λ i. unless (unset_or (e i) (unset_or (g i) (store_refused size (e i) (f i) (g i)))) (stored size (e i) (f i) (g i) a.stack)))
 
--- a number that the instruction holds
+-- The same for an immediate number.
 pub number_left : (size : Size) (base known value : AbsVal) (found : Region × Offsets) (x offset n : ℤ) (a : AbsState) (r : Result (Unit {0}) Reason) (new : Known) → base ≡ known → value ≡ immediate_known n →
     Ok found ≡ pointer_in base → x ≡ offset →
     outcome r new ≡ unless (write_refused found.0 (window_known found.0 found.1.0 found.1.1 x (bytes_of size))) (number_stored (bytes_of size) (window_known found.0 found.1.0 found.1.1 x (bytes_of size)) a.stack) →
@@ -64,7 +64,7 @@ number_left size base known value found x offset n a r new e v p f h =
 
 -- ---- loads
 
--- r10 is not written
+-- r10 is not written.
 frame_passes : (dst : ℕ) (next : Option Reason) → None ≡ first_reason (write_checks dst) → next ≡ frame_or dst next
 frame_passes dst next h = by_test (dst == 10) h
   where
@@ -72,7 +72,7 @@ frame_passes dst next h = by_test (dst == 10) h
     by_test false h = refl
     by_test true h = absurd cc
 
--- what is taken, or why it is not
+-- The value that a register gets, or why it gets none.
 taken : (r : Result (Unit {0}) Reason) (value : AbsVal) (given : Result AbsVal Reason) (dst : ℕ) (a : AbsState) → outcome r value ≡ given →
     outcome r (assigned a dst (Some value)) ≡ unless (result_err given) (assigned a dst (result_ok given))
 taken (Ok u) value (Ok other) dst a h = let same : value ≡ other = cc in ap (λ (v : AbsVal). Ok (assigned a dst (Some v))) same

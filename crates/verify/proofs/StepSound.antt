@@ -1,4 +1,4 @@
--- An instruction that may run goes on behind itself, from each state that is described to one that is.
+-- An accepted instruction continues with the next one, from each described state to a described one.
 use Rattle.std.proofs.Common.{◌≡◌, ◌∙◌, ℕ, ℤ, ◌+◌, ◌^◌, ◌<◌, [], ◌∷◌, length, Bool, true, false, Option, Some, None, Result, Ok, Err, IfOk, refl, sym, subst, arith, length-set}
 use Rattle.std.specs.Prelude.{◌==◌, if◌then◌else◌, is_none, slice_set, FitsSigned, pos, negsuc}
 use Rattle.std.specs.Int.{w32, w64, cast_unsigned}
@@ -48,7 +48,7 @@ use Rattle.verify.proofs.CallRows.{call_goes, call_well, behind_flags}
 use Rattle.absval.specs.declared.value.AbsVal.TheVariants.{Unset, Number, Pointer}
 use Rattle.absval.specs.declared.value.AbsVal.{AbsVal}
 
--- eleven registers, whose numbers are sets, and 512 cells
+-- Eleven registers whose numbers are sets, and 512 cells.
 pub record IsMeant (a : AbsState) : Type 0 where
   pub count : length a.registers ≡ 11
   pub well : AllWell a.registers
@@ -129,7 +129,7 @@ assigned_meant a dst None m h = m
 assigned_meant a dst (Some e) m h =
     record { count = length-set a.registers dst e ∙ m.count; well = all_set a.registers dst e m.well h; flags = m.flags }
 
--- a load that is not refused gives something
+-- A load that is not rejected has a result.
 some_given : (r : Result AbsVal Reason) → result_err r ≡ None → is_none (result_ok r) ≡ false
 some_given (Ok e) h = refl
 some_given (Err reason) h = cc

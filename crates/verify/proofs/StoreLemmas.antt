@@ -1,4 +1,4 @@
--- What stores leave.
+-- What is known after stores.
 use Rattle.std.proofs.Common.{◌≡◌, ◌∙◌, ℕ, zero, suc, ◌+◌, ◌≤◌, List, map, length, Result, Ok, Err, refl, sym, ap, subst, arith}
 use Rattle.std.specs.Prelude.{ℤ, ◌≤ℤ◌, ◌+ℤ◌}
 use Rattle.std.proofs.lemmas.Int.{ints}
@@ -35,7 +35,7 @@ pub length-low : (from size n : ℕ) → length (map Byte (bytes_low_first from 
 length-low from zero n = refl
 length-low from (suc size) n = ap suc (length-low (suc from) size n)
 
--- a store at each place of the window that its pointer may name leaves what is known
+-- What is known describes the stack after a store at each place that the pointer may mean.
 pub stores_lead : (known : Known) (region : Region) (low high distance : ℤ) (first total size : ℕ) (cells : List Cell) (p v : Value) → region ≡ Stack → IsPointerIn region low high p →
     Lies Stack low high distance first total size →
     ((at : ℕ) → first ≤ at → at + size ≤ first + total → Leads known (given (cells_of size v) (λ new. Ok (overwritten cells at new)))) →
@@ -50,7 +50,7 @@ stores_lead known region low high distance first total size cells (value.Pointer
     by_window (Ok at) h = leads at h.0 h.1
     by_window (Err cause) h = absurd h
 
--- bytes that are stored in a stack of 512 cells
+-- Bytes are stored in a stack of 512 cells.
 pub bytes_lead : (known : Known) (cells : List Cell) (at size n : ℕ) → length cells ≡ 512 → at + size ≤ 512 →
     ((new : List Cell) → AreBytes new → length new ≡ size → StackDescribes known (overwritten cells at new)) →
     Leads known (given (cells_of size (value.Number n)) (λ new. Ok (overwritten cells at new)))
@@ -62,7 +62,7 @@ bytes_lead known cells at size n long fits holds =
 one_between : (low high o : ℤ) → low ≡ high → low ≤ℤ o → o ≤ℤ high → low ≡ o
 one_between low high o e p q = omega (arith, ints)
 
--- a pointer that is stored there
+-- A pointer is stored there.
 pub pieces_lead : (known : Known) (cells : List Cell) (at : ℕ) (region : Region) (low high : ℤ) (v : Value) → low ≡ high → length cells ≡ 512 → at + 8 ≤ 512 → IsPointerIn region low high v →
     StackDescribes known (overwritten cells at (pieces_of region low)) → Leads known (given (cells_of 8 v) (λ new. Ok (overwritten cells at new)))
 pieces_lead known cells at region low high value.Unset e long fits p holds = absurd p
@@ -73,14 +73,14 @@ pieces_lead known cells at region low high (value.Pointer other o) e long fits p
     subst (λ (reg : Region). StackDescribes known (overwritten cells at (pieces_of reg o)) × (length (overwritten cells at (pieces_of reg o)) ≡ 512)) (sym p.0)
     (subst (λ (z : ℤ). StackDescribes known (overwritten cells at (pieces_of region z))) same holds, length-overwritten cells (pieces_of region o) at room ∙ long)
 
--- where a number is stored, its range does not matter
+-- If a number is stored, its range does not matter.
 pub number_lead : (known : Known) (numbers : NumberSet) (cells : List Cell) (size : ℕ) (p v : Value) (distance : ℤ) → IsNumberOf numbers v → ((n : ℕ) → Leads known (stored cells size p distance (value.Number n))) →
     Leads known (stored cells size p distance v)
 number_lead known numbers cells size p value.Unset distance h leads = absurd h
 number_lead known numbers cells size p (value.Number n) distance h leads = leads n
 number_lead known numbers cells size p (value.Pointer region o) distance h leads = absurd h
 
--- the program goes on behind a store
+-- The program continues after a store.
 pub store_goes : (a : AbsState) (s : State) (r : Result (List Cell) Cause) → RegistersDescribe a.registers s.registers → Leads a.stack r → GoesOn a (s.unit + 1) (changed s r)
 store_goes a s (Ok cells) d h = (refl, record { registers = d; stack = h.0; size = h.1 })
 store_goes a s (Err cause) d h = absurd h

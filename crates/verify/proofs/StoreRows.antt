@@ -1,4 +1,4 @@
--- The rows of stores: where a store is not refused it is made, and what is left is as is known.
+-- A store that is not rejected succeeds, and what is known afterwards is true.
 use Rattle.std.proofs.Common.{◌≡◌, ◌∙◌, ℕ, ℤ, ◌+◌, ◌≤◌, List, length, Bool, true, false, Option, Some, None, IfSome, refl, sym, subst, arith}
 use Rattle.std.specs.Prelude.{◌==◌, if◌then◌else◌}
 use Rattle.std.specs.Ordering.{int_eq}
@@ -33,7 +33,7 @@ use Rattle.absmem.proofs.StackRows.{put_described, spread_described, pointer_des
 use Rattle.absval.specs.declared.value.AbsVal.TheVariants.{Unset, Number, Pointer}
 use Rattle.absval.specs.declared.value.AbsVal.{AbsVal}
 
--- a window that may be written lies in the stack
+-- A window that may be written is within the stack.
 abbrev pub Written : Region → Option Window → Type 0
 Written region o = (region ≡ Stack) × (w : Window) × (o ≡ Some w)
 

@@ -1,4 +1,4 @@
--- The code passes an instruction that goes on behind itself as the function does.
+-- The code treats an instruction that continues with the next one as the definition does.
 use Rattle.std.proofs.Common.{◌≡◌, ◌∙◌, ℕ, ◌+◌, [], ◌∷◌, refl, sym, ap, ap₂, List, Option, Ok, Err}
 use Rattle.std.specs.Prelude.{pos}
 use Rattle.insn.specs.declared.insn.Insn.{Insn}
@@ -13,7 +13,7 @@ use Rattle.verify.specs.Transfer.{Edge, edges, transfer, stepped}
 use Rattle.verify.specs.Judgement.{KnownSoFar, along, along_all, settled, followed}
 use Rattle.verify.proofs.CallChecks.{refused_for, accepted_with}
 
--- it has one edge, and the reason of all instructions
+-- The instruction has one edge, and its reason is the general one.
 abbrev OnlyOne : Insn → ℕ → AbsState → Type 0
 OnlyOne i unit a = (edges i unit a ≡ (pos (unit + units_of i), transfer i a) ∷ []) × ((b : AbsState) → reason_of i b ≡ straight_reason i b)
 
@@ -38,14 +38,14 @@ straight_settled i unit a reached s =
     let one = only_one i unit a s in
     ap₂ (λ (o : Option Reason) (es : List Edge). settled o unit (along_all es reached)) (one.1 a) one.0
 
--- it may not run
+-- The instruction is rejected.
 pub straight_stops : (i : Insn) (unit : ℕ) (a b : AbsState) (reached : KnownSoFar) (reason : Reason) → IsStraight i → outcome (Err reason) b ≡ stepped i a →
     followed unit i a reached ≡ Err (At reason unit)
 straight_stops i unit a b reached reason s e =
     straight_settled i unit a reached s
     ∙ ap (λ (o : Option Reason). settled o unit (along (pos (unit + units_of i), transfer i a) reached)) (refused_for (Err reason) (straight_reason i a) reason b (transfer i a) refl e)
 
--- it runs, and what it leaves flows on
+-- The instruction is accepted, and what is known after it is passed on.
 pub straight_runs : (i : Insn) (unit to : ℕ) (a b : AbsState) (u : Unit {0}) (old new : KnownSoFar) → IsStraight i → outcome (Ok u) b ≡ stepped i a → to ≡ unit + units_of i →
     new ≡ along (pos to, b) old → followed unit i a old ≡ Ok new
 straight_runs i unit to a b u old new s e there h =

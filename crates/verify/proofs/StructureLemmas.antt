@@ -1,4 +1,4 @@
--- The structural pass against the lists of checks.
+-- The checks of the structure, as lists of checks.
 use Rattle.std.proofs.Common.{◌<◌, get_or, ◌≡◌, ℕ, zero, suc, ◌+◌, List, [], ◌∷◌, ◌++◌, Option, Some, None, Bool, true, false, refl, sym, ap, ◌∙◌, length, slice_get, if◌then◌else◌, arith}
 use Rattle.std.specs.Prelude.{is_some}
 use Rattle.insn.specs.declared.insn.Insn.{Insn}
@@ -11,7 +11,7 @@ use Rattle.verify.specs.declared.error.VerifyError.TheVariants.{At}
 use Rattle.verify.specs.declared.reason.Reason.TheVariants.{LastNotExit}
 use Rattle.verify.specs.Structure.{Check, first_fault, jump_checks, checks_at, checks_from, last_checks, is_exit, structural_fault}
 
--- a fault of the first checks comes before all others
+-- A fault of the first checks comes before all others.
 pub first_fault-append_some : (checks more : List Check) (fault : VerifyError) → first_fault checks ≡ Some fault → first_fault (checks ++ more) ≡ Some fault
 first_fault-append_some [] more fault e = absurd (cc)
 first_fault-append_some (check ∷ checks) more fault e = by_test check.0 (λ h. first_fault-append_some checks more fault h) e
@@ -21,7 +21,7 @@ first_fault-append_some (check ∷ checks) more fault e = by_test check.0 (λ h.
     by_test true ih h = h
     by_test false ih h = ih h
 
--- where the first checks have no fault, the others decide
+-- If the first checks find no fault, the others decide.
 pub first_fault-append_none : (checks more : List Check) → first_fault checks ≡ None → first_fault (checks ++ more) ≡ first_fault more
 first_fault-append_none [] more e = refl
 first_fault-append_none (check ∷ checks) more e = by_test check.0 (λ h. first_fault-append_none checks more h) e
@@ -31,7 +31,7 @@ first_fault-append_none (check ∷ checks) more e = by_test check.0 (λ h. first
     by_test true ih h = absurd (cc)
     by_test false ih h = ih h
 
--- the last check is that of the last instruction, at the unit where it starts
+-- The last check is the one of the last instruction, at the unit where it starts.
 pub last_checks-at : (is : List Insn) (from k unit : ℕ) (i : Insn) → suc k ≡ length is → slice_get (starts_of from is) k ≡ Some unit → slice_get is k ≡ Some i →
     last_checks from is ≡ (if is_exit i then false else true, At LastNotExit unit) ∷ []
 last_checks-at [] from k unit i e s at = absurd (omega arith)
@@ -45,7 +45,7 @@ last_checks-at (j ∷ l ∷ is) from (suc k) unit i e s at =
     let f : suc k ≡ length (l ∷ is) = omega arith in
     last_checks-at (l ∷ is) (from + units_of j) k unit i f s at
 
--- a last instruction that is the exit has no fault
+-- If the last instruction is the exit, it has no fault.
 pub last_is_exit : (is : List Insn) (k : ℕ) (i : Insn) → suc k ≡ length is → i ≡ get_or is k i → is_exit i ≡ true → None ≡ first_fault (last_checks 0 is)
 last_is_exit is k i e at exit =
     let lt : k < length is = omega arith in
@@ -53,7 +53,7 @@ last_is_exit is k i e at exit =
     let checks = last_checks-at is 0 k (get_or (starts_of 0 is) k 0) i e (slice_get-get_or (starts_of 0 is) k 0 starts) (slice_get_read is (length is) k i refl lt at) in
     sym (ap first_fault checks ∙ ap (λ (b : Bool). first_fault ((if b then false else true, At LastNotExit (get_or (starts_of 0 is) k 0)) ∷ [])) exit)
 
--- any other has its own
+-- Any other last instruction has this fault.
 pub last_is_other : (is : List Insn) (k unit : ℕ) (i : Insn) → suc k ≡ length is → i ≡ get_or is k i → is_exit i ≡ false → slice_get (starts_of 0 is) k ≡ Some unit →
     Some (At LastNotExit unit) ≡ first_fault (last_checks 0 is)
 last_is_other is k unit i e at other start =
@@ -61,18 +61,18 @@ last_is_other is k unit i e at other start =
     let checks = last_checks-at is 0 k unit i e start (slice_get_read is (length is) k i refl lt at) in
     sym (ap first_fault checks ∙ ap (λ (b : Bool). first_fault ((if b then false else true, At LastNotExit unit) ∷ [])) other)
 
--- a fault of the jumps is that of the program
+-- A fault of the jumps is the program's fault.
 pub jumps_some : (program : List Insn) (answer : Option VerifyError) (fault : VerifyError) → answer ≡ first_fault (checks_from program 0 program) → answer ≡ Some fault → Some fault ≡ structural_fault program
 jumps_some program answer fault e some = sym (first_fault-append_some (checks_from program 0 program) (last_checks 0 program) fault (sym e ∙ some))
 
--- else that of its last instruction
+-- Otherwise the fault of the last instruction is.
 pub jumps_none : (program : List Insn) (answer last : Option VerifyError) → answer ≡ first_fault (checks_from program 0 program) → answer ≡ None → last ≡ first_fault (last_checks 0 program) →
     last ≡ structural_fault program
 jumps_none program answer last e none f = f ∙ sym (first_fault-append_none (checks_from program 0 program) (last_checks 0 program) (sym e ∙ none))
 
 -- ---- index by index
 
--- the checks of the instructions from an index on
+-- The checks of the instructions from an index on.
 abbrev pub rest_at : List Insn → ℕ → List Insn → ℕ → List Check
 rest_at program unit is zero = checks_from program unit is
 rest_at program unit [] (suc index) = []
@@ -87,7 +87,7 @@ rest_end : (program is : List Insn) (unit : ℕ) → rest_at program unit is (le
 rest_end program [] unit = refl
 rest_end program (i ∷ is) unit = rest_end program is (unit + units_of i)
 
--- they are those of the unit at which it starts
+-- They are those from the unit where the instruction starts.
 pub checks_here : (program is : List Insn) (from k unit : ℕ) (i : Insn) → k < length is → slice_get (starts_of from is) k ≡ Some unit → slice_get is k ≡ Some i →
     checks_at program from is k ≡ jump_checks program unit i
 checks_here program [] from k unit i lt s at = absurd (omega arith)
@@ -97,7 +97,7 @@ checks_here program (j ∷ is) from zero unit i lt s at =
     rw (u, same) refl
 checks_here program (j ∷ is) from (suc k) unit i lt s at = checks_here program is (from + units_of j) k unit i (omega arith) s at
 
--- which is one of the program
+-- This is a unit of the program.
 pub start_inside : (is : List Insn) (from k unit : ℕ) → k < length is → slice_get (starts_of from is) k ≡ Some unit → unit < from + length (slots_of is)
 start_inside [] from k unit lt s = absurd (omega arith)
 start_inside (i ∷ is) from zero unit lt s =
@@ -106,13 +106,13 @@ start_inside (i ∷ is) from zero unit lt s =
 start_inside (i ∷ is) from (suc k) unit lt s =
     omega (arith, start_inside is (from + units_of i) k unit (omega arith) s, length-slots_of-cons i is)
 
--- the fault of an instruction at its unit is that of its index
+-- The fault of an instruction at its unit is that of its index.
 pub fault_at_unit : (program : List Insn) (k unit : ℕ) (i : Insn) (answer : Option VerifyError) → k < length program → i ≡ get_or program k i → slice_get (starts_of 0 program) k ≡ Some unit →
     answer ≡ first_fault (jump_checks program unit i) → answer ≡ first_fault (checks_at program 0 program k)
 fault_at_unit program k unit i answer lt at start e =
     e ∙ ap first_fault (sym (checks_here program program 0 k unit i lt start (slice_get_read program (length program) k i refl lt at)))
 
--- what is no jump has none
+-- An instruction that is not a jump has no fault.
 pub no_fault : (program : List Insn) (k : ℕ) (i : Insn) → k < length program → i ≡ get_or program k i → ((unit : ℕ) → jump_checks program unit i ≡ []) →
     false ≡ is_some (first_fault (checks_at program 0 program k))
 no_fault program k i lt at none =
@@ -120,7 +120,7 @@ no_fault program k i lt at none =
     let unit : ℕ = get_or (starts_of 0 program) k 0 in
     sym (ap (λ (checks : List Check). is_some (first_fault checks)) (checks_here program program 0 k unit i lt (slice_get-get_or (starts_of 0 program) k 0 starts) (slice_get_read program (length program) k i refl lt at) ∙ none unit))
 
--- the first fault of those from an index on
+-- The first fault of the instructions from an index on.
 pub fault_found : (program : List Insn) (k : ℕ) (answer whole : Option VerifyError) → k < length program → whole ≡ first_fault (rest_at program 0 program k) →
     answer ≡ first_fault (checks_at program 0 program k) → is_some answer ≡ true → answer ≡ whole
 fault_found program k None whole lt same e some = absurd cc
@@ -128,7 +128,7 @@ fault_found program k (Some fault) whole lt same e some =
     sym (same ∙ (ap first_fault (rest_step program program 0 k lt)
     ∙ first_fault-append_some (checks_at program 0 program k) (rest_at program 0 program (suc k)) fault (sym e)))
 
--- behind an instruction without one it is that of those further on
+-- If an instruction has no fault, it is the first fault of the later ones.
 is_none_at : (o : Option VerifyError) → false ≡ is_some o → o ≡ None
 is_none_at None e = refl
 is_none_at (Some fault) e = absurd cc
@@ -141,6 +141,6 @@ fault_further program k whole lt same none =
     ∙ (first_fault-append_none (checks_at program 0 program k) (rest_at program 0 program (suc k)) (is_none_at (first_fault (checks_at program 0 program k)) none)
     ∙ ap (λ (n : ℕ). first_fault (rest_at program 0 program n)) next))
 
--- behind the last there is none
+-- After the last instruction there is no fault.
 pub no_further : (program : List Insn) (k : ℕ) (whole : Option VerifyError) → k ≡ length program → whole ≡ first_fault (rest_at program 0 program k) → None ≡ whole
 no_further program k whole end same = sym (same ∙ ap (λ (n : ℕ). first_fault (rest_at program 0 program n)) end ∙ ap first_fault (rest_end program program 0))

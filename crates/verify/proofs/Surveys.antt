@@ -1,4 +1,4 @@
--- What is known at the first units of a program, one unit more.
+-- What is known at the first units of a program, and at one unit more.
 use Rattle.std.proofs.Common.{◌≡◌, ◌∙◌, ℕ, suc, ◌+◌, ◌<◌, ◌≤◌, List, [], ◌∷◌, ◌++◌, Option, Some, None, Result, Ok, Err, refl, ap, sym, subst, length, arith, ⊎_elim}
 use Rattle.std.specs.Prelude.{is_none, option_map, slice_get, slice_index_or, if◌then◌else◌}
 use Rattle.std.specs.Result.{result_ok, result_err}
@@ -18,7 +18,7 @@ use Rattle.verify.specs.Passes.{Answers}
 use Rattle.verify.specs.KnownAtUnits.{known_on_the_pass, known_before, IsSurvey}
 use Rattle.verify.proofs.PassLaws.{stays, judged_pass, structural_judged}
 
--- so it is at each unit of which there is a state
+-- There is a state for each of these units, and it is what is known there.
 abbrev pub AreKnown : List Insn → List (Option AbsState) → Type 0
 AreKnown program states = (unit : ℕ) → unit < length states → slice_get states unit ≡ known_on_the_pass program unit
 
@@ -28,7 +28,7 @@ on_the_pass program unit r e = ap (λ (x : Result KnownSoFar VerifyError). optio
 pub none_known : (program : List Insn) (states : List (Option AbsState)) → states ≡ [] → AreKnown program states
 none_known program states e unit lt = absurd (let none : length states ≡ 0 = ap (λ (s : List (Option AbsState)). length s) e in omega (arith, lt, none))
 
--- one unit more
+-- One more unit.
 pub known_more : (program : List Insn) (states : List (Option AbsState)) (pending : KnownSoFar) (here : Option AbsState) (unit : ℕ) → AreKnown program states → length states ≡ unit →
     passed_to program unit ≡ Ok pending → here ≡ reached_at pending unit → AreKnown program (states ++ here ∷ [])
 known_more program states pending here unit known e comes same v h = ⊎_elim before last (cases_lt v (length states))
@@ -49,11 +49,11 @@ known_more program states pending here unit known e comes same v h = ⊎_elim be
         ∙ (ap (λ (o : Option AbsState). Some o) (same ∙ ap (reached_at pending) (sym (at ∙ e)))
         ∙ sym (on_the_pass program v (Ok pending) (ap (passed_to program) (at ∙ e) ∙ comes)))
 
--- without a structural fault
+-- The program has no structural fault.
 pub before_is : (program : List Insn) (unit : ℕ) → structural_fault program ≡ None → known_before program unit ≡ known_on_the_pass program unit
 before_is program unit none = ap (λ (o : Option VerifyError). if is_none o then known_on_the_pass program unit else None) none
 
--- the pass comes to the end
+-- The pass reaches the end.
 pub survey_through : (program : List Insn) (states : List (Option AbsState)) (pending : KnownSoFar) (unit : ℕ) → structural_fault program ≡ None → AreKnown program states → length states ≡ unit →
     unit ≡ length (slots_of program) → passed_to program unit ≡ Ok pending → IsSurvey program states None
 survey_through program states pending unit none known e all comes = record {
@@ -62,7 +62,7 @@ survey_through program states pending unit none known e all comes = record {
   fault_is = sym (judged_pass program none ∙ ap result_err (ap (passed_to program) (sym all) ∙ comes));
 }
 
--- it is stopped at the last of these units
+-- The pass stops at the last of these units.
 pub survey_stopped : (program : List Insn) (states : List (Option AbsState)) (unit : ℕ) (fault : VerifyError) → structural_fault program ≡ None → AreKnown program states → length states ≡ unit + 1 →
     unit < length (slots_of program) → passed_to program (suc unit) ≡ Err fault → IsSurvey program states (Some fault)
 survey_stopped program states unit fault none known e lt stops = record {
@@ -74,7 +74,7 @@ survey_stopped program states unit fault none known e lt stops = record {
     behind : (v : ℕ) → length states ≤ v → slice_get states v ≡ known_on_the_pass program v
     behind v past = (slice_get_past states v past) ∙ sym (on_the_pass program v (Err fault) (stays program fault (suc unit) v (omega (arith, e, past)) stops))
 
--- the fault is one of structure
+-- The fault is one of the structure.
 pub survey_structural : (program : List Insn) (states : List (Option AbsState)) (fault : VerifyError) → states ≡ [] → structural_fault program ≡ Some fault → IsSurvey program states (Some fault)
 survey_structural program states fault empty some =
     subst (λ (s : List (Option AbsState)). IsSurvey program s (Some fault)) (sym empty) (record {
@@ -83,7 +83,7 @@ survey_structural program states fault empty some =
       fault_is = sym (structural_judged program fault some);
     })
 
--- a fault that is no want of memory is wanted
+-- A fault that is not out of memory is the wanted one.
 fault_in : (wanted : Result KnownSoFar VerifyError) (reason : Reason) (unit : ℕ) → result_err wanted ≡ Some (At reason unit) → wanted ≡ Err (At reason unit)
 fault_in (Ok reached) reason unit e = absurd cc
 fault_in (Err fault) reason unit e = let same : fault ≡ At reason unit = cc in ap (λ (f : VerifyError). Err f) same

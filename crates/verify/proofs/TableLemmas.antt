@@ -1,4 +1,4 @@
--- Lists by their entries.
+-- Lists by their items.
 use Rattle.std.proofs.Common.{◌≡◌, ◌∙◌, ℕ, zero, suc, ◌+◌, ◌<◌, ◌≤◌, List, length, get_or, set, drop, arith, sym, subst, length-drop}
 use Rattle.std.proofs.lemmas.List.{ext_get_or, get_or-drop, get_or_default}
 use Rattle.absval.specs.declared.value.AbsVal.{AbsVal}
@@ -10,7 +10,7 @@ use Rattle.verify.specs.Calls.{known_behind}
 use Rattle.verify.proofs.Zips.{at_set}
 use Rattle.absval.specs.declared.value.AbsVal.TheVariants.{Unset, Number}
 
--- the first n registers are joined
+-- The first n registers are joined.
 abbrev pub Joins : List AbsVal → List AbsVal → List AbsVal → ℕ → Type 0
 Joins old other new n = (r : ℕ) → r < n → known_at new r ≡ joined (known_at old r) (known_at other r)
 
@@ -20,12 +20,12 @@ join_step xs before other i x u v l m rest made so_far = λ k h.
     at_set (λ (a : AbsVal). a ≡ joined (known_at before k) (known_at other k)) xs i k x Unset l
     (λ e. rw (e, ← rest, get_or_default other i Unset v m, get_or_default xs i Unset u l) made) (λ n. so_far k (omega arith))
 
--- registers that are joined one by one
+-- Registers that are joined one by one.
 pub joins_all : (old other new : List AbsVal) → length new ≡ 11 → Joins old other new 11 → new ≡ joined_all old other
 joins_all old other new long joins =
     table_is 11 (λ r. joined (known_at old r) (known_at other r)) new Unset long joins
 
--- the registers behind a call
+-- The registers after a call.
 pub behind_whole : (numbers : NumberSet) (old new : List AbsVal) → length old ≡ 11 → length new ≡ 11 → get_or new 0 Unset ≡ Number numbers →
     ((r : ℕ) → 1 ≤ r → r ≤ 5 → get_or new r Unset ≡ Unset) → ((r : ℕ) → 6 ≤ r → get_or new r Unset ≡ get_or old r Unset) → new ≡ known_behind numbers old
 behind_whole numbers old new before after first unset others = ext_get_or Unset new (known_behind numbers old) same (λ k lt. at k)

@@ -1,4 +1,4 @@
--- What is known at a unit is taken out: there nothing is known then, elsewhere what was.
+-- What is known at a unit is taken out: then nothing is known there, and the same as before elsewhere.
 use Rattle.std.proofs.Common.{◌≡◌, ◌∙◌, ℕ, zero, suc, List, [], ◌∷◌, length, refl, sym, ap, subst, Option, Some, None, Ok, length-set}
 use Rattle.std.specs.Prelude.{ℤ, pos, negsuc, slice_set, IfSome}
 use Rattle.insn.specs.declared.insn.Insn.{Insn}
@@ -8,7 +8,7 @@ use Rattle.verify.specs.Instructions.{reason_of}
 use Rattle.verify.specs.Transfer.{Edge, edge_to, edges}
 use Rattle.verify.specs.Judgement.{KnownSoFar, reached_at, along, along_all, settled, passed_at}
 
--- what is known then was known before
+-- What is known afterwards was known before.
 pub taken_some : (reached : KnownSoFar) (unit v : ℕ) (a : AbsState) → reached_at (slice_set reached unit None) v ≡ Some a → reached_at reached v ≡ Some a
 taken_some [] unit v a e = e
 taken_some (x ∷ xs) zero zero a e = absurd cc
@@ -23,7 +23,7 @@ taken_if P reached unit v h = by_known (reached_at (slice_set reached unit None)
     by_known None e = tt
     by_known (Some a) e = subst (λ (o : Option AbsState). IfSome o P) (taken_some reached unit v a e) h
 
--- ---- no unit is added or lost
+-- ---- the number of units is unchanged
 
 pub length-along : (e : Edge) (reached : KnownSoFar) → length (along e reached) ≡ length reached
 length-along (pos u, a) reached = length-set reached u _

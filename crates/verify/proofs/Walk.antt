@@ -1,4 +1,5 @@
--- A program without a structural fault leads forward, and a plain one has none: instruction by instruction.
+-- The edges of a program without a structural fault lead forward, and a plain program has no structural fault, shown
+-- instruction by instruction.
 use Rattle.std.proofs.Common.{◌≡◌, ℕ, ◌+◌, ◌≤◌, ◌⊎◌, inl, inr, ⊎_elim, List, [], ◌∷◌, Option, Some, None, Bool, true, false, refl, sym, ap, subst, ◌∙◌, if◌then◌else◌, arith}
 use Rattle.std.specs.Prelude.{ℤ, pos, ◌+ℤ◌, ◌<ℤ◌, IsSome}
 use Rattle.std.proofs.lemmas.Int.{ints}
@@ -15,7 +16,7 @@ use Rattle.verify.specs.Forward.{LeadsForward, IsForward}
 use Rattle.verify.proofs.Starts.{at_later, at_cases}
 use Rattle.verify.proofs.Edges.{first_fault-parts, target_fine}
 
--- an edge goes on to the next instruction, or to the target of a jump
+-- An edge leads to the next instruction, or to the target of a jump.
 abbrev pub IsEdgeOf : Insn → ℕ → ℤ → Type 0
 IsEdgeOf i unit z = ((z ≡ pos (unit + units_of i)) × (is_exit i ≡ false)) ⊎ ((program : List Insn) → jump_checks program unit i ≡ target_checks program unit z)
 
@@ -42,7 +43,7 @@ edge_of (Store size base offset source) unit z e = inl (one_edge z _ e, refl)
 edge_of (Call helper) unit z e = inl (one_edge z _ e, refl)
 edge_of Exit unit z e = absurd e
 
--- the list is what the program has from the unit on
+-- The list has the program's instructions from the unit on.
 abbrev pub IsRest : List Insn → ℕ → List Insn → Type 0
 IsRest program unit is = (v : ℕ) → instruction_at program (unit + v) ≡ instruction_at is v
 
@@ -54,7 +55,7 @@ rest_next program unit j is rest v =
 pub rest_first : (program : List Insn) (unit : ℕ) (j : Insn) (is : List Insn) → IsRest program unit (j ∷ is) → instruction_at program unit ≡ Some j
 rest_first program unit j is rest = let e : unit ≡ unit + 0 = omega arith in ap (λ (u : ℕ). instruction_at program u) e ∙ rest 0
 
--- the next instruction starts behind one that is not the last
+-- After an instruction that is not the last, the next one starts.
 next_starts : (program : List Insn) (unit : ℕ) (j : Insn) (is : List Insn) → IsRest program unit (j ∷ is) → first_fault (last_checks unit (j ∷ is)) ≡ None → is_exit j ≡ false →
     IsSome (instruction_at program (unit + units_of j))
 next_starts program unit j [] rest last other = absurd (let bad = subst (λ (b : Bool). first_fault ((if b then false else true, At LastNotExit unit) ∷ []) ≡ None) other last in cc)
@@ -93,7 +94,7 @@ forward_from program (j ∷ k ∷ is) unit rest jumps last v i at = ⊎_elim
     (first_fault-parts (jump_checks program unit j) (checks_from program (unit + units_of j) (k ∷ is)) jumps).1 (last_next unit j k is last) e.0 i e.2))
     (at_cases j (k ∷ is) v i at)
 
--- a program without a structural fault leads forward
+-- The edges of a program without a structural fault lead forward.
 pub forward_of_structure : (program : List Insn) → structural_fault program ≡ None → IsForward program
 forward_of_structure program e =
     let parts = first_fault-parts (checks_from program 0 program) (last_checks 0 program) e in

@@ -1,4 +1,4 @@
--- Lists that describe lists, place by place.
+-- Lists whose items describe the items of other lists, index by index.
 use Rattle.std.proofs.Common.{◌≡◌, ◌≢◌, ℕ, zero, suc, ◌<◌, List, [], ◌∷◌, length, get_or, set, subst, sym, ap, refl, ⊎_elim, get_or-set_same, get_or-set_other}
 use Rattle.std.proofs.lemmas.Bool.{cases_eq}
 use Rattle.std.proofs.lemmas.List.{get_or_default}
@@ -24,16 +24,16 @@ AllZip-length R [] (b ∷ ys) z = absurd z
 AllZip-length R (a ∷ xs) [] z = absurd z
 AllZip-length R (a ∷ xs) (b ∷ ys) z = ap suc (AllZip-length R xs ys z.1)
 
--- what a place holds after a write
+-- What an index has after a write.
 pub at_set : {A : Type 0} (P : A → Type 0) (xs : List A) (i k : ℕ) (x d : A) → i < length xs → (k ≡ i → P x) → (k ≢ i → P (get_or xs k d)) → P (get_or (set xs i x) k d)
 at_set P xs i k x d l f g =
     ⊎_elim (λ e. subst (λ j. P (get_or (set xs i x) j d)) (sym e) (rw (get_or-set_same xs i x d l) (f e))) (λ n. rw (get_or-set_other xs i k x d n) (g n)) (cases_eq k i)
 
--- what a read gives, at another default
+-- What a read gives, with another default.
 pub at_read : {A : Type 0} (P : A → Type 0) (xs : List A) (i k : ℕ) (x d : A) → i < length xs → k ≡ i → P (get_or xs k d) → P (get_or xs i x)
 at_read P xs i k x d l e p = rw (get_or_default xs i x d l) (subst (λ j. P (get_or xs j d)) e p)
 
--- a place may hold less
+-- The relation may be weakened at an index.
 pub AllZip-narrow : {A B : Type 0} (R : A → B → Type 0) (xs : List A) (ys : List B) (i : ℕ) (x : A) (e : B) → AllZip R xs ys → R x (get_or ys i e) → AllZip R (set xs i x) ys
 AllZip-narrow R [] ys i x e z r = z
 AllZip-narrow R (a ∷ xs) [] i x e z r = absurd z

@@ -1,4 +1,5 @@
--- Defines the checks of calls of helpers, on what is known, and the registers after a call (own).
+-- Defines which calls of helpers the verifier rejects, from what is known of the arguments, and what is known of the
+-- registers after a call (own).
 use Rattle.std.specs.Prelude.{ℕ, ℤ, pos, ◌+◌, ◌*◌, ◌<◌, ◌&&◌, not, nat_lt, Bool, true, false, List, [], ◌∷◌, Option, Some, None, Result, Ok, Err, drop}
 use Rattle.std.specs.Option.{option_or}
 use Rattle.std.specs.Ordering.{int_eq}
@@ -23,20 +24,20 @@ use Rattle.verify.specs.declared.reason.Reason.TheVariants as reason
 use Rattle.verify.specs.declared.state.AbsState.{AbsState}
 use Rattle.absval.specs.declared.value.AbsVal.TheVariants.{Unset, Number, Pointer}
 
--- Returns the result of a check: an error with the reason, if there is one.
+-- Returns a check's result: an error with the reason if there is one, and otherwise success.
 abbrev pub answer_of : Option Reason → Result (Unit {0}) Reason
 answer_of None = Ok tt
 answer_of (Some reason) = Err reason
 
--- Returns the reason, if the test holds.
+-- Returns the reason if the test holds.
 abbrev pub reason_if : Bool → Reason → Option Reason
 reason_if true reason = Some reason
 reason_if false reason = None
 
 -- ---- Arguments
 
--- Returns why a value is rejected as an argument. With a bound it must be a number whose greatest value is below the
--- bound. Without one it must be a pointer.
+-- Returns why a value is rejected as an argument. With a bound, every number that it may be must be below the bound.
+-- Without one, it must be a pointer.
 abbrev pub argument_reason : Option ℕ → AbsVal → Option Reason
 argument_reason bound Unset = Some reason.Unset
 argument_reason (Some bound) (Number numbers) = reason_if (not (nat_lt (greatest numbers) bound)) reason.Argument
@@ -44,12 +45,12 @@ argument_reason (Some bound) (Pointer region offsets) = Some reason.Argument
 argument_reason None (Number numbers) = Some reason.Argument
 argument_reason None (Pointer region offsets) = None
 
--- Returns why a register is rejected, if the helper takes an argument there.
+-- Returns why the value of a register is rejected, if the helper takes an argument there.
 abbrev pub taken_reason : Option Argument → AbsVal → Option Reason
 taken_reason None value = None
 taken_reason (Some argument) value = argument_reason (bound_of argument) value
 
--- Returns the first reason why an argument is rejected, in the registers from `r` on.
+-- Returns why the first rejected argument is rejected. The arguments are in the registers from `r` on.
 abbrev pub arguments_reason : List (Option Argument) → ℕ → List AbsVal → Option Reason
 arguments_reason [] r known = None
 arguments_reason (argument ∷ arguments) r known =
@@ -69,29 +70,30 @@ IsPointer (Pointer region offsets) = Unit {0}
 
 -- ---- Windows
 
--- Returns the cells that `size` bytes at a pointer may take, if they all lie in its region.
+-- Returns the window of `size` bytes at a pointer: the cells that they may take, if all are in its region.
 abbrev pub window_from : Region → Offsets → ℕ → Option Window
 window_from region offsets size = window_known region offsets.0 offsets.1 (pos 0) size
 
--- Returns why cells may not be read as bytes.
+-- Returns why a window may not be read as bytes.
 abbrev pub source_reason : Known → Region → Option Window → Option Reason
 source_reason known region None = Some reason.Bounds
 source_reason known region (Some window) = unset_in known region window
 
--- Returns why words may not be copied. They must be on the board, and their window must be on the stack.
+-- Returns why words of the board may not be copied to the stack: they must be on the board, and their window in the
+-- stack.
 abbrev pub copy_reason : AbsVal → AbsVal → AbsVal → Option Reason
 copy_reason (Number slots) (Pointer region offsets) (Number counts) =
     option_or (reason_if (nat_lt board_words (greatest slots + greatest counts)) reason.Argument)
     (write_refused region (window_from region offsets (8 * greatest counts)))
 copy_reason _ _ _ = None
 
--- Returns why a row of orders may not be read. Its window must lie in its region and hold bytes.
+-- Returns why orders may not be read at a pointer: their window must be in its region, with bytes in all cells.
 abbrev pub row_reason : Known → AbsVal → AbsVal → Option Reason
 row_reason known (Pointer region offsets) (Number counts) =
     source_reason known region (window_from region offsets (4 * greatest counts))
 row_reason known _ _ = None
 
--- Returns why the cells at a helper's pointer are rejected, if it makes an access there.
+-- Returns why the memory at a helper's pointer is rejected, if the helper accesses memory.
 abbrev pub window_reason : Helper → AbsState → Option Reason
 window_reason BoardCopy a = copy_reason (known_at a.registers 1) (known_at a.registers 2) (known_at a.registers 3)
 window_reason SendRow a = row_reason a.stack (known_at a.registers 2) (known_at a.registers 3)
@@ -99,24 +101,24 @@ window_reason _ a = None
 
 -- ---- Calls
 
--- Returns why a call of a helper is rejected. A number without a helper is rejected.
+-- Returns why a call of a helper is rejected, also if there is no such helper.
 abbrev pub helper_reason : Option Helper → AbsState → Option Reason
 helper_reason None a = Some reason.Helper
 helper_reason (Some helper) a =
     option_or (arguments_reason (arguments_of helper) 1 a.registers) (window_reason helper a)
 
--- Returns why a call of the helper with a number is rejected. The number is checked first, then the arguments in their
--- order, then the window.
+-- Returns why a call of the helper with this number is rejected. The number is checked first, then the arguments in
+-- order, then the memory at the pointer.
 abbrev pub call_reason : AbsState → ℤ → Option Reason
 call_reason a number = helper_reason (helper_of number) a
 
 -- ---- States after calls
 
--- Returns what is known of the registers after a call: r0 is one of the numbers, r1 to r5 are unset, and the others are
--- unchanged.
+-- Returns what is known of the registers after a call: r0 is one of the numbers, and nothing is known of r1 to r5. The
+-- others are unchanged.
 abbrev pub known_behind : NumberSet → List AbsVal → List AbsVal
 known_behind numbers known = Number numbers ∷ Unset ∷ Unset ∷ Unset ∷ Unset ∷ Unset ∷ drop 6 known
 
--- Checks whether the pointer has one offset and the count is one number.
+-- Checks whether the pointer has only one possible offset, and the count is only one number.
 abbrev pub is_certain : Offsets → NumberSet → Bool
 is_certain offsets counts = int_eq offsets.0 offsets.1 && is_one counts

@@ -22,7 +22,7 @@ code_of Helper = codes "V11"
 code_of Argument = codes "V12"
 code_of ExitPointer = codes "V13"
 
--- Returns the text of an error: the code of the reason and the unit, or that memory ran out.
+-- Returns the text of an error: the reason's code and the unit, or `out of memory`.
 abbrev pub told : VerifyError → List ℕ
 told (At reason unit) = code_of reason ++ codes " unit " ++ decimal unit
 told Memory = codes "out of memory"

@@ -1,4 +1,4 @@
--- Defines why an instruction may not run on what is known (own).
+-- Defines why the verifier rejects an instruction, from what is known before it (own).
 use Rattle.std.specs.Prelude.{Option, None}
 use Rattle.insn.specs.declared.insn.Insn.{Insn}
 use Rattle.insn.specs.declared.insn.Insn.TheVariants.{Arithmetic, Negate, SignExtend, Swap, LoadImmediate, Load, LoadSigned, Store, Call, Jump, LongJump, Branch, Exit}
@@ -10,7 +10,7 @@ use Rattle.verify.specs.Reasons.{first_reason, made_checks, arithmetic_checks, w
 use Rattle.verify.specs.MemoryTable.{load_reason, signed_load_reason, store_reason}
 use Rattle.verify.specs.Calls.{call_reason}
 
--- States that the instruction continues with the following one: it is neither a jump nor the exit.
+-- States that the instruction always continues with the next one: it is neither a jump nor the exit.
 abbrev pub IsStraight : Insn → Type 0
 IsStraight (Jump distance) = ⊥
 IsStraight (LongJump distance) = ⊥
@@ -18,7 +18,7 @@ IsStraight (Branch width condition dst operand distance) = ⊥
 IsStraight Exit = ⊥
 IsStraight _ = Unit {0}
 
--- Returns the reason why an instruction that continues with the following one may not run, if there is one.
+-- Returns why an instruction that always continues with the next one is rejected, if it is.
 abbrev pub straight_reason : Insn → AbsState → Option Reason
 straight_reason (Arithmetic w operation dst operand) a =
     first_reason (arithmetic_checks a.registers w operation dst operand)
@@ -35,7 +35,7 @@ straight_reason (Store size base offset source) a = store_reason a size base off
 straight_reason (Call number) a = call_reason a number
 straight_reason _ a = None
 
--- Returns the reason why an instruction may not run, if there is one.
+-- Returns why an instruction is rejected, if it is.
 abbrev pub reason_of : Insn → AbsState → Option Reason
 reason_of (Branch w condition dst operand distance) a =
     first_reason (compare_checks (known_at a.registers dst) (operand_known a.registers operand))

@@ -1,4 +1,4 @@
--- States the laws of the verifier as one function.
+-- The laws of the verifier.
 use Rattle.std.specs.Prelude.{ℕ, ◌≡◌, ◌<◌, List, None, Some, length}
 use Rattle.insn.specs.declared.insn.Insn.{Insn}
 use Rattle.verify.specs.declared.error.VerifyError.{VerifyError}
@@ -16,8 +16,8 @@ use Rattle.verify.specs.Judgement.{judged}
 use Rattle.verify.specs.KnownAtUnits.{known_before}
 use Rattle.verify.specs.Describes.{IsAsKnown}
 
--- States that the pass over a program without a structural fault agrees with `judged`. It never both reaches the end
--- and stops at a first fault, and it never has two different first faults.
+-- States, for a program without a structural fault: if the pass reaches the end, `judged` accepts the program, and if
+-- it stops at a first fault, `judged` returns this fault. The pass never does both, and there is only one first fault.
 pub record PassesAgree : Type 0 where
   pub through : (program : List Insn) → structural_fault program ≡ None → ComesThrough program → judged program ≡ None
   pub stopped : (program : List Insn) (fault : VerifyError) → structural_fault program ≡ None →
@@ -27,18 +27,17 @@ pub record PassesAgree : Type 0 where
   pub not_two : (program : List Insn) (fault other : VerifyError) → structural_fault program ≡ None →
       IsFirstFault program fault → IsFirstFault program other → fault ≡ other
 
--- `judged` finds no fault in a plain program of well-formed instructions.
+-- States that `judged` finds no fault in a plain program of well-formed instructions.
 abbrev pub PlainIsAccepted : Type 0
 PlainIsAccepted = (program : List Insn) → AllByRecursion IsInsn program → IsPlain program → judged program ≡ None
 
--- States that a program of well-formed instructions is sound if it takes at least one unit and `judged` finds no fault
--- in it.
+-- States that a program of well-formed instructions, with at least one unit, is sound if `judged` finds no fault in it.
 abbrev pub AcceptedIsSound : Type 0
 AcceptedIsSound = (program : List Insn) → AllByRecursion IsInsn program → 0 < length (slots_of program) →
     judged program ≡ None → IsSound program
 
--- States that in a program of well-formed instructions that takes at least one unit and in which `judged` finds no
--- fault, what is known at a unit describes every state of every run at that unit.
+-- States that if `judged` finds no fault in a program of well-formed instructions, with at least one unit, what is
+-- known at each unit describes every state of every run at that unit.
 abbrev pub StatesAreAsKnown : Type 0
 StatesAreAsKnown = (program : List Insn) → AllByRecursion IsInsn program → 0 < length (slots_of program) →
     judged program ≡ None → (context : List ℕ) (relay : Relay) (answers : List (List ℕ)) (s : State) →

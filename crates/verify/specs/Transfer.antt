@@ -1,5 +1,5 @@
--- Defines the transfer functions: what is known after an instruction, and what is known along each edge that leads on
--- from it (own).
+-- Defines the transfer functions: what is known after an instruction, from what is known before it, and what is known
+-- along each edge to a next one (own).
 use Rattle.std.specs.Prelude.{ℕ, ℤ, pos, ◌+◌, ◌*◌, ◌+ℤ◌, ◌==◌, Bool, true, false, if◌then◌else◌, List, [], ◌∷◌, ◌++◌, Option, Some, None, Result, option_map, slice_set}
 use Rattle.std.specs.Result.{result_ok}
 use Rattle.insn.specs.declared.insn.Insn.{Insn}
@@ -28,15 +28,15 @@ use Rattle.verify.specs.Instructions.{straight_reason}
 use Rattle.verify.specs.Calls.{is_certain, window_from, known_behind}
 use Rattle.absval.specs.declared.value.AbsVal.TheVariants.{Number, Pointer}
 
--- Replaces what is known of a register, if there is a new value.
+-- Replaces what is known of register `dst`, if there is a new value.
 abbrev pub assigned : AbsState → ℕ → Option AbsVal → AbsState
 assigned a dst None = a
 assigned a dst (Some value) = record { registers = slice_set a.registers dst value; stack = a.stack }
 
 -- ---- Stores
 
--- Returns what is known of the stack after a number is stored. It is at one address if the window is as wide as the
--- number, and otherwise at one of several.
+-- Returns what is known of the stack after a number is stored. If the window is wider than the number, the number is
+-- somewhere in it.
 abbrev pub number_stored : ℕ → Option Window → Known → Known
 number_stored size None known = known
 number_stored size (Some w) known =
@@ -57,19 +57,20 @@ stored size base distance value known = known
 
 -- ---- Calls
 
--- Returns what is known of the stack after words are written, to one place or somewhere in the window.
+-- Returns what is known of the stack after words are written to a window. If it is not certain that they fill it, they
+-- are somewhere in it.
 abbrev pub written : Bool → Option Window → Known → Known
 written certain None known = known
 written true (Some w) known = put_bytes w.place w.size known
 written false (Some w) known = spread_bytes w.place w.size known
 
--- Returns what is known of the stack after words of the board are copied to a pointer.
+-- Returns what is known of the stack after words of the board are copied to it.
 abbrev pub copied : AbsVal → AbsVal → Known → Known
 copied (Pointer region offsets) (Number counts) known =
     written (is_certain offsets counts) (window_from region offsets (8 * greatest counts)) known
 copied target counts known = known
 
--- Returns what is known of the stack after a call. Only the helper that copies words of the board writes to it.
+-- Returns what is known of the stack after a call. Only `board_copy` writes to it.
 abbrev pub stack_behind : Helper → AbsState → Known
 stack_behind BoardCopy a = copied (known_at a.registers 2) (known_at a.registers 3) a.stack
 stack_behind helper a = a.stack
@@ -82,7 +83,7 @@ called (Some helper) a =
 
 -- ---- Instructions
 
--- Returns what is known after an instruction that continues with the following one.
+-- Returns what is known after an instruction that always continues with the next one.
 abbrev pub transfer : Insn → AbsState → AbsState
 transfer (Arithmetic w operation dst operand) a =
     assigned a dst (computed w operation (first_known a.registers operation dst) (operand_known a.registers operand))
@@ -102,25 +103,26 @@ transfer (Store size base offset source) a =
 transfer (Call number) a = called (helper_of number) a
 transfer i a = a
 
--- Returns what is known after an instruction that continues with the following one, or why it may not run.
+-- Returns what is known after an instruction that always continues with the next one, or why the instruction is
+-- rejected.
 abbrev pub stepped : Insn → AbsState → Result AbsState Reason
 stepped i a = unless (straight_reason i a) (transfer i a)
 
--- Returns what is known if a conditional jump is taken, or is not taken. There is no result if that cannot happen.
+-- Returns what is known if a conditional jump is taken, or if it is not. There is no result if that is impossible.
 abbrev pub narrowed : Comparison → Bool → AbsState → Option AbsState
 narrowed c taken a =
     option_map (λ known. record { registers = known; stack = a.stack }) (edge_known c taken a.registers)
 
--- An edge: the unit where it leads, and what is known along it.
+-- An edge: the unit to which it leads, and what is known along it.
 abbrev pub Edge : Type 0
 Edge = ℤ × AbsState
 
--- Returns the edge to a unit, if it may be taken.
+-- Returns the edge to a unit, if it is possible.
 abbrev pub edge_to : ℤ → Option AbsState → List Edge
 edge_to unit None = []
 edge_to unit (Some a) = (unit, a) ∷ []
 
--- Returns the edges that lead on from an instruction at a unit. A jump counts units from the following instruction (RFC
+-- Returns the edges from an instruction at `unit` to the next ones. A jump counts units from the next instruction (RFC
 -- 9669, section 4.3).
 abbrev pub edges : Insn → ℕ → AbsState → List Edge
 edges (Jump distance) unit a = (pos (unit + 1) +ℤ distance, a) ∷ []

@@ -1,4 +1,4 @@
-//! Conditional jumps: what each edge implies for the registers that the jump compares.
+//! Conditional jumps: what it says about the compared registers that a jump is taken, or not taken.
 ghost use Rattle.std.specs.Prelude.{◌≡◌, unwrap_or, is_some, if◌then◌else◌, Some, None, true, false};
 ghost use Rattle.std.specs.Int.{w64, cast_unsigned};
 ghost use Rattle.word.specs.Arithmetic.{taken as used};
@@ -12,15 +12,15 @@ use absval::{AbsVal, NumberSet};
 use insn::{Operand, Reg};
 use word::{Condition, Width};
 
-/// Which edges of a conditional jump may be taken.
+/// Whether a conditional jump may be taken, and whether it may be passed.
 #[derive(Clone, Copy)]
 pub struct Followed {
     pub taken: bool,
     pub not_taken: bool,
 }
 
-/// Returns what remains of two values if a condition on them holds, or does not hold. Returns `None` if no pair of them
-/// takes that edge.
+/// Narrows two compared values to the case that the condition holds (`taken`) or does not hold. Returns what each can
+/// still be, or `None` if the case is impossible. Only numbers are narrowed.
 #[inline(always)]
 fn refine_values(
     width: Width,
@@ -41,7 +41,8 @@ fn refine_values(
     Some((AbsVal::Number(m), AbsVal::Number(n)))
 }
 
-/// Returns the bits of an immediate number that a comparison of the width uses.
+/// Returns the bits of an immediate number that a comparison of this width uses: the number sign-extended to 64 bits,
+/// or the low 32 of these.
 fn used_number(width: Width, number: i32) -> u64
     ensures { result ≡ used width (cast_unsigned w64 number) }
 {
@@ -52,8 +53,8 @@ fn used_number(width: Width, number: i32) -> u64
     }
 }
 
-/// Refines a register that is compared with an immediate number, along one edge. Returns whether that edge may be
-/// taken.
+/// Narrows what is known of register `dst`, which a jump compares with a number, to the case that the jump is `taken`
+/// or not. Returns whether this case is possible. If it is not, the registers are unchanged.
 #[inline(always)]
 fn refine_by_number(
     registers: &mut [AbsVal; 11],
@@ -78,8 +79,9 @@ fn refine_by_number(
     true
 }
 
-/// Refines two registers that are compared, along one edge. Returns whether that edge may be taken. A register compared
-/// with itself is not refined.
+/// Narrows what is known of registers `dst` and `src`, which a jump compares, to the case that the jump is `taken` or
+/// not. Returns whether this case is possible. If it is not, the registers are unchanged. Nothing is learned about a
+/// register that is compared with itself.
 #[inline(always)]
 fn refine_registers(
     registers: &mut [AbsVal; 11],
@@ -106,8 +108,8 @@ fn refine_registers(
     true
 }
 
-/// Narrows two copies of one state: `state` to what may hold if the jump is taken, and `other` to what may hold if it
-/// is not. Returns which of these edges may be taken.
+/// Narrows two copies of one abstract state at a conditional jump: `state` to the case that the jump is taken, and
+/// `other` to the case that it is not. Returns which of these cases are possible.
 pub fn refine(state: &mut AbsState, other: &mut AbsState, compared: &Comparison) -> Followed
     requires { other.old ≡ state.old }
     ensures taken { (if result.taken then Some state.new else None) ≡ narrowed compared.now true state.old }

@@ -1,4 +1,4 @@
-//! Calls of helpers: the checks of their arguments, and what a call does to the abstract state.
+//! Calls of helpers: checks their arguments, and changes the abstract state as the call does.
 ghost use Rattle.std.specs.Prelude.{◌≡◌, ◌+◌, ◌*◌, ◌≤◌, ◌<◌, true, [], ◌∷◌, None, Some};
 ghost use Rattle.absval.specs.NumberSets.{within, greatest};
 ghost use Rattle.semantics.specs.Limits.{board_words, most_generals};
@@ -21,8 +21,8 @@ use helper::{Argument, BOARD_WORDS, Helper};
 use range::Range;
 use semantics::Region;
 
-/// Checks that a value is allowed as an argument: a number not above the argument's greatest one, or a pointer if the
-/// argument is a pointer.
+/// Checks that a helper accepts a value as this argument: a number that is not above the argument's greatest one, or a
+/// pointer if the argument is a pointer. Fails with `Unset` or `Argument`.
 fn check_argument(argument: Argument, value: AbsVal) -> Result<(), Reason>
     ensures { result ≡ answer_of (argument_reason (bound_of argument) value) }
 {
@@ -36,7 +36,8 @@ fn check_argument(argument: Argument, value: AbsVal) -> Result<(), Reason>
     }
 }
 
-/// Checks that a number is allowed as an argument: it is not above the argument's greatest one.
+/// Checks that a helper accepts a number as this argument: the argument must be a number, and `numbers` must not exceed
+/// its greatest one. Fails with `Argument`.
 fn check_number(argument: Argument, numbers: NumberSet) -> Result<(), Reason>
     ensures { result ≡ answer_of (argument_reason (bound_of argument) (AbsVal.Number numbers)) }
 {
@@ -46,7 +47,8 @@ fn check_number(argument: Argument, numbers: NumberSet) -> Result<(), Reason>
     }
 }
 
-/// Checks the value of a register as an argument, if the helper takes one there.
+/// Checks the value of a register as an argument of a call. Always succeeds if the helper takes no argument in this
+/// register.
 fn check_taken(argument: Option<Argument>, value: AbsVal) -> Result<(), Reason>
     ensures { result ≡ answer_of (taken_reason argument value) }
 {
@@ -56,7 +58,8 @@ fn check_taken(argument: Option<Argument>, value: AbsVal) -> Result<(), Reason>
     }
 }
 
-/// Checks the arguments in r1, r2 and r3, in this order.
+/// Checks the arguments of a call in r1, r2 and r3, in this order. An argument that is `None` is not checked. Fails
+/// with `Unset` or `Argument`.
 fn check_arguments(
     registers: &[AbsVal; 11],
     first: Option<Argument>,
@@ -70,7 +73,7 @@ fn check_arguments(
     check_taken(third, known_at(registers, 3))
 }
 
-/// Returns the set of the numbers that `value` may be. `value` must be known to be a number, and not a pointer.
+/// Returns the numbers that `value` may be. It must be known to be a number.
 fn number(value: AbsVal) -> NumberSet
     requires { is_number value ≡ true }
     ensures { value ≡ AbsVal.Number result }
@@ -81,7 +84,7 @@ fn number(value: AbsVal) -> NumberSet
     }
 }
 
-/// Returns the region and offsets of a value that is known to be a pointer.
+/// Returns the region and the offsets of a pointer. `value` must be known to be a pointer.
 fn pointer(value: AbsVal) -> (Region, Offsets)
     requires { IsPointer value }
     ensures { value ≡ AbsVal.Pointer result.0 result.1 }
@@ -92,14 +95,16 @@ fn pointer(value: AbsVal) -> (Region, Offsets)
     }
 }
 
-/// Checks whether words are written to exactly one place: the pointer has one offset, and the count is one number.
+/// Checks whether a call certainly writes all of the cells that it may write: the pointer has only one possible offset,
+/// and there is only one possible count.
 fn is_certain(offsets: Offsets, counts: NumberSet) -> bool
     ensures { result ≡ is_certain offsets counts }
 {
     offsets.is_one() && counts.is_one()
 }
 
-/// Records a write of words of 8 bytes each at offsets of the stack. `counts` contains the possible numbers of words.
+/// Records that a call writes 8-byte words to the stack, at a pointer with these offsets. `counts` contains the
+/// possible numbers of words. Fails with `Bounds` if the words may leave the stack.
 fn write_words(stack: &mut AbsStack, offsets: Offsets, counts: NumberSet) -> Result<(), Reason>
     requires { greatest counts ≤ board_words }
     ensures { let at = window_from Region.Stack offsets (8 * greatest counts) in
@@ -117,8 +122,9 @@ fn write_words(stack: &mut AbsStack, offsets: Offsets, counts: NumberSet) -> Res
     Ok(())
 }
 
-/// Checks a copy of words of the board to a pointer, and records what it writes. `slots` is what is known of the first
-/// word's number, and `counts` of the number of words.
+/// Checks `board_copy`, which copies words of the board to the stack, and records what it writes. `slots` is what is
+/// known of the first word's slot, `target` of the pointer, and `counts` of the number of words. Fails with `Argument`,
+/// `ContextWrite` or `Bounds`.
 fn copy(stack: &mut AbsStack, slots: AbsVal, target: AbsVal, counts: AbsVal) -> Result<(), Reason>
     requires slots { IsBelow board_words slots }
     requires target { IsPointer target }
@@ -137,7 +143,8 @@ fn copy(stack: &mut AbsStack, slots: AbsVal, target: AbsVal, counts: AbsVal) -> 
     }
 }
 
-/// Checks that orders can be read at a pointer. There may be as many as the greatest of `counts`, of 4 bytes each.
+/// Checks that `send_row` can read orders of 4 bytes each at the pointer `source`. `counts` is what is known of the
+/// number of orders. Fails with `Bounds` or `StackUnset`.
 fn check_row(stack: &AbsStack, source: AbsVal, counts: AbsVal) -> Result<(), Reason>
     requires source { IsPointer source }
     requires counts { IsBelow (most_generals + 1) counts }
@@ -151,7 +158,8 @@ fn check_row(stack: &AbsStack, source: AbsVal, counts: AbsVal) -> Result<(), Rea
     check_bytes(stack, region, window)
 }
 
-/// Checks the access to the cells at a pointer, for the helpers that make one, and records what it writes.
+/// Checks the memory that a call reads or writes at its pointer, and records what it writes. Most helpers access no
+/// memory. Fails with the reason for which the memory is rejected.
 fn pass_window(state: &mut AbsState, helper: Helper) -> Result<(), Reason>
     requires { arguments_reason (arguments_of helper) 1 state.old.registers ≡ None }
     ensures { outcome result state.new ≡ unless (window_reason helper state.old) (record state.old {
@@ -169,7 +177,7 @@ fn pass_window(state: &mut AbsState, helper: Helper) -> Result<(), Reason>
     }
 }
 
-/// Records the registers after a call: r0 holds a number of the range, and r1 to r5 are unset.
+/// Records the registers after a call: r0 is a number in `range`, and r1 to r5 are unset.
 fn put_result(registers: &mut [AbsVal; 11], range: Range)
     ensures { registers.new ≡ known_behind (within range) registers.old }
 {
@@ -179,8 +187,8 @@ fn put_result(registers: &mut [AbsVal; 11], range: Range)
     }
 }
 
-/// Checks a call of the helper with the given number. Changes the state to what is known after the call, or returns the
-/// reason why the call is rejected.
+/// Checks a call of the helper with the given number, and changes the abstract state to what is known after the call.
+/// Fails with the reason for which the call is rejected.
 pub fn call(state: &mut AbsState, number: i32) -> Result<(), Reason>
     ensures { outcome result state.new ≡ unless (call_reason state.old number) (called (helper_of number) state.old) }
 {

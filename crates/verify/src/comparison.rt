@@ -1,8 +1,8 @@
-//! Comparisons of conditional jumps.
+//! The comparison that a conditional jump makes.
 use insn::{Operand, Reg};
 use word::{Condition, Width};
 
-/// What a conditional jump compares, and how: its width, its condition, and both operands.
+/// The comparison that a conditional jump makes: its width, its condition, and its two operands.
 #[derive(Clone, Copy)]
 pub struct Comparison {
     pub width: Width,

@@ -1,14 +1,14 @@
-//! Errors of the verifier: the fault for which a program is rejected.
+//! Errors of the verifier: why a program is rejected or could not be checked.
 use crate::reason::Reason;
 use insn::Program;
 use std::alloc::AllocError;
 use std::error::Error;
 use std::fmt;
 
-/// The error for which a program is rejected.
+/// Why a program is rejected or could not be checked.
 #[derive(Clone, Copy, Debug, PartialEq, Eq, Drop)]
 pub enum VerifyError {
-    /// The reason, and the unit of the instruction at fault.
+    /// The reason for which an instruction is rejected, and the unit where it starts. A unit is 8 bytes of bytecode.
     At(Reason, usize),
     /// The verifier ran out of memory.
     Memory,
@@ -41,11 +41,11 @@ impl From<AllocError> for VerifyError {
     }
 }
 
-/// A rejection, which returns the program to the caller.
+/// A program that was not accepted, returned to the caller, and the error.
 #[derive(Drop)]
 pub struct Refused {
     /// The program that was rejected.
     pub program: Program,
-    /// The error for which it was rejected.
+    /// Why the program was not accepted.
     pub fault: VerifyError,
 }

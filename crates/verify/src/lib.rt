@@ -1,4 +1,5 @@
-//! The verifier: it accepts a program, which is then sound, or finds the program's first fault.
+//! The verifier: it accepts a program, which is then sound, or finds the program's first fault. It works by abstract
+//! interpretation, in one forward pass.
 #![tactic(auto)]
 
 mod branches;

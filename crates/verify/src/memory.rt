@@ -1,4 +1,4 @@
-//! Loads and stores: their checks, and what they do to the abstract state.
+//! Loads and stores: checks them, and changes the abstract state as they do.
 ghost use Rattle.std.specs.Prelude.{◌≡◌, ◌+◌, ◌≤◌, Some, IfOk};
 ghost use Rattle.std.specs.Option.{ok_or};
 ghost use Rattle.std.specs.Result.{result_err};
@@ -16,7 +16,7 @@ use insn::{Size, bytes_of_part};
 use semantics::Region;
 use word::Narrow;
 
-/// Returns the region and offsets of a base that is a pointer. Fails with `PointerUse` if the base is not a pointer.
+/// Returns the region and the offsets of a base register's value. Fails with `PointerUse` if it is not a pointer.
 pub(crate) fn pointer_of(base: &AbsVal) -> Result<(Region, Offsets), Reason>
     ensures { result ≡ pointer_in base.now }
 {
@@ -26,7 +26,8 @@ pub(crate) fn pointer_of(base: &AbsVal) -> Result<(Region, Offsets), Reason>
     }
 }
 
-/// Returns the cells that an access may touch. Fails with `Bounds` if it may leave the region.
+/// Returns the window of an access of `size` bytes at `distance` from a pointer with these offsets: the cells that it
+/// may touch. Fails with `Bounds` if the access may leave the region.
 fn window(region: Region, offsets: Offsets, distance: i16, size: usize) -> Result<Window, Reason>
     requires { size ≤ 8 }
     ensures exact { result ≡ ok_or (window_known region offsets.0 offsets.1 distance size) Reason.Bounds }
@@ -39,7 +40,8 @@ fn window(region: Region, offsets: Offsets, distance: i16, size: usize) -> Resul
     Ok(window)
 }
 
-/// Returns the pointer that a load of eight bytes at one address finds, if a whole pointer is known to be stored there.
+/// Returns the pointer that a load finds on the stack, if it loads 8 bytes from one address where a pointer is known to
+/// be stored. Otherwise returns `None`.
 fn stored_pointer(stack: &AbsStack, size: Size, window: Window) -> Option<AbsVal>
     requires { window.place + window.size ≤ 512 }
     ensures { result ≡ spilled stack.now size window }
@@ -54,7 +56,8 @@ fn stored_pointer(stack: &AbsStack, size: Size, window: Window) -> Option<AbsVal
     Some(AbsVal::Pointer(region, Offsets::exactly(offset)))
 }
 
-/// Writes the result of a load from the stack to a register. Fails with `StackUnset` if a cell may not be a byte.
+/// Writes the result of a load from a window of the stack to a register: a stored pointer, or any number of the load's
+/// size. Fails with `StackUnset` if one of the cells may not be a byte.
 fn load_stack(
     register: &mut AbsVal,
     stack: &AbsStack,
@@ -75,8 +78,8 @@ fn load_stack(
     Ok(())
 }
 
-/// Writes the result of a load to a register. Each region has its own write, so that no value is joined from several
-/// branches of the code.
+/// Writes the result of a load to a register, for a base with this region and these offsets. Fails with `Bounds` or
+/// `StackUnset`. Each region has its own write, so that the compiled code does not join values from several branches.
 pub fn load_into(
     register: &mut AbsVal,
     stack: &AbsStack,
@@ -101,7 +104,7 @@ pub fn load_into(
     }
 }
 
-/// Checks that the cells of the window are bytes. Those of the context always are.
+/// Checks that all cells of a window hold bytes. Fails with `StackUnset`. The cells of the context always hold bytes.
 pub(crate) fn check_bytes(stack: &AbsStack, region: Region, window: Window) -> Result<(), Reason>
     requires { window.place + window.size ≤ room_of region }
     ensures { result_err result ≡ unset_in stack.now region window }
@@ -117,7 +120,8 @@ pub(crate) fn check_bytes(stack: &AbsStack, region: Region, window: Window) -> R
     }
 }
 
-/// Returns the result of a load that is sign-extended.
+/// Returns what is known of the result of a sign-extended load: it may be any number. Fails with `PointerUse`, `Bounds`
+/// or `StackUnset`.
 pub fn load_signed(
     stack: &AbsStack,
     part: Narrow,
@@ -132,8 +136,8 @@ pub fn load_signed(
     Ok(AbsVal::Number(NumberSet::any()))
 }
 
-/// Returns the cells of the stack that a store may touch. Fails with `ContextWrite` if the base points into the
-/// context.
+/// Returns the stack cells that a store may touch. Fails with `ContextWrite` if the base points into the context, and
+/// with `Bounds` if the store may leave the stack.
 fn stack_window(
     region: Region,
     offsets: Offsets,
@@ -152,7 +156,7 @@ fn stack_window(
     }
 }
 
-/// Records a store of a number of `size` bytes.
+/// Records a store of a number of `size` bytes. Fails with `ContextWrite` or `Bounds`.
 #[inline(always)]
 pub(crate) fn store_number(
     stack: &mut AbsStack,
@@ -172,7 +176,8 @@ pub(crate) fn store_number(
     Ok(())
 }
 
-/// Records a store of a pointer. It must have 8 bytes, one address and one offset.
+/// Records a store of a pointer on the stack. Fails with `PointerUse` unless it is a store of 8 bytes to one address,
+/// and the pointer has one offset. Fails also with `ContextWrite` or `Bounds`.
 fn store_pointer(
     stack: &mut AbsStack,
     size: Size,
@@ -196,7 +201,8 @@ fn store_pointer(
     Ok(())
 }
 
-/// Checks a store of a value, and records what it does to the stack.
+/// Checks a store, and records what it does to the stack. `base` is what is known of the base register, and `value` of
+/// the value to store. Fails with the reason for which the store is rejected.
 pub fn store(
     stack: &mut AbsStack,
     size: Size,

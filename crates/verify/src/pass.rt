@@ -1,5 +1,5 @@
-//! The forward pass: it visits the units of a program in order, checks each instruction, and carries along what is
-//! known.
+//! The verifier's forward pass. It visits the units of a program in order, checks each instruction, and records what is
+//! known at the units to which it leads.
 ghost use Rattle.std.specs.Prelude.{ℕ, ◌≡◌, ◌≢◌, ◌<◌, ◌≤◌, ◌+◌, ◌^◌, pos, ◌<ℤ◌, ◌+ℤ◌, length, IfErr, IfOk, Ok, Result, if◌then◌else◌, Some, None};
 ghost use Rattle.std.specs.Result.{result_err};
 ghost use Rattle.verify.specs.Instructions.{IsStraight, reason_of};
@@ -23,8 +23,9 @@ use crate::{branches, registers, steps};
 use insn::{Insn, Program};
 use std::alloc::{AllocError, Global};
 
-/// Passes an instruction that continues with the following one, and returns what is known at the next unit. After a
-/// wide instruction, its result is kept for the unit after the second half.
+/// Checks an instruction that always continues with the next one, and returns what is known at the next unit. The
+/// result of a wide instruction, which has two units, is kept in `pending` for the unit after both. Fails with the
+/// instruction's fault.
 fn pass_straight(
     unit: usize,
     insn: &Insn,
@@ -47,7 +48,7 @@ fn pass_straight(
     Ok(take_next(pending, unit + 1))
 }
 
-/// Passes a jump by `distance` units: keeps the state for the jump's target.
+/// Records in `pending` that a jump leads from `unit` by `distance` units with this state.
 fn pass_jump(unit: usize, distance: i32, state: Box<AbsState>, pending: &mut Pending)
     requires bound { unit < 4096 }
     requires forward { pos unit <ℤ (pos (unit + 1) +ℤ distance) }
@@ -57,7 +58,8 @@ fn pass_jump(unit: usize, distance: i32, state: Box<AbsState>, pending: &mut Pen
     flow(pending, forward_target(unit, distance), state);
 }
 
-/// Keeps a state for unit `unit` along an edge of a conditional jump, if the edge may be taken.
+/// Records in `pending` that a conditional jump leads to `unit` with this state. Does nothing if `followed` is false:
+/// this case is not possible.
 fn pass_edge(unit: usize, followed: bool, state: Box<AbsState>, pending: &mut Pending)
     requires { unit < length pending.old.items }
     ensures { pending.new.items
@@ -68,7 +70,8 @@ fn pass_edge(unit: usize, followed: bool, state: Box<AbsState>, pending: &mut Pe
     }
 }
 
-/// Passes a conditional jump by `distance` units: keeps a narrowed state for each edge that may be taken.
+/// Checks a conditional jump, and records in `pending` the narrowed states with which it may lead to its target and to
+/// the next unit. Fails with `Unset` or `PointerUse` at the unit, or with `Memory`.
 fn pass_branch(
     alloc: Global,
     unit: usize,
@@ -96,7 +99,7 @@ fn pass_branch(
     Ok(())
 }
 
-/// Passes an exit: checks that the program may end with what is known of r0.
+/// Checks an exit: r0 must be a number. Fails with `Unset` or `ExitPointer` at the unit.
 fn pass_exit(unit: usize, state: Box<AbsState>) -> Result<(), VerifyError>
     ensures does { (reached : KnownSoFar) → Does (followed unit Insn.Exit state.value reached) result reached }
     ensures memory { IfErr result (λ e. e ≢ Memory) }
@@ -107,7 +110,8 @@ fn pass_exit(unit: usize, state: Box<AbsState>) -> Result<(), VerifyError>
     Ok(())
 }
 
-/// Takes out what is kept for the next unit, or returns the fault of the instruction before it.
+/// Takes what is kept in `pending` for unit `next` and returns it, or `None` if no path leads there. If `done` is a
+/// fault, fails with it.
 #[inline(always)]
 fn go_on(
     next: usize,
@@ -123,7 +127,8 @@ fn go_on(
     }
 }
 
-/// Passes an instruction at its unit with what is known there, and returns what is known at the next unit.
+/// Checks the instruction at `unit`, where `state` is known, and returns what is known at the next unit, or `None` if
+/// no path leads there. Fails with the instruction's fault, or with `Memory`.
 #[inline(always)]
 fn pass_state(
     alloc: Global,
@@ -167,8 +172,9 @@ fn pass_state(
     }
 }
 
-/// Passes a unit with what is known there, makes its ready code, and returns what is known at the next unit. If no path
-/// leads to the unit, or no instruction starts there, there is nothing to check.
+/// Checks the instruction at `unit`, writes its ready code (the form for the machine), and returns what is known at the
+/// next unit. `hand` is what is known at this one. If it is `None`, no path leads here, and nothing is checked. The
+/// second unit of a wide instruction is not checked either. Fails with the instruction's fault, or with `Memory`.
 #[inline(always)]
 fn pass_unit(
     alloc: Global,
@@ -203,8 +209,9 @@ fn pass_unit(
     pass_state(alloc, unit, &insn, state, pending)
 }
 
-/// Passes the units from `first` up to but not including `end` in order, and makes the ready code of each. The function
-/// is not inlined, so that its code, with that of passing a unit, exists only once.
+/// Checks the units from `first` up to but not including `end` in order, and writes their ready codes (the form for the
+/// machine). Fails with the first fault, or with `Memory`. The function is not inlined, so that its long code exists
+/// only once.
 #[inline(never)]
 pub fn pass_units(
     alloc: Global,
@@ -234,7 +241,7 @@ pub fn pass_units(
     Ok(())
 }
 
-/// Returns the pending states at the beginning of the pass: the entry state, for the first unit.
+/// Returns the pending states at the beginning of the pass: what is known at the entry, for the first unit.
 pub fn opened(alloc: Global, program: &Program) -> Result<Pending, AllocError>
     ensures { IfOk result (λ pending. passed_to program.now 0 ≡ Ok pending.items) }
 {
@@ -243,7 +250,8 @@ pub fn opened(alloc: Global, program: &Program) -> Result<Pending, AllocError>
     Ok(pending)
 }
 
-/// Runs the forward pass over a program in which every edge leads forward, and makes the ready codes of its units.
+/// Runs the forward pass over a program whose jumps all lead forward, and writes the ready codes of its units (the form
+/// for the machine). Fails with the first fault, or with `Memory`.
 pub fn pass(alloc: Global, program: &Program, codes: &mut Vec<Ready>) -> Result<(), VerifyError>
     requires { IsForward program.now }
     ensures answers { Answers (result_err (passed_to program.now (length (slots_of program.now)))) result }

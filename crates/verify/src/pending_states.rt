@@ -1,4 +1,4 @@
-//! Pending states: what the pass knows at units that it has not visited yet.
+//! Pending states: what the verifier's pass knows at units that it has not visited yet.
 ghost use Rattle.std.specs.Prelude.{◌≡◌, ◌-◌, ◌<◌, ◌≤◌, ◌++◌, Some, None, [], length, replicate, slice_set, is_none, pos, IfOk, vec_len, vec_capacity};
 ghost use Rattle.verify.specs.Judgement.{KnownSoFar, reached_at, along, joined_with};
 ghost use Rattle.verify.specs.Kept.{unboxed, AtHand};
@@ -8,12 +8,12 @@ use crate::state::AbsState;
 use std::alloc::{AllocError, Global};
 use std::marker::Model;
 
-/// What is known at each unit that the pass has not visited yet, and a spare box that no unit needs any more.
+/// What the verifier's pass knows at each unit that it has not visited yet, and a spare box that can be used again.
 #[derive(Drop)]
 pub struct Pending {
-    /// A place for each unit up to the last one for which a state was kept. No state is kept for the units after it.
+    /// What is known at each unit, up to the last one for which a state was kept. The units after it have no state.
     states: Vec<Option<Box<AbsState>>>,
-    /// The number of units. The list of places has room for one place for each.
+    /// The number of units. `states` has reserved memory for this number of entries.
     units: usize,
     spare: Option<Box<AbsState>>,
 }
@@ -37,24 +37,22 @@ pub fn boxed(alloc: Global, state: AbsState) -> Result<Box<AbsState>, AllocError
     Ok(boxed)
 }
 
-/// The number of states from which on `empty` reserves memory for all of them once. They take 131,072 bytes: as much as
-/// an allocator has at hand, or requests from the system in one piece.
+/// The number of units from which on `empty` reserves memory for all states once. 128 states take 131,072 bytes, which
+/// is as much as an allocator has ready or requests from the system at once.
 const MANY_STATES: usize = 128;
 
-/// Allocates room for `states` states in one piece. The list itself is empty.
+/// Allocates memory for `states` states in one piece, and returns it as an empty vector.
 fn room_for_states(alloc: Global, states: usize) -> Result<Vec<AbsState>, AllocError>
     ensures { IfOk result (λ room. room.items ≡ []) }
 {
     Vec::with_capacity(alloc, states)
 }
 
-/// Returns pending states for `units` units, with no state kept. No unit has a place yet: in straight code only the
-/// first gets one.
+/// Returns pending states for `units` units, with no state kept.
 ///
-/// Later a state may wait for each unit, each in its own box. If there are many units, room for all of them is
-/// allocated in one piece and released at once. An allocator such as glibc's decides what to return to the system by
-/// the size of the pieces that were released. It keeps that much memory from then on, and the boxes of the next program
-/// need no new pages. If this allocation is refused, nothing else fails. A few states need no such care.
+/// If there are many units, memory for all their states is allocated in one piece and released at once. An allocator
+/// such as glibc's then keeps that much memory instead of returning it to the system, and the states of the next
+/// program, each in its own box, need no new pages. If this allocation fails, `empty` still succeeds.
 pub fn empty(alloc: Global, units: usize) -> Result<Pending, AllocError>
     ensures { IfOk result (λ pending. pending.items ≡ replicate units None) }
 {
@@ -69,7 +67,7 @@ pub fn empty(alloc: Global, units: usize) -> Result<Pending, AllocError>
     })
 }
 
-/// Returns the state that is kept for a unit, which is then kept no longer.
+/// Removes and returns the state that is kept for a unit, or returns `None` if none is kept.
 pub fn take(pending: &mut Pending, unit: usize) -> Option<Box<AbsState>>
     requires { unit < length pending.old.items }
     ensures value { unboxed result ≡ reached_at pending.old.items unit }
@@ -82,7 +80,7 @@ pub fn take(pending: &mut Pending, unit: usize) -> Option<Box<AbsState>>
     pending.states[unit].take()
 }
 
-/// Returns a copy of what is kept for a unit.
+/// Returns a copy of the state that is kept for a unit, or `None` if none is kept.
 pub fn kept(pending: &Pending, unit: usize) -> Option<AbsState>
     requires { unit < length pending.now.items }
     ensures { result ≡ reached_at pending.now.items unit }
@@ -96,7 +94,7 @@ pub fn kept(pending: &Pending, unit: usize) -> Option<AbsState>
     }
 }
 
-/// Adds an empty place for each unit before `unit` that has none. No state is kept in the added places.
+/// Appends `None` to `states` until there is an entry for each unit before `unit`. The memory must be reserved.
 fn extend(states: &mut Vec<Option<Box<AbsState>>>, unit: usize)
     requires behind { vec_len states.old ≤ unit }
     requires room { unit ≤ vec_capacity states.old }
@@ -109,7 +107,7 @@ fn extend(states: &mut Vec<Option<Box<AbsState>>>, unit: usize)
     }
 }
 
-/// Keeps a state for a unit that has no place yet.
+/// Keeps a state for a unit that has no entry in `states` yet.
 #[inline(never)]
 fn keep_behind(pending: &mut Pending, unit: usize, state: Box<AbsState>)
     requires behind { pending.old.places ≤ unit }
@@ -120,7 +118,7 @@ fn keep_behind(pending: &mut Pending, unit: usize, state: Box<AbsState>)
     pending.states.push_reserved(Some(state));
 }
 
-/// Keeps a state for a unit that already has a place.
+/// Keeps a state for a unit that already has an entry in `states`. A state that was kept there is replaced.
 #[inline(always)]
 fn keep_inside(pending: &mut Pending, unit: usize, state: Box<AbsState>)
     requires { unit < pending.old.places }
@@ -129,7 +127,7 @@ fn keep_inside(pending: &mut Pending, unit: usize, state: Box<AbsState>)
     pending.states[unit] = Some(state);
 }
 
-/// Keeps a state for a unit.
+/// Keeps a state for a unit. A state that was kept for it is replaced.
 fn keep(pending: &mut Pending, unit: usize, state: Box<AbsState>)
     requires { unit < length pending.old.items }
     ensures { pending.new.items ≡ slice_set pending.old.items unit (Some state.value) }
@@ -141,7 +139,7 @@ fn keep(pending: &mut Pending, unit: usize, state: Box<AbsState>)
     keep_inside(pending, unit, state);
 }
 
-/// Checks whether no state is kept for a unit that has a place.
+/// Checks whether no state is kept for a unit. The unit must have an entry in `states`.
 #[inline(always)]
 fn is_free(pending: &Pending, unit: usize) -> bool
     requires { unit < pending.now.places }
@@ -150,8 +148,8 @@ fn is_free(pending: &Pending, unit: usize) -> bool
     pending.states[unit].is_none()
 }
 
-/// Joins a state with the one kept for a unit, which is taken out. The box of the kept one is set aside for the next
-/// state.
+/// Removes the state that is kept for a unit, and returns its join with `state`. Returns `state` if none is kept. The
+/// box of the removed state becomes the spare one.
 #[inline(never)]
 fn meet(pending: &mut Pending, unit: usize, mut state: Box<AbsState>) -> Box<AbsState>
     requires { unit < length pending.old.items }
@@ -167,7 +165,8 @@ fn meet(pending: &mut Pending, unit: usize, mut state: Box<AbsState>) -> Box<Abs
     state
 }
 
-/// Joins a state that arrives at a unit with the one kept there, which is taken out. The unit must have a place.
+/// Removes the state that is kept for a unit, and returns its join with `state`. Returns `state` if none is kept. The
+/// unit must have an entry in `states`.
 #[inline(always)]
 fn come_inside(pending: &mut Pending, unit: usize, state: Box<AbsState>) -> Box<AbsState>
     requires inside { unit < length pending.old.items }
@@ -182,8 +181,7 @@ fn come_inside(pending: &mut Pending, unit: usize, state: Box<AbsState>) -> Box<
     meet(pending, unit, state)
 }
 
-/// Joins a state that arrives at a unit with the one kept there, which is taken out. If none is kept, returns the state
-/// as it is.
+/// Removes the state that is kept for a unit, and returns its join with `state`. Returns `state` if none is kept.
 #[inline(always)]
 pub fn come(pending: &mut Pending, unit: usize, state: Box<AbsState>) -> Box<AbsState>
     requires { unit < length pending.old.items }
@@ -196,8 +194,8 @@ pub fn come(pending: &mut Pending, unit: usize, state: Box<AbsState>) -> Box<Abs
     come_inside(pending, unit, state)
 }
 
-/// Returns a copy of a state. It uses the spare box if there is one. Otherwise it makes a new box with the entry state
-/// first, because that state takes the fewest writes.
+/// Returns a copy of a state in a box. The spare box is used if there is one. A new box is made with the entry state
+/// first, which takes the fewest writes.
 pub fn second(
     alloc: Global,
     pending: &mut Pending,
@@ -214,7 +212,7 @@ pub fn second(
     Ok(spare)
 }
 
-/// Keeps a state for a unit, joined with what is already kept there.
+/// Keeps a state for a unit. If one is already kept, keeps the join of both.
 #[inline(always)]
 pub fn flow(pending: &mut Pending, unit: usize, state: Box<AbsState>)
     requires { unit < length pending.old.items }
@@ -228,8 +226,7 @@ pub fn flow(pending: &mut Pending, unit: usize, state: Box<AbsState>)
     keep_inside(pending, unit, state);
 }
 
-/// Returns the state that is kept for a unit, which is then kept no longer. Returns `None` if no state is kept for the
-/// unit, or if there is no such unit.
+/// Removes and returns the state that is kept for a unit. Returns `None` if none is kept, or if there is no such unit.
 #[inline(always)]
 pub fn take_next(pending: &mut Pending, unit: usize) -> Option<Box<AbsState>>
     ensures value { unboxed result ≡ reached_at pending.old.items unit }
@@ -241,8 +238,7 @@ pub fn take_next(pending: &mut Pending, unit: usize) -> Option<Box<AbsState>>
     take(pending, unit)
 }
 
-/// Undoes `take_next`: keeps `state` for the unit from which it was taken. Does nothing if `state` is `None`. The
-/// result is what was kept before it was taken.
+/// Undoes `take_next`: keeps `state` for the unit from which it was taken. Does nothing if `state` is `None`.
 pub fn put_back(pending: &mut Pending, unit: usize, state: Option<Box<AbsState>>)
     ensures { (reached : KnownSoFar) → AtHand reached unit state pending.old.items → pending.new.items ≡ reached }
 {

@@ -2,10 +2,10 @@
 use std::error::Error;
 use std::fmt;
 
-/// The reason why an instruction is at fault.
+/// The reason for which the verifier rejects an instruction.
 #[derive(Clone, Copy, Debug, PartialEq, Eq, Drop)]
 pub enum Reason {
-    /// V1: a jump leads to its own unit or backwards.
+    /// V1: a jump leads to itself or to an earlier instruction.
     BackJump,
     /// V2: a jump leads past the end of the program.
     JumpOut,
@@ -13,16 +13,15 @@ pub enum Reason {
     JumpInWide,
     /// V4: the last instruction is not the exit.
     LastNotExit,
-    /// V5: a register is read of which nothing is known. It may be unset, or hold different kinds of values on
-    /// different paths.
+    /// V5: a register is read that may be unset, or that holds a number on one path and a pointer on another.
     Unset,
-    /// V6: the frame pointer is written.
+    /// V6: r10, the frame pointer, is written.
     FrameWrite,
-    /// V7: a pointer is used in a way that is not allowed, or a number is the base of an access.
+    /// V7: a pointer is used in a way that is not allowed, or the base of an access is not a pointer.
     PointerUse,
     /// V8: an access may leave its region.
     Bounds,
-    /// V9: a cell of the stack is read that may not hold a byte.
+    /// V9: a stack cell is read that may not hold a byte.
     StackUnset,
     /// V10: the context is written.
     ContextWrite,

@@ -1,4 +1,4 @@
-//! Abstract registers: what is known of the eleven registers.
+//! What the verifier knows of the eleven registers.
 ghost use Rattle.std.specs.Prelude.{◌≡◌, ◌<◌, slice_set, IsTrue};
 ghost use Rattle.absval.specs.Table.{joined};
 ghost use Rattle.verify.specs.Registers.{known_at, operand_known, first_known, joined_all};
@@ -15,7 +15,7 @@ use word::Operation;
 const AT_ZERO: Offsets = Offsets { low: 0, high: 0 };
 
 /// Returns what is known at the entry: r1 points to the context, and r10 to the end of the stack. Nothing is known of
-/// the stack's cells.
+/// the other registers and of the stack cells.
 pub fn at_entry() -> AbsState
     ensures { result ≡ at_entry }
 {
@@ -28,7 +28,7 @@ pub fn at_entry() -> AbsState
     }
 }
 
-/// Returns what is known of the register with a number.
+/// Returns what is known of the register with this number, 0 to 10.
 pub fn known_at(registers: &[AbsVal; 11], number: usize) -> AbsVal
     requires { number < 11 }
     ensures { result ≡ known_at registers.now number }
@@ -61,8 +61,8 @@ pub fn operand(registers: &[AbsVal; 11], operand: Operand) -> AbsVal
     }
 }
 
-/// Returns what is known of the value that an operation reads from `dst`. A move does not read it, so the number 0 is
-/// used.
+/// Returns what is known of the value of `dst` before an operation on it. For a move, which does not read `dst`,
+/// returns the number 0.
 pub fn first(registers: &[AbsVal; 11], operation: Operation, dst: Reg) -> AbsVal
     ensures { result ≡ first_known registers.now operation dst }
 {
@@ -72,15 +72,14 @@ pub fn first(registers: &[AbsVal; 11], operation: Operation, dst: Reg) -> AbsVal
     }
 }
 
-/// Replaces what is known of a register.
+/// Replaces what is known of register `r`.
 pub fn write(registers: &mut [AbsVal; 11], r: Reg, value: AbsVal)
     ensures { registers.new ≡ slice_set registers.old r value }
 {
     registers[r.number() as usize] = value;
 }
 
-/// Joins the registers of two abstract states that reach the same unit: sets each of `registers` to the join of its
-/// value and that of the same register in `other`.
+/// Joins what is known of each register on two paths to the same unit: `registers` becomes what holds on both.
 pub fn join(registers: &mut [AbsVal; 11], other: &[AbsVal; 11])
     ensures { registers.new ≡ joined_all registers.old other.now }
 {
@@ -89,8 +88,8 @@ pub fn join(registers: &mut [AbsVal; 11], other: &[AbsVal; 11])
     }
 }
 
-/// Joins one register with that of another state. If nothing is known of it, it stays so, and the other is not read.
-/// Numbers are joined in place. A pointer that both have is not written.
+/// Joins what is known of one register on two paths: `register` becomes what holds on both. For speed, only what
+/// changes is written.
 fn join_one(register: &mut AbsVal, other: &AbsVal)
     ensures { register.new ≡ joined register.old other.now }
 {
@@ -102,7 +101,7 @@ fn join_one(register: &mut AbsVal, other: &AbsVal)
     }
 }
 
-/// Checks whether a value is exactly the given pointer.
+/// Checks whether a value is known to be the pointer into `region` with exactly these offsets.
 fn is_pointer(value: &AbsVal, region: Region, offsets: Offsets) -> bool
     ensures { IsTrue result → value.now ≡ AbsVal.Pointer region offsets }
 {
@@ -112,7 +111,7 @@ fn is_pointer(value: &AbsVal, region: Region, offsets: Offsets) -> bool
     }
 }
 
-/// Makes the registers equal to `other`.
+/// Copies `other` into `registers`.
 pub fn assign(registers: &mut [AbsVal; 11], other: &[AbsVal; 11])
     ensures { registers.new ≡ other.now }
 {

@@ -1,4 +1,4 @@
-//! Abstract states: what the verifier knows of a program's state at a unit.
+//! Abstract states: what the verifier knows of a run's states at a unit.
 ghost use Rattle.std.specs.Prelude.{◌≡◌};
 ghost use Rattle.verify.specs.Registers.{known_at, operand_known};
 ghost use Rattle.verify.specs.Knowledge.{met};
@@ -8,7 +8,7 @@ use absmem::AbsStack;
 use absval::AbsVal;
 use insn::{Operand, Reg};
 
-/// An abstract state: what is known of each of the eleven registers, and of the stack.
+/// An abstract state: what the verifier knows of each of the eleven registers and of the stack at a unit.
 #[derive(Drop)]
 pub struct AbsState {
     pub registers: [AbsVal; 11],
@@ -41,7 +41,7 @@ impl AbsState {
         }
     }
 
-    /// Makes the state equal to `other`.
+    /// Copies `other` into this state.
     pub fn assign(&mut self, other: &AbsState)
         ensures { self.new ≡ other.now }
     {
@@ -49,7 +49,7 @@ impl AbsState {
         self.stack.assign(&other.stack);
     }
 
-    /// Joins two states: keeps the facts that hold in both.
+    /// Joins this state with another: keeps what holds in both.
     pub fn join(&mut self, other: &AbsState)
         ensures { self.new ≡ met self.old other.now }
     {

@@ -1,4 +1,4 @@
-//! Steps of the pass: the checks of one instruction, and what it does to the abstract state.
+//! Checks of single instructions, and what each does to the abstract state.
 ghost use Rattle.std.specs.Prelude.{◌≡◌, ◌≢◌, [], ◌∷◌, Some, None, is_none, option_map, slice_set, IfOk, if◌then◌else◌};
 ghost use Rattle.std.specs.Result.{result_err};
 ghost use Rattle.absval.specs.Contains.{is_number};
@@ -18,7 +18,7 @@ use absval::{AbsVal, NumberSet};
 use insn::{Insn, Operand, Reg, Size};
 use word::{ByteOrder, Narrow, Operation, SwapSize, Width};
 
-/// Checks that a register that is read is set.
+/// Checks that a value that an instruction reads is set. Fails with `Unset`.
 fn check_set(value: &AbsVal) -> Result<(), Reason>
     ensures { result_err result ≡ first_reason ((is_unset value.now, Reason.Unset) ∷ []) }
 {
@@ -28,7 +28,7 @@ fn check_set(value: &AbsVal) -> Result<(), Reason>
     }
 }
 
-/// Checks that a value that is compared is a number.
+/// Checks that a value that an instruction compares is a number. Fails with `PointerUse`.
 fn check_number(value: AbsVal) -> Result<(), Reason>
     ensures { result_err result ≡ (if is_number value then None else Some Reason.PointerUse) }
 {
@@ -38,7 +38,7 @@ fn check_number(value: AbsVal) -> Result<(), Reason>
     }
 }
 
-/// Checks that the register that is written is not the frame pointer.
+/// Checks that the register that an instruction writes is not r10, the frame pointer. Fails with `FrameWrite`.
 fn check_writable(dst: Reg) -> Result<(), Reason>
     ensures { result_err result ≡ first_reason (write_checks dst) }
 {
@@ -48,15 +48,15 @@ fn check_writable(dst: Reg) -> Result<(), Reason>
     Ok(())
 }
 
-/// Writes a result to a register.
+/// Replaces what is known of register `dst` by `value`.
 fn put(state: &mut AbsState, dst: Reg, value: AbsVal)
     ensures { state.new ≡ assigned state.old dst (Some value) }
 {
     registers::write(&mut state.registers, dst, value);
 }
 
-/// Writes the result of an operation to `dst`. Fails if the operand `value` may be unset, if `dst` is the frame
-/// pointer, or if the operation has no result for a pointer.
+/// Replaces what is known of register `dst` by the result `made` of an operation. Fails if the operand `value` may be
+/// unset, if `dst` is r10, or if there is no result because the operation must not be used on a pointer.
 fn put_made(
     state: &mut AbsState,
     dst: Reg,
@@ -75,7 +75,8 @@ fn put_made(
     Ok(())
 }
 
-/// Applies an operation to `dst` and an operand, and writes the result to `dst`.
+/// Checks an operation, which may be a move, on register `dst` and an operand, and replaces what is known of `dst` by
+/// its result. Fails with `Unset`, `FrameWrite` or `PointerUse`.
 fn arithmetic(
     state: &mut AbsState,
     width: Width,
@@ -91,7 +92,8 @@ fn arithmetic(
     combine(state, width, operation, dst, operand)
 }
 
-/// Moves an operand to `dst`. The old value of `dst` is not read.
+/// Checks a move of an operand to register `dst`, and replaces what is known of `dst`. Fails with `Unset`, `FrameWrite`
+/// or `PointerUse`.
 fn move_operand(
     state: &mut AbsState,
     width: Width,
@@ -109,7 +111,8 @@ fn move_operand(
     }
 }
 
-/// Moves a value to `dst`.
+/// Checks a move of `value` to register `dst`, and replaces what is known of `dst`. Fails with `Unset`, `FrameWrite` or
+/// `PointerUse`.
 #[inline(always)]
 fn move_value(state: &mut AbsState, width: Width, dst: Reg, value: AbsVal) -> Result<(), Reason>
     ensures { outcome result state.new ≡
@@ -119,7 +122,8 @@ fn move_value(state: &mut AbsState, width: Width, dst: Reg, value: AbsVal) -> Re
     put_made(state, dst, &value, made)
 }
 
-/// Applies an operation other than a move to `dst` and an operand, and writes the result to `dst`.
+/// Checks an operation on register `dst` and an operand, and replaces what is known of `dst` by its result. The
+/// operation must not be a move. Fails with `Unset`, `FrameWrite` or `PointerUse`.
 fn combine(
     state: &mut AbsState,
     width: Width,
@@ -138,7 +142,8 @@ fn combine(
     combine_at(&mut state.registers, dst, width, operation, second)
 }
 
-/// Applies an operation other than a move to a register and a value, and writes the result to the register.
+/// Replaces what is known of register `dst` by the result of an operation on it and `value`. Fails with `PointerUse` if
+/// the operation must not be used on them. The operation must not be a move.
 #[inline(always)]
 fn combine_at(
     registers: &mut [AbsVal; 11],
@@ -163,7 +168,8 @@ fn combine_at(
     )
 }
 
-/// Replaces what is known of a register by the result of an operation on it and a value. Numbers are written in place.
+/// Replaces what is known of a register by the result of an operation on it and `value`. Fails with `PointerUse` if the
+/// operation must not be used on them. Numbers are changed in place, for speed.
 #[inline(always)]
 fn combine_into(
     register: &mut AbsVal,
@@ -192,7 +198,8 @@ fn combine_into(
     Ok(())
 }
 
-/// Negates `dst`.
+/// Checks a negation of register `dst`, and replaces what is known of it by the result. Fails with `Unset`,
+/// `FrameWrite` or `PointerUse`.
 fn negate(state: &mut AbsState, width: Width, dst: Reg) -> Result<(), Reason>
     ensures { outcome result state.new ≡ stepped (Insn.Negate width dst) state.old }
 {
@@ -201,7 +208,8 @@ fn negate(state: &mut AbsState, width: Width, dst: Reg) -> Result<(), Reason>
     put_made(state, dst, &value, made)
 }
 
-/// Writes the low bytes of `src` to `dst`, sign-extended.
+/// Checks a sign extension of the low bytes of register `src`, and replaces what is known of register `dst` by the
+/// result. Fails with `Unset`, `FrameWrite` or `PointerUse`.
 fn sign_extend(
     state: &mut AbsState,
     width: Width,
@@ -216,7 +224,8 @@ fn sign_extend(
     put_made(state, dst, &value, made)
 }
 
-/// Puts the low bytes of `dst` in an order.
+/// Checks a change of the byte order of register `dst`, and replaces what is known of it by the result. Fails with
+/// `Unset`, `FrameWrite` or `PointerUse`.
 fn swap(state: &mut AbsState, order: ByteOrder, size: SwapSize, dst: Reg) -> Result<(), Reason>
     ensures { outcome result state.new ≡ stepped (Insn.Swap order size dst) state.old }
 {
@@ -225,7 +234,7 @@ fn swap(state: &mut AbsState, order: ByteOrder, size: SwapSize, dst: Reg) -> Res
     put_made(state, dst, &value, made)
 }
 
-/// Writes an immediate 64-bit number to `dst`.
+/// Checks a move of a 64-bit number to register `dst`, and replaces what is known of `dst`. Fails with `FrameWrite`.
 fn load_immediate(state: &mut AbsState, dst: Reg, number: u64) -> Result<(), Reason>
     ensures { outcome result state.new ≡ stepped (Insn.LoadImmediate dst number) state.old }
 {
@@ -234,7 +243,8 @@ fn load_immediate(state: &mut AbsState, dst: Reg, number: u64) -> Result<(), Rea
     Ok(())
 }
 
-/// Loads a number, or a pointer that is stored on the stack, into `dst`.
+/// Checks a load into register `dst`, and replaces what is known of `dst` by the result: a number, or a pointer that
+/// was stored on the stack. Fails with `Unset`, `FrameWrite`, `PointerUse`, `Bounds` or `StackUnset`.
 fn load(state: &mut AbsState, size: Size, dst: Reg, base: Reg, offset: i16) -> Result<(), Reason>
     ensures { outcome result state.new ≡ stepped (Insn.Load size dst base offset) state.old }
 {
@@ -246,7 +256,8 @@ fn load(state: &mut AbsState, size: Size, dst: Reg, base: Reg, offset: i16) -> R
     memory::load_into(register, &state.stack, size, region, offsets, offset)
 }
 
-/// Loads a number into `dst` and sign-extends it.
+/// Checks a sign-extended load into register `dst`, and replaces what is known of `dst` by the result. Fails with
+/// `Unset`, `FrameWrite`, `PointerUse`, `Bounds` or `StackUnset`.
 fn load_signed(
     state: &mut AbsState,
     part: Narrow,
@@ -264,7 +275,8 @@ fn load_signed(
     Ok(())
 }
 
-/// Stores a value at a base. Both are passed by reference, because few need to be copied.
+/// Checks a store of `value` at `base` plus `offset`, and records it on the stack. Both are passed by reference,
+/// because few need to be copied. Fails with `Unset`, `PointerUse`, `ContextWrite` or `Bounds`.
 #[inline(always)]
 fn store_value(
     stack: &mut AbsStack,
@@ -282,7 +294,8 @@ fn store_value(
     memory::store(stack, size, base, offset, value)
 }
 
-/// Stores a number or a pointer.
+/// Checks a store of a number or a pointer at `base` plus `offset`, and records it on the stack. Fails with `Unset`,
+/// `PointerUse`, `ContextWrite` or `Bounds`.
 fn store(
     state: &mut AbsState,
     size: Size,
@@ -306,8 +319,8 @@ fn store(
     }
 }
 
-/// Checks an instruction that always continues with the following one. Changes the state to what is known after it, or
-/// returns the reason why the instruction is rejected.
+/// Checks an instruction that always continues with the next one, and changes the abstract state to what is known after
+/// it. Fails with the reason for which the instruction is rejected.
 pub fn straight(state: &mut AbsState, insn: &Insn) -> Result<(), Reason>
     requires { IsStraight insn.now }
     ensures { outcome result state.new ≡ stepped insn.now state.old }
@@ -353,7 +366,8 @@ pub fn straight(state: &mut AbsState, insn: &Insn) -> Result<(), Reason>
     }
 }
 
-/// Checks that the two values that a conditional jump compares are set and are numbers.
+/// Checks that the two values that a conditional jump compares are set and are numbers. Fails with `Unset` or
+/// `PointerUse`.
 pub fn compare(state: &AbsState, compared: &Comparison) -> Result<(), Reason>
     ensures { result_err result
         ≡ first_reason (compare_checks (known_at state.now.registers compared.now.dst)
@@ -367,7 +381,7 @@ pub fn compare(state: &AbsState, compared: &Comparison) -> Result<(), Reason>
     check_number(second)
 }
 
-/// Checks that the program may end with r0: it must be a number.
+/// Checks that the program may end with what is known of r0: it must be a number. Fails with `Unset` or `ExitPointer`.
 pub fn exit(state: &AbsState) -> Result<(), Reason>
     ensures { result_err result ≡ first_reason (exit_checks (known_at state.now.registers 0)) }
 {

@@ -1,4 +1,5 @@
-//! Structure of programs: where their jumps lead, and how they end.
+//! The structure of programs: checks that jumps lead forward to an instruction, and that the program ends with the
+//! exit.
 ghost use Rattle.std.specs.Prelude.{◌≡◌, ◌<◌, ◌≤◌, ◌+◌, ◌+ℤ◌, ◌<ℤ◌, ℕ, List, [], pos, length, false, is_some};
 ghost use Rattle.insn.specs.declared.insn.Insn.{Insn as InsnValue};
 ghost use Rattle.insn.specs.Program.{slots_of};
@@ -8,7 +9,7 @@ use crate::error::VerifyError;
 use crate::reason::Reason;
 use insn::{Insn, Program};
 
-/// Returns the target of a jump from a unit, in units. It may be outside the program.
+/// Returns the unit to which a jump at `unit` by `distance` leads. It may be outside the program, and even negative.
 pub(crate) fn target(unit: usize, distance: i32) -> i64
     requires { unit < 4096 }
     ensures { result ≡ pos (unit + 1) +ℤ distance }
@@ -16,7 +17,7 @@ pub(crate) fn target(unit: usize, distance: i32) -> i64
     unit as i64 + 1 + i64::from(distance)
 }
 
-/// Returns the target of a jump that leads forward, in units.
+/// Returns the unit to which a jump at `unit` by `distance` leads. It must lead forward.
 pub(crate) fn forward_target(unit: usize, distance: i32) -> usize
     requires bound { unit < 4096 }
     requires forward { pos unit <ℤ (pos (unit + 1) +ℤ distance) }
@@ -25,7 +26,8 @@ pub(crate) fn forward_target(unit: usize, distance: i32) -> usize
     target(unit, distance) as usize
 }
 
-/// Returns the fault of a jump from a unit by `distance` units, in a program of `end` units.
+/// Returns the fault of a jump at `unit` by `distance`, or `None` if it leads forward to an instruction. `end` is the
+/// program's number of units.
 fn target_fault(program: &Program, end: usize, unit: usize, distance: i32) -> Option<VerifyError>
     requires end { end ≡ length (slots_of program.now) }
     requires bound { end ≤ 4096 }
@@ -46,7 +48,8 @@ fn target_fault(program: &Program, end: usize, unit: usize, distance: i32) -> Op
     None
 }
 
-/// Returns the fault of the instruction at a unit, if it is a jump with a fault.
+/// Returns the fault of the instruction at `unit` if it is a jump that does not lead forward to an instruction, and
+/// otherwise `None`. `end` is the program's number of units.
 #[inline(always)]
 fn jump_fault(program: &Program, end: usize, unit: usize, insn: &Insn) -> Option<VerifyError>
     requires end { end ≡ length (slots_of program.now) }
@@ -73,7 +76,8 @@ fn is_jump(insn: &Insn) -> bool
     )
 }
 
-/// Returns the fault of the instruction with an index, if it is a jump with a fault.
+/// Returns the fault of the instruction with this index if it is a jump that does not lead forward to an instruction,
+/// and otherwise `None`. `end` is the program's number of units.
 #[inline(always)]
 fn fault_of(program: &Program, end: usize, index: usize) -> Option<VerifyError>
     requires end { end ≡ length (slots_of program.now) }
@@ -85,8 +89,8 @@ fn fault_of(program: &Program, end: usize, index: usize) -> Option<VerifyError>
     jump_fault(program, end, unit, &program.instructions()[index])
 }
 
-/// Checks whether the instruction with an index is a jump with a fault. It first computes the unit where the
-/// instruction starts.
+/// Checks whether the instruction with this index is a jump that does not lead forward to an instruction. `end` is the
+/// program's number of units.
 #[inline(never)]
 fn is_faulty(program: &Program, end: usize, index: usize) -> bool
     requires end { end ≡ length (slots_of program.now) }
@@ -97,8 +101,8 @@ fn is_faulty(program: &Program, end: usize, index: usize) -> bool
     fault_of(program, end, index).is_some()
 }
 
-/// Checks whether the instruction with an index is a jump with a fault. Most instructions are not jumps, and for them
-/// the unit where they start is not computed.
+/// Checks whether the instruction with this index is a jump that does not lead forward to an instruction. The unit
+/// where it starts is computed only for jumps, to save time. `end` is the program's number of units.
 #[inline(always)]
 fn has_fault(program: &Program, end: usize, index: usize) -> bool
     requires end { end ≡ length (slots_of program.now) }
@@ -112,7 +116,8 @@ fn has_fault(program: &Program, end: usize, index: usize) -> bool
     is_faulty(program, end, index)
 }
 
-/// Returns the first fault of the jumps.
+/// Returns the fault of the first jump that does not lead forward to an instruction, or `None` if there is no such
+/// jump.
 fn first_jump_fault(program: &Program) -> Option<VerifyError>
     ensures { result ≡ first_fault (checks_from program.now 0 program.now) }
 {
@@ -135,7 +140,7 @@ fn is_the_exit(insn: &Insn) -> bool
     }
 }
 
-/// Returns the fault of the last instruction, if it is not the exit.
+/// Returns the fault `LastNotExit` if the last instruction is not the exit, and otherwise `None`.
 fn last_fault(program: &Program) -> Option<VerifyError>
     ensures { result ≡ first_fault (last_checks 0 program.now) }
 {
@@ -146,7 +151,8 @@ fn last_fault(program: &Program) -> Option<VerifyError>
     Some(VerifyError::At(Reason::LastNotExit, program.unit_of(last)))
 }
 
-/// Returns the first fault of a program's structure.
+/// Returns the first fault of a program's structure: that of a jump, or else of the last instruction. Returns `None` if
+/// there is none.
 pub(crate) fn find_fault(program: &Program) -> Option<VerifyError>
     ensures { result ≡ structural_fault program.now }
 {

@@ -12,18 +12,18 @@ use crate::structure::find_fault;
 use insn::Program;
 use std::alloc::{AllocError, Global};
 
-/// What the pass knows of a program at each unit, up to the first fault.
+/// What the verifier knows at each unit of a program, up to the first fault.
 #[derive(Drop)]
 pub struct KnownStates {
-    /// What is known at each unit that the pass reaches. If the pass finds a fault, the fault's unit is the last. An
-    /// entry is `None` if no path leads to its unit.
+    /// What is known at each unit that the verifier reaches, or `None` if no path leads to it. If there is a fault, its
+    /// unit is the last.
     pub states: Vec<Option<AbsState>>,
-    /// The error for which the program is rejected, if it is.
+    /// Why the program is rejected, or `None` if it is accepted.
     pub fault: Option<VerifyError>,
 }
 
-/// Returns what is known at each unit of a program, up to its first fault. If the program has a structural fault, the
-/// pass does not start and no state is returned.
+/// Returns what the verifier knows at each unit of a program, up to its first fault. If a jump is at fault, or the last
+/// instruction is not the exit, no states are returned. Fails with `AllocError` if out of memory.
 pub fn known_at_units(alloc: Global, program: &Program) -> Result<KnownStates, AllocError>
     ensures { IfOk result (λ s. IsSurvey program.now s.states.items s.fault) }
 {
@@ -36,7 +36,8 @@ pub fn known_at_units(alloc: Global, program: &Program) -> Result<KnownStates, A
     known_forward(alloc, program)
 }
 
-/// Returns what is known at each unit of a program that has no structural fault.
+/// Returns what the verifier knows at each unit of a program, up to its first fault. The program's structure must have
+/// no fault. Fails with `AllocError` if out of memory.
 fn known_forward(alloc: Global, program: &Program) -> Result<KnownStates, AllocError>
     requires { structural_fault program.now ≡ None }
     ensures { IfOk result (λ s. IsSurvey program.now s.states.items s.fault) }
@@ -60,7 +61,7 @@ fn known_forward(alloc: Global, program: &Program) -> Result<KnownStates, AllocE
     })
 }
 
-/// Returns a fault of the program as it is. Fails if the verifier ran out of memory.
+/// Returns `fault` if it is one of the program, and fails with `AllocError` if it is `Memory`.
 fn named(fault: VerifyError) -> Result<VerifyError, AllocError>
     ensures same { IfOk result (λ f. f ≡ fault) }
     ensures named { OnOk result (fault ≢ VerifyError.Memory) }

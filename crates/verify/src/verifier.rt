@@ -18,12 +18,12 @@ use crate::verified_program::Verified;
 use insn::Program;
 use std::alloc::Global;
 
-/// Checks a program, and makes its ready codes if it has no fault. Faults of structure are checked before those that
-/// the pass finds.
+/// Checks a program, and makes its ready codes (the form that the machine runs) if it has no fault. The structure is
+/// checked first: the jumps, and the exit.
 ///
 /// # Errors
 ///
-/// The first fault, or `Memory` if memory runs out.
+/// The program's first fault, or `Memory` if out of memory.
 fn check(alloc: Global, program: &Program, codes: &mut Vec<Ready>) -> Result<(), VerifyError>
     ensures judged { Answers (judged program.now) result }
     ensures structural { IfSome (structural_fault program.now) (λ fault. result ≡ Err fault) }
@@ -36,11 +36,11 @@ fn check(alloc: Global, program: &Program, codes: &mut Vec<Ready>) -> Result<(),
     pass(alloc, program, codes)
 }
 
-/// Returns the program as a verified one if it is accepted. Only the pass allocates memory.
+/// Accepts a program: returns it as a [`Verified`] value, with the form that the machine runs.
 ///
 /// # Errors
 ///
-/// Returns the program with its first fault if it is rejected, or with `Memory` if memory runs out.
+/// Returns the program with its first fault if it is rejected, or with `Memory` if out of memory.
 pub fn verify(alloc: Global, program: Program) -> Result<Verified, Refused>
     // Unless memory runs out, the result is that of one function from programs to faults.
     ensures accepted { IfOk result (λ v. judged v ≡ None) }

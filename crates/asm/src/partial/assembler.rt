@@ -1,4 +1,4 @@
-//! The assembler of texts in which some units are written as bytes.
+//! The assembler of texts that may have units written as bytes.
 
 ghost use Rattle.std.specs.Prelude.{◌≡◌, ◌≢◌, ◌≤◌, drop, length, IfOk, IfErr, Ok, Err};
 ghost use Rattle.text.specs.Stop.{semicolon};
@@ -14,12 +14,12 @@ use codec::encode;
 use std::alloc::Global;
 use text::{Stop, cut};
 
-/// Assembles a text into bytes, line by line. A line may have an instruction, or `.unit 0x..` with the eight bytes of a
-/// unit. Each line is assembled by itself, so that a jump to a name of another line is a fault.
+/// Assembles a text into bytes. A line has an instruction, or `.unit 0x..` with the 8 bytes of a unit in hexadecimal.
+/// Each line is assembled by itself, so that a jump to a name on another line is a fault.
 ///
 /// # Errors
 ///
-/// The fault of the first line that has one, as [`crate::assembler::assemble`] reports it. `Memory` if out of memory.
+/// The fault of the first line that has one, or `Memory` if out of memory.
 #[tactic(auto, unfolding(crate::specs::Reading::bytes_said))]
 pub fn assemble(alloc: Global, text: &str) -> Result<Vec<u8>, AsmError>
     ensures said { IfOk result (λ bytes. bytes_said text.now ≡ Ok bytes.items) }
@@ -37,7 +37,7 @@ pub fn assemble(alloc: Global, text: &str) -> Result<Vec<u8>, AsmError>
     Ok(bytes)
 }
 
-/// Assembles the line of this number into bytes.
+/// Assembles the line with number `number` into bytes. Fails with its fault, or with `Memory`.
 fn bytes_in(alloc: Global, number: u64, line: &str) -> Result<Vec<u8>, AsmError>
     ensures said { IfOk result (λ bytes. line_bytes line.now ≡ Ok bytes.items) }
     ensures fault { IfErr result (λ e. e ≢ Memory → at_line number (line_bytes line.now) ≡ Err e) }
@@ -52,7 +52,8 @@ fn bytes_in(alloc: Global, number: u64, line: &str) -> Result<Vec<u8>, AsmError>
     }
 }
 
-/// Assembles a line without `.unit` into bytes. A line without an instruction has no bytes.
+/// Assembles a line that has no `.unit` into bytes. A line without an instruction gives no bytes. Fails with the line's
+/// fault, or with `Memory`.
 fn bytes_alone(alloc: Global, number: u64, line: &str) -> Result<Vec<u8>, AsmError>
     ensures said { IfOk result (λ bytes. alone (said line.now) ≡ Ok bytes.items) }
     ensures fault { IfErr result (λ e. e ≢ Memory → at_line number (alone (said line.now)) ≡ Err e) }
@@ -65,7 +66,8 @@ fn bytes_alone(alloc: Global, number: u64, line: &str) -> Result<Vec<u8>, AsmErr
     }
 }
 
-/// Reads a line that begins with a dot, which must be `.unit` and its operand. It returns the eight bytes.
+/// Reads a line such as `.unit 0x0102030405060708`, which begins with a dot, and returns the 8 bytes. Fails with
+/// `Mnemonic` or `Operand` if it does not have this form.
 fn raw(solid: &[u8]) -> Result<[u8; 8], AsmFault>
     ensures said { IfOk result (λ unit. raw_in (before semicolon solid.now) ≡ Ok unit) }
     ensures fault { IfErr result (λ e. raw_in (before semicolon solid.now) ≡ Err e) }
@@ -79,7 +81,8 @@ fn raw(solid: &[u8]) -> Result<[u8; 8], AsmFault>
     unit(operand)
 }
 
-/// Reads the operand of `.unit`, with optional white space after it. It returns the eight bytes.
+/// Reads the operand of `.unit`, `0x` and sixteen hexadecimal digits, which white space may follow. Returns the 8
+/// bytes. Fails with `Operand`.
 fn unit(operand: &[u8]) -> Result<[u8; 8], AsmFault>
     ensures said { IfOk result (λ unit. unit_in operand.now ≡ Ok unit) }
     ensures fault { IfErr result (λ e. unit_in operand.now ≡ Err e) }
@@ -93,7 +96,7 @@ fn unit(operand: &[u8]) -> Result<[u8; 8], AsmFault>
     }
 }
 
-/// Reads `0x` and sixteen hexadecimal digits as eight bytes.
+/// Reads `0x` and sixteen hexadecimal digits, and returns the 8 bytes. Fails with `Operand`.
 fn eight(number: &[u8]) -> Result<[u8; 8], AsmFault>
     ensures said { IfOk result (λ unit. eight_of number.now ≡ Ok unit) }
     ensures fault { IfErr result (λ e. eight_of number.now ≡ Err e) }

@@ -1,4 +1,4 @@
-//! The disassembler that continues after units that cannot be decoded.
+//! The disassembler of bytecode that cannot be decoded completely.
 
 ghost use Rattle.std.specs.Prelude.{◌≡◌, ◌≢◌, ◌<◌, ◌≤◌, ◌/◌, ◌%◌, ◌++◌, codes, drop, length, slice_index, string_bytes, IfOk, IfErr, OnOk, Ok};
 ghost use Rattle.codec.specs.declared.fault.CodecFault.TheVariants.{Length};
@@ -11,9 +11,9 @@ use crate::printer::put_instruction;
 use codec::{CodecError, CodecFault, instruction};
 use std::alloc::{AllocError, Global};
 
-/// Disassembles whole units into text, with one instruction on each line. A unit with which no instruction begins
-/// becomes a line `.unit 0x..` with its eight bytes and the code of the fault. [`crate::partial::assemble`] returns the
-/// bytes again.
+/// Returns bytecode as text, with one instruction on each line. A unit at which no instruction can be decoded becomes a
+/// line `.unit 0x..`, with its 8 bytes in hexadecimal and the code of the fault. [`crate::partial::assemble`] turns the
+/// text back into the same bytes.
 ///
 /// # Errors
 ///
@@ -31,7 +31,7 @@ pub fn disassemble(alloc: Global, bytes: &[u8]) -> Result<String, CodecError>
     Ok(text_of(alloc, bytes)?)
 }
 
-/// Disassembles bytes whose number is a multiple of 8.
+/// Returns bytecode as text. The number of bytes must be a multiple of 8. Fails with `AllocError` if out of memory.
 fn text_of(alloc: Global, bytes: &[u8]) -> Result<String, AllocError>
     requires { length bytes.now % 8 ≡ 0 }
     ensures text { IfOk result (λ text. IsTextOf bytes.now (string_bytes text)) }
@@ -54,7 +54,8 @@ fn behind(bytes: &[u8], size: usize) -> &[u8]
     &bytes[size..]
 }
 
-/// Appends the line of the instruction or unit with which the bytes begin, and returns the number of its bytes.
+/// Appends the line of the instruction at the beginning of `bytes`, or of the unit there if it cannot be decoded.
+/// Returns the number of bytes written: 8 or 16.
 fn put_line(alloc: Global, text: &mut String, bytes: &[u8]) -> Result<usize, AllocError>
     requires { 8 ≤ length bytes.now }
     ensures some { IfOk result (λ size. 0 < size) }
@@ -68,7 +69,8 @@ fn put_line(alloc: Global, text: &mut String, bytes: &[u8]) -> Result<usize, All
     Ok(size)
 }
 
-/// Appends the text of the instruction or unit with which the bytes begin, and returns the number of its bytes.
+/// Appends the instruction at the beginning of `bytes` as text, or the unit there if it cannot be decoded. Returns the
+/// number of bytes written: 8 or 16.
 fn put_piece(alloc: Global, text: &mut String, bytes: &[u8]) -> Result<usize, AllocError>
     requires { 8 ≤ length bytes.now }
     ensures some { IfOk result (λ size. 0 < size) }
@@ -89,7 +91,7 @@ fn put_piece(alloc: Global, text: &mut String, bytes: &[u8]) -> Result<usize, Al
     }
 }
 
-/// Appends the text of a unit with which no instruction begins, and the code of the fault.
+/// Appends a unit that cannot be decoded, such as `.unit 0x0102030405060708 ; C2`, with the code of the fault.
 fn put_raw(
     alloc: Global,
     text: &mut String,
@@ -104,7 +106,7 @@ fn put_raw(
     write!(text, ".unit 0x{digits} ; {fault}{kind}")
 }
 
-/// Returns the kind of an unsupported instruction, by its opcode. For other faults it returns the empty text.
+/// Returns what an unsupported instruction is, by its opcode, such as ` call`. Returns the empty text for other faults.
 fn kind(fault: CodecFault, opcode: u8) -> &'static str
     ensures { result.now ≡ kind_of fault opcode }
 {
@@ -114,7 +116,7 @@ fn kind(fault: CodecFault, opcode: u8) -> &'static str
     }
 }
 
-/// Returns the kind of an unsupported instruction, by its opcode.
+/// Returns what an unsupported instruction is, by its opcode, such as ` call`.
 fn left_out(opcode: u8) -> &'static str
     ensures { result.now ≡ kind_of CodecFault.LeftOut opcode }
 {

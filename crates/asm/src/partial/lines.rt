@@ -1,9 +1,9 @@
-//! The lines of an assembly text, as texts.
+//! Splits a text into lines.
 
 ghost use Rattle.std.specs.Prelude.{◌≡◌, ◌<◌, length, IfSome};
 ghost use Rattle.text.specs.Parts.{lines_of, GivesLines};
 
-/// Returns the first line without its line feed, and the text after it. It returns `None` if the text is empty.
+/// Returns the first line without its line feed, and the text after it, or `None` if the text is empty.
 pub fn first_line(text: &str) -> Option<(&str, &str)>
     ensures first { GivesLines result (lines_of text.now) }
     ensures shorter { IfSome result (λ cut. length cut.1.now < length text.now) }

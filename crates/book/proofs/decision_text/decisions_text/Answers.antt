@@ -10,7 +10,7 @@ use Rattle.book.proofs.LineLemmas.{lines_all, order_is, order_there, place_more,
 use Rattle.book.proofs.decision_text.decisions_text.Goals as goal
 use Rattle.book.proofs.decision_text.decisions_text.Goals.{then-general-commander+in_ok-push_decision, else-general-commander}
 
--- a lieutenant is new to the list of the commander alone
+-- A lieutenant is not on the list that consists of the commander.
 apart : (general commander known : ℕ) → known ≡ commander → (general ≡ known → ⊥) → on (commander ∷ []) general ≡ false
 apart general commander known e ne = or_from (commander == general) false (ne_eqb commander general (λ same. ne (sym same ∙ sym e))) refl
 

@@ -8,6 +8,6 @@ use Rattle.book.proofs.writer.+push_labels.Given as goal
 abbrev pub decreases-push_labels : goal.decreases-push_labels
 decreases-push_labels g l = l.more
 
--- the lines of the longer labels so far
+-- The lines of the longer labels so far.
 abbrev pub invariant-loop-general : goal.invariant-loop-general
 invariant-loop-general g l = string_bytes l.text ≡ string_bytes l.fn.text ++ flat_map (λ j. lines_from (g.M.Marks.marking l.marks) l.generals (l.more - 1) (l.label ++ j ∷ [])) (others l.general l.label)

@@ -1,4 +1,4 @@
--- The value at the window's place.
+-- The value at the window's index.
 use Rattle.std.proofs.Common.{◌≡◌, ℕ, ℤ, Ok, subst}
 use Rattle.std.specs.Int.{w16}
 use Rattle.std.proofs.lemmas.Int.{to_z-of_z}

@@ -1,4 +1,4 @@
--- The number at the window's place, extended.
+-- The number at the window's index, sign-extended.
 use Rattle.std.proofs.Common.{◌≡◌, ℤ, ℕ, Ok, Err, subst, rules, sym, ap, ◌∙◌}
 use Rattle.std.specs.Int.{w16}
 use Rattle.std.proofs.lemmas.Int.{to_z-of_z}

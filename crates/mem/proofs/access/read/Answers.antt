@@ -1,4 +1,4 @@
--- What stands at the window's place.
+-- The value at the window's index.
 use Rattle.std.proofs.Common.{◌∙◌, ap, subst}
 use Rattle.std.specs.Prelude.{Result, IsOk}
 use Rattle.insn.specs.Insn.{bytes_of}

@@ -1,4 +1,4 @@
--- The number at the window's place, extended.
+-- The number at the window's index, sign-extended.
 use Rattle.std.proofs.Common.{◌≡◌, ◌∙◌, ap, sym, subst, ℕ}
 use Rattle.std.specs.Prelude.{Result, IsOk, Ok}
 use Rattle.insn.specs.Insn.{bytes_of}

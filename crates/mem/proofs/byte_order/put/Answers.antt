@@ -1,4 +1,4 @@
--- The bytes of the number stand at the place.
+-- The bytes of the number are at the index.
 use Rattle.std.proofs.Common.{◌∙◌, ◌-◌, drop}
 use borrow.Rule.Slice.PartMut.{mid_of}
 use Rattle.word.specs.Bytes.{little_bytes}

@@ -1,4 +1,4 @@
--- No byte stands there.
+-- The cell is not a byte.
 use Rattle.std.proofs.Common.{arith}
 use Rattle.mem.proofs.FirstCell.{byte_none}
 use Rattle.mem.proofs.cells.byte_at.Goals as goal

@@ -1,4 +1,4 @@
--- The entries that are left stand behind the place.
+-- The remaining entries begin at the index.
 use Rattle.std.proofs.Common.{length, ◌≡◌, ◌-◌, ◌≤◌}
 use Rattle.object.specs.Entries.{behind_entries}
 use Rattle.object.proofs.entries.behind_entries.Given as goal

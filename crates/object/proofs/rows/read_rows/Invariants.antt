@@ -1,4 +1,4 @@
--- The machine has come so far.
+-- The machine is in the state of the loop.
 use Rattle.std.proofs.Common.{length, ◌-◌, ◌≤◌}
 use Rattle.object.specs.Rows.{Comes}
 use Rattle.object.specs.Sources.{origins_of}

@@ -1,4 +1,4 @@
--- What was read stands before what is left.
+-- The lines that were read come before the remaining text.
 use Rattle.std.proofs.Common.{◌≡◌, ◌≤◌, ◌+◌, length}
 use denote.Shadow.{shadow}
 use denote.Text.{Utf8}

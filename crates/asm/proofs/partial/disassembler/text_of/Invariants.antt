@@ -1,4 +1,4 @@
--- What was read stands before what is left, and its lines are told.
+-- The bytes that were read come before the remaining ones, and their lines are written.
 use Rattle.std.proofs.Common.{◌≡◌, ◌%◌, List, length, string_bytes}
 use Rattle.asm.specs.Pieces.{Piece}
 use Rattle.asm.proofs.PieceLemmas.{IsReadTo}

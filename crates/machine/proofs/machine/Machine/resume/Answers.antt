@@ -1,4 +1,4 @@
--- The reply goes to what was asked.
+-- The reply is given to the program as its request requires.
 use Rattle.semantics.specs.Replies.{words_in}
 use Rattle.machine.proofs.AdvanceLemmas.{answer_reached, answer_of_run}
 use Rattle.machine.proofs.machine.Machine.resume.Goals as goal

@@ -1,4 +1,4 @@
--- A cell as it is kept.
+-- A cell as the code represents it.
 use Rattle.std.proofs.Common.{◌≡◌, ◌∙◌, ◌-◌, ◌%◌, ap, refl, List, get_or, subst, to_z, of_z, rules, ℕ}
 use Rattle.std.specs.Int.{w32, cast_signed}
 use Rattle.std.proofs.lemmas.Int.{to_z-of_z}

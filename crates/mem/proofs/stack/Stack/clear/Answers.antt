@@ -1,4 +1,4 @@
--- Nothing stands anywhere, whatever the bytes and the offsets are.
+-- All cells are empty, whatever the bytes and the offsets are.
 use Rattle.std.proofs.Common.{arith}
 use Rattle.std.proofs.lemmas.List.{get_or-replicate}
 use Rattle.mem.proofs.Kept.{cells_empty}

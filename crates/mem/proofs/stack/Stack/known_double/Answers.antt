@@ -1,4 +1,4 @@
--- The first cell tells a number from a pointer.
+-- The first cell says whether the value is a number or a pointer.
 use Rattle.std.proofs.Common.{◌∙◌, ap, sym, ℤ, get_or, to_z, rules}
 use Rattle.std.specs.Prelude.{Ok}
 use Rattle.std.specs.Int.{w32}

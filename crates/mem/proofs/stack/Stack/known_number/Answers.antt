@@ -1,4 +1,4 @@
--- The bytes are those that are kept.
+-- The bytes are the stored ones.
 use Rattle.insn.specs.Insn.{bytes_of}
 use Rattle.mem.proofs.KnownCells.{number_known}
 use Rattle.mem.proofs.stack.Stack.known_number.Goals as goal

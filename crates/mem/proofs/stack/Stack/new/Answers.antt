@@ -1,4 +1,4 @@
--- Nothing stands anywhere.
+-- All cells are empty.
 use Rattle.std.proofs.Common.{arith}
 use Rattle.std.proofs.lemmas.List.{get_or-replicate}
 use Rattle.mem.proofs.Kept.{cells_empty}

@@ -1,4 +1,4 @@
--- The cells of the window are bytes, and those are the number's.
+-- The cells of the window are the bytes of the number.
 use Rattle.std.proofs.Common.{◌∙◌, ap, List}
 use Rattle.insn.specs.Insn.{bytes_of}
 use Rattle.word.specs.Bytes.{little_bytes}

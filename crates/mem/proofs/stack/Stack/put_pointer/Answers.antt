@@ -1,4 +1,4 @@
--- The cells of the window are the pointer's pieces, and its offset stands at their first.
+-- The cells of the window are the pointer's pieces, and its offset is stored at the first.
 use Rattle.std.proofs.Common.{◌∙◌, ap, List, to_z, of_z}
 use Rattle.std.specs.Int.{w32}
 use Rattle.std.proofs.lemmas.Int.{to_z-of_z}

@@ -1,4 +1,4 @@
--- The same cells, each at its place.
+-- The same cell at each index.
 use Rattle.std.proofs.Common.{◌∙◌, sym, arith, refl}
 use Rattle.semantics.specs.declared.value.Cell.TheVariants.{Empty}
 use Rattle.mem.proofs.Alike.{same_lists}

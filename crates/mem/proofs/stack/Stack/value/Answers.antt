@@ -1,4 +1,4 @@
--- What stands first decides.
+-- The first cell decides.
 use Rattle.std.proofs.Common.{◌≡◌, ◌∙◌, sym, subst, ℤ, true, false, take, drop, to_z, of_z, rules}
 use Rattle.std.specs.Prelude.{Ok}
 use Rattle.std.specs.Int.{w32}
