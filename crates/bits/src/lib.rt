@@ -1,4 +1,4 @@
-//! Computes with known bits of words: from the known bits of the operands it computes those of an operation's result.
+//! Computes with known bits of words: computes the known bits of an operation's results from those of its operands.
 #![tactic(auto)]
 
 pub mod bits;
