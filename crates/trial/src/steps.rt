@@ -45,7 +45,7 @@ fn put_reads(out: &mut String, activation: &Machine, read: RegisterTriple) -> Re
     put_read(out, activation, third)
 }
 
-/// Appends where a store writes, such as ` -> stack 504`: the region and offset that `base` points to, plus `offset`.
+/// Appends where a store writes, such as ` -> stack -8`: the region and offset that `base` points to, plus `offset`.
 /// Appends nothing if `base` is not a pointer.
 fn put_place(out: &mut String, base: Value, offset: i16) -> Result<(), AllocError>
     ensures { OnOk result (string_bytes out.new ≡ string_bytes out.old ++ place_told offset base) }
@@ -58,7 +58,7 @@ fn put_place(out: &mut String, base: Value, offset: i16) -> Result<(), AllocErro
     write!(out, " -> {place} {at}")
 }
 
-/// Appends where the instruction stores, such as ` -> stack 504`. Appends nothing if it is not a store.
+/// Appends where the instruction stores, such as ` -> stack -8`. Appends nothing if it is not a store.
 fn put_stored(out: &mut String, activation: &Machine, insn: &Insn) -> Result<(), AllocError>
     ensures { OnOk result (string_bytes out.new ≡ string_bytes out.old
         ++ stored_told activation.now.state.registers insn.now) }

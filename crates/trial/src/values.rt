@@ -20,7 +20,7 @@ impl fmt::Display for RegionText {
     }
 }
 
-/// Displays the value of a register: a number, a pointer's region and offset such as `stack 504`, or `unset`.
+/// Displays the value of a register: a number, a pointer's region and offset such as `stack -8`, or `unset`.
 #[derive(Clone, Copy)]
 pub struct ValueText(pub Value);
 
