@@ -1,4 +1,4 @@
--- The texts of errors of listed accesses: the code of the fault and its place.
+-- The texts of the errors of a list of accesses: the code of the fault and its place.
 use Rattle.std.specs.Prelude.{ℕ, List, ◌++◌, codes, decimal}
 use Rattle.campaign_schedules.specs.declared.fault.AccessFault.{AccessFault}
 use Rattle.campaign_schedules.specs.declared.fault.AccessFault.TheVariants.{Text, Never}
