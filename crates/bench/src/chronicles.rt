@@ -53,7 +53,7 @@ pub fn played(
     play(alloc, scenario.copy(alloc)?, schedule)
 }
 
-/// Returns the text of a chronicle.
+/// Returns the text of a chronicle with oral messages.
 pub fn text(alloc: Global, chronicle: &Chronicle) -> Result<Vec<u8>> {
     let mut sink = Latch::new(Vec::new(alloc));
     match write_chronicle(chronicle, &mut sink) {

@@ -9,7 +9,7 @@ pub struct Figure {
     pub count: u64,
     /// The median time of the work, in nanoseconds.
     pub time: u64,
-    /// The median time of the plain loop, which only reads 4,096 units, in nanoseconds.
+    /// The median time of the plain loop over 4,096 units, in nanoseconds.
     pub plain: u64,
 }
 

@@ -104,7 +104,7 @@ pub fn resolve_at_once<R: Clock + Threads + Sync + AllocGlobal>(
     nanoseconds(rt, start)
 }
 
-/// Times the ranking of labels and the resolution of trees. Each call is timed alone, and successive calls of
+/// Times the ranking of labels and the resolution of trees. Each call is timed by itself, and successive calls of
 /// `resolve` get different trees.
 pub fn report_trees<R: Print + Eprint + Clock + Threads + Wait + Sync + AllocGlobal>(
     rt: &R,

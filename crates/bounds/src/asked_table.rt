@@ -48,9 +48,9 @@ pub fn refuted(
 ///
 /// # Errors
 ///
-/// Fails with `Line` if a text is not a decimal number, and with `Range` if the numbers are out of their limits: at
-/// most 13 generals, a bound of at most 4 and at most the generals less 2, and a commander who exists. Both are at
-/// line 1.
+/// Fails with `Line` if a text is not a decimal number, and with `Range` if the numbers are out of their limits.
+/// There are at most 13 generals, the bound is at most 4 and at most 2 less than their number, and the commander is
+/// one of them. Both faults are at line 1.
 #[tactic(auto, unfolding(book::specs::Numbers::numbers_in))]
 fn numbers(generals: &str, bound: &str, commander: &str) -> Result<(u8, u8, u8), TableError>
     ensures told { IfOk result

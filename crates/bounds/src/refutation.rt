@@ -56,7 +56,7 @@ pub(crate) fn check_numbers(generals: u8, bound: u8, commander: u8) -> Result<()
 }
 
 /// Checks whether the numbers are within the limits of a message table: at most 13 generals, a bound of at most 4 and
-/// at most the generals less 2, and a commander who exists.
+/// at most 2 less than their number, and one of them as the commander.
 fn is_within(generals: u8, bound: u8, commander: u8) -> bool
     ensures { result ≡ is_within generals bound commander }
 {

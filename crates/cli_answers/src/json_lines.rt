@@ -35,8 +35,8 @@ pub(crate) fn push_object(
 }
 
 /// Returns a text as JSON Lines, with an object for each of its lines. The members of an object are the words of the
-/// line, each with its name. For a line of a chronicle, the object also has its round, general or label, which
-/// earlier lines say.
+/// line, each with its name. For a line of a chronicle, the object also has the round, general or label to which the
+/// line belongs, as earlier lines name it.
 ///
 /// For the answer of a trial, `place` gives the number of generals, the commander, the general and the round.
 ///

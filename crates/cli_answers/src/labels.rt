@@ -125,7 +125,7 @@ fn put_label_of(
 }
 
 /// Adds to a line's object where the line belongs. `within` says what lines of this kind need, and `held` has the
-/// campaign, round and general that earlier lines say.
+/// campaign, round and general that earlier lines name.
 pub(crate) fn put_place(
     alloc: Global,
     object: &mut Map<String, Value>,

@@ -17,7 +17,7 @@ pub use median::Median;
 /// The rule by which the lieutenants of a campaign combine a list of orders into one.
 #[derive(Clone, Copy, PartialEq, Eq)]
 pub enum Rule {
-    /// The order that more than half of the list are equal to, or RETREAT (0) if there is no such order.
+    /// The order that makes up more than half of the list, or RETREAT, 0, if there is none.
     Majority,
     /// The order in the middle of the sorted list.
     Median,
@@ -67,7 +67,7 @@ impl Rule {
         "majority or median"
     }
 
-    /// Combines a list of orders by the rule. Returns the resulting order, and whether it is a majority or a median.
+    /// Combines a list of orders by the rule. Returns the resulting order, and how the rule found it.
     #[tactic(auto, using(crate::proofs::Most::agreed_order), unfolding(crate::specs::Rule::majority))]
     pub fn outcome(self, orders: &[u32]) -> Outcome
         ensures value { result ≡ outcome_of self orders.now }

@@ -8,7 +8,7 @@ use crate::campaign_rule::most;
 /// The outcome of combining a list of orders: the order, and how the rule found it.
 #[derive(Clone, Copy, Drop)]
 pub enum Outcome {
-    /// More than half of the list are this order.
+    /// This order makes up more than half of the list.
     Agreed(u32),
     /// No order makes up more than half of the list, so this order is taken instead.
     Divided(u32),
@@ -38,8 +38,8 @@ impl Outcome {
     }
 }
 
-/// Returns the order that more than half of the list are equal to, as `Agreed`. If there is no such order, returns
-/// `other` as `Divided`.
+/// Returns the order that makes up more than half of the list, as `Agreed`. If there is none, returns `other` as
+/// `Divided`.
 pub(crate) fn by_most(orders: &[u32], other: u32) -> Outcome
     ensures { result ≡ agreed_or other (find (is_most orders.now) orders.now) }
 {

@@ -173,8 +173,8 @@ fn less_number(a: Range, b: Range) -> Range
     a
 }
 
-/// Narrows two ranges by what is known if the first number is above the second. Returns `None` if no pair of their
-/// numbers is like this.
+/// Narrows two ranges by what is known if the first number is above the second. Returns `None` if this holds for no
+/// pair of their numbers.
 #[inline(always)]
 fn where_above(a: Range, b: Range) -> Option<(Range, Range)>
     ensures exact { result ≡ above a b }
@@ -194,8 +194,8 @@ fn where_above(a: Range, b: Range) -> Option<(Range, Range)>
     Some((first, second))
 }
 
-/// Narrows two ranges by what is known if the first number is at least the second. Returns `None` if no pair of their
-/// numbers is like this.
+/// Narrows two ranges by what is known if the first number is at least the second. Returns `None` if this holds for
+/// no pair of their numbers.
 #[inline(always)]
 fn where_at_least(a: Range, b: Range) -> Option<(Range, Range)>
     ensures exact { result ≡ at_least a b }

@@ -7,7 +7,7 @@ pub fn diagrams_are_elements()
 {}
 
 /// States that in a finished campaign only strokes of traitors are drawn in red. A message's `differs` is true
-/// exactly if the sender did not send the order that he received (0, RETREAT, if he received none).
+/// exactly if the sender did not send the order that he took. (The commander takes the order that he was given.)
 pub fn only_traitors_differ()
     ensures { OnlyTraitorsDiffer }
 {}

@@ -1,4 +1,4 @@
-//! Computes the positions of a diagram's parts, in units of SVG: a column for each general, and a band for each round.
+//! Computes where a diagram's columns, bands, accesses, strokes and lists are, in SVG units.
 ghost use Rattle.std.specs.Prelude.{◌≡◌, ◌<◌, ◌+◌, ◌-◌, ◌*◌, ◌^◌, count_by, IfOk};
 ghost use Rattle.show_diagram.specs.Layout.{board, column, fan_top, height, is_earlier, is_in, most, reach, rows_top, room, top_of, widest, width};
 

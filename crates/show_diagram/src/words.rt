@@ -1,4 +1,4 @@
-//! The words of a diagram: for strokes, for accesses to the board, and for the roles of generals.
+//! Writes the words of a diagram: for strokes, for accesses to the board, and for the roles of generals.
 ghost use Rattle.std.specs.Prelude.{◌≡◌, ◌++◌, decimal, flat_map, map, slice_index_or, string_bytes, OnOk};
 ghost use Rattle.semantics.specs.Replies.{words_in};
 ghost use Rattle.show_diagram.specs.Words.{answer_words, answered_words, access_words, asked_words, copied_words, differs_words, kind, labels_words, order_words, outline, from_words, general_words, is_copy, kind_of, outline_of, piece_words, role_words, row_words, shown_words, stroke_words, tells_words, word_words};

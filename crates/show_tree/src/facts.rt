@@ -146,8 +146,9 @@ pub(crate) fn is_honest(mark: Trust) -> bool
     matches!(mark, Trust::Honest)
 }
 
-/// Checks whether the labels below `label` can be folded into it: the lieutenant received the same for `label` and
-/// for all labels that extend it by up to `relays` generals, and none of their messages is known to be a lie.
+/// Checks whether the labels below `label` can be folded into it. The lieutenant must have received the same for
+/// `label` and for all labels that extend it by up to `relays` generals. None of their messages may be known to be a
+/// lie.
 #[cycle(alike)]
 fn is_alike<H: Heard>(table: &H, traitors: &[u8], general: u8, label: &Label, relays: u8) -> bool
     requires place { is_place (H.seen table.now) label.now general ≡ true }

@@ -65,7 +65,7 @@ fn put_nodes(
     Ok(())
 }
 
-/// Appends the line of a label: the branches that lead to it, its name, and what it says about the label.
+/// Appends the line of a label: the branches that lead to the label, its name, and what is known of it.
 fn put_node(
     out: &mut String,
     style: Style,

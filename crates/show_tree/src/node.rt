@@ -47,7 +47,7 @@ pub enum Extent {
 /// How much of a tree a picture shows, and what is known of the commander's order.
 #[derive(Clone, Copy, Drop)]
 pub struct View {
-    /// How many levels below the commander's are shown, from 0 to 4.
+    /// How many levels of labels are shown below the commander's own label, from 0 to 4.
     pub depth: u8,
     /// Whether a label is shown without the labels that extend it if the same was received for all of them and none
     /// is a lie.

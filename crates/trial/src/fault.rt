@@ -35,7 +35,7 @@ impl fmt::Display for SettingFault {
     }
 }
 
-/// Why a text is not a setting: its first fault. Or memory ran out.
+/// Why no setting could be read from a text: the text's first fault, or that memory ran out.
 #[derive(Debug, Drop)]
 pub enum SettingError {
     /// K1: the text is not TOML.

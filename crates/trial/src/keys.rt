@@ -83,7 +83,7 @@ pub fn at<'a>(table: &'a Table, name: SettingKey) -> Option<&'a Value>
 ///
 /// # Errors
 ///
-/// Fails with `Key` at this place if the key is missing.
+/// Fails with `Key` at `place` if the key is missing.
 fn required(place: SettingPlace, value: Option<&Value>) -> Result<&Value, SettingError>
     ensures value { Gives (λ v. view v.now) result (required place (option_map (λ v. view v.now) value.entry)) }
     ensures fault { IfErr result (λ e. e ≢ Memory) }
@@ -98,7 +98,7 @@ fn required(place: SettingPlace, value: Option<&Value>) -> Result<&Value, Settin
 ///
 /// # Errors
 ///
-/// Fails with `Kind` at this place if the value is not an integer.
+/// Fails with `Kind` at `place` if the value is not an integer.
 pub fn whole(place: SettingPlace, value: &Value) -> Result<i64, SettingError>
     ensures value { Gives (λ z. z) result (whole place (view value.now)) }
     ensures fault { IfErr result (λ e. e ≢ Memory) }
@@ -113,7 +113,7 @@ pub fn whole(place: SettingPlace, value: &Value) -> Result<i64, SettingError>
 ///
 /// # Errors
 ///
-/// Fails with `Kind` at this place if the value is not an array.
+/// Fails with `Kind` at `place` if the value is not an array.
 pub fn elements(place: SettingPlace, value: &Value) -> Result<&[Value], SettingError>
     ensures value { Gives (λ a. items_view a.now) result (elements place (view value.now)) }
     ensures fault { IfErr result (λ e. e ≢ Memory) }

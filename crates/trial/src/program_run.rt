@@ -1,4 +1,4 @@
-//! Runs a program alone to its exit, with a board that no other program uses.
+//! Runs one program to its exit, with a board that no other program uses.
 ghost use Rattle.std.specs.Prelude.{◌≡◌, ◌++◌, Some, IfOk, OnErr};
 ghost use Rattle.label.specs.Relay.{IsShape};
 ghost use Rattle.semantics.specs.Relay.{oral};

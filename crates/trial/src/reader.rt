@@ -90,9 +90,9 @@ fn unparsed(is_memory: bool) -> SettingError
 ///
 /// # Errors
 ///
-/// Fails with the first fault, at its place. The checks are made in this order: the text is TOML; all keys are known
-/// (an error names the first unknown key in the order of bytes); and the values of `generals`, `bound`, `commander`,
-/// `general`, `round`, `taken` and `board` are correct. Fails with `Memory` if memory runs out.
+/// Fails with the first fault, at its place. First the text must be TOML. Then all keys must be known, and an error
+/// names the first unknown key in the order of bytes. Then the values of `generals`, `bound`, `commander`, `general`,
+/// `round`, `taken` and `board` are checked in this order. Fails with `Memory` if memory runs out.
 pub fn read(alloc: Global, text: &str) -> Result<Setting, SettingError>
     ensures { Reads (parse_document text.now) result }
 {

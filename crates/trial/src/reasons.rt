@@ -10,8 +10,8 @@ use label::{Shape, Space, unrank};
 use outbox::Outbox;
 use std::alloc::{AllocError, Global};
 
-/// A program's call of a helper: the unit (index of 8 bytes) of the call, the helper, and the numbers in r1, r2 and
-/// r3.
+/// A program's call of a helper: the unit of the call (units have 8 bytes and are counted from 0), the helper, and
+/// the numbers in r1, r2 and r3.
 #[derive(Clone, Copy)]
 pub struct HelperCall {
     pub unit: usize,
