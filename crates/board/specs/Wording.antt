@@ -62,7 +62,7 @@ rows =
     ((codes "copies ", 1) ∷ (codes " words from word ", 0) ∷ []) true
     ∷ []
 
--- The row for a kind of request that does not exist: it describes nothing.
+-- The description of a kind of request that does not exist, which has no words.
 abbrev pub no_row : Row
 no_row = row [] [] [] false
 

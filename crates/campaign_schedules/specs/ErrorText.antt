@@ -5,13 +5,13 @@ use Rattle.campaign_schedules.specs.declared.fault.AccessFault.TheVariants.{Text
 use Rattle.campaign_schedules.specs.declared.fault.AccessesError.{AccessesError}
 use Rattle.campaign_schedules.specs.declared.fault.AccessesError.TheVariants.{At, Memory}
 
--- Writes the text of a fault.
+-- Writes the text of a fault in a list of accesses, such as `X5 round 2 access 1`.
 abbrev pub fault_told : AccessFault → List ℕ
 fault_told (Text round place) = codes "X5 round " ++ decimal round ++ codes " access " ++ decimal place
 fault_told (Never round place general) =
     codes "X6 round " ++ decimal round ++ codes " access " ++ decimal place ++ codes " general " ++ decimal general
 
--- Writes the text of an error.
+-- Writes the text of an error: its fault, or that memory ran out.
 abbrev pub told : AccessesError → List ℕ
 told (At fault) = fault_told fault
 told Memory = codes "out of memory"

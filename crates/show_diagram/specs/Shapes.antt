@@ -7,6 +7,7 @@ unfoldable pub text_start : List ℕ → ℕ → ℕ → List ℕ
 text_start class x y = codes "<text class=\""
     ++ (class ++ (codes "\" x=\"" ++ (decimal x ++ (codes "\" y=\"" ++ (decimal y ++ codes "\">")))))
 
+-- Writes the end tag of a text.
 abbrev pub text_end : List ℕ
 text_end = codes "</text>\n"
 
@@ -36,12 +37,15 @@ stroke_way x y u v = codes "M"
 abbrev pub stroke_start : List ℕ → ℕ → ℕ → ℕ → ℕ → ℕ → List ℕ
 stroke_start kind width x y u v = stroke_open kind width ++ stroke_way x y u v
 
+-- Writes the end tag of a stroke.
 abbrev pub stroke_end : List ℕ
 stroke_end = codes "</path>\n"
 
+-- Writes the start tag of a title.
 abbrev pub title_start : List ℕ
 title_start = codes "<title>"
 
+-- Writes the end tag of a title.
 abbrev pub title_end : List ℕ
 title_end = codes "</title>\n"
 
@@ -57,6 +61,7 @@ stroke_at kind width x y u v words = stroke_start kind width x y u v ++ title wo
 unfoldable pub group_start : ℕ → ℕ → List ℕ
 group_start x y = codes "<g transform=\"translate(" ++ (decimal x ++ (codes " " ++ (decimal y ++ codes ")\">\n")))
 
+-- Writes the end tag of a group.
 abbrev pub group_end : List ℕ
 group_end = codes "</g>\n"
 

@@ -49,6 +49,7 @@ stroke_key marks =
     ++ said_if marks.diamond (codes " Diamond and dashes: an honest relay would send something else.")
     ++ said_if marks.cross (codes " Cross and dots: nothing was sent, but an order should be sent.")
 
+-- Writes the end tag of a description.
 abbrev pub key_end : List ℕ
 key_end = codes "</desc>\n"
 

@@ -64,7 +64,7 @@ look =
 abbrev pub head : DrawnMarks → ℕ → ℕ → List ℕ
 head marks p order = title p order ++ key marks ++ look ++ heading p order
 
--- Writes a picture of the given width and height, with its head and its rows.
+-- Writes a picture of this width and height, with the head and the rows.
 abbrev pub picture : ℕ → ℕ → List ℕ → List ℕ → List ℕ
 picture width height head rows = start ++ size width height ++ view_box width height ++ head ++ rows ++ codes "</svg>\n"
 

@@ -15,7 +15,7 @@ place_text (place.Key name) = text_of name
 place_text (place.Order index) = codes "taken[" ++ decimal index ++ codes "]"
 place_text (place.Word index) = codes "board[" ++ decimal index ++ codes "]"
 
--- Returns the two-character code of a fault.
+-- Returns the code of a fault, from K2 to K5.
 abbrev pub code_of : SettingFault → List ℕ
 code_of Key = codes "K2"
 code_of Kind = codes "K3"

@@ -20,7 +20,7 @@ use Rattle.explain.specs.Names.{helper_name}
 use Rattle.trial.specs.Trace.{Rest}
 use Rattle.trial.specs.declared.reasons.HelperCall.{HelperCall}
 
--- The definitions down to `no_label` write the reason.
+-- The definitions down to `no_label` write the reason why a call sets no order.
 
 -- Writes a label: its generals in decimal, joined by dots, such as `0.2`. The empty label is a dash.
 abbrev pub dotted : List ℕ → List ℕ
@@ -64,7 +64,7 @@ abbrev pub no_label : Shape → ℕ → ℕ → List ℕ
 no_label shape receiver labels =
     if labels == 0 then codes "nothing is relayed in this round" else unheard shape receiver (codes "every label")
 
--- The definitions down to `where_said` describe one call.
+-- The definitions down to `where_said` write the note on one call.
 
 -- Returns the number that a value is, or 0 if it is not a number.
 abbrev pub number_in : Value → ℕ
@@ -162,7 +162,7 @@ abbrev pub where_said : List (String Global) → Relay → ℕ → Option Helper
 where_said places r r0 None = []
 where_said places r r0 (Some call) = if says_none call.helper r0 then note_of places r call else []
 
--- The remaining definitions describe the run.
+-- The remaining definitions write the notes on a whole run.
 
 -- Returns the notes on the steps that follow this outcome. The board, with these words, answers a request at once.
 abbrev pub followed : Rest → List ℕ → Outcome → List ℕ
