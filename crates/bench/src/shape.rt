@@ -1,4 +1,4 @@
-//! Defines the shapes of the timed programs: the instructions of which they consist.
+//! Defines the shapes of the timed programs: which instructions the programs have.
 
 /// The shape of a timed program of 4,096 units: its first lines, and lines that are repeated in turn after them. The
 /// line of a unit after the first lines is the one at index `unit % in_turn.len()`.

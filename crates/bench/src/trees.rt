@@ -13,7 +13,7 @@ use std::thread::Threads;
 use std::time::Instant;
 use tree::Tree;
 
-/// The space of the labels that are ranked: those of thirteen generals with commander 0 that general 12 is not on.
+/// The labels that are ranked: labels among thirteen generals with commander 0 that general 12 is not on.
 const SPACE: Space = Space {
     generals: 13,
     commander: 0,

@@ -1,4 +1,5 @@
-//! Computes with known bits of words: computes the known bits of an operation's results from those of its operands.
+//! Computes with known bits of words: from the known bits of an operation's operands, it computes the known bits of
+//! the result.
 #![tactic(auto)]
 
 pub mod bits;

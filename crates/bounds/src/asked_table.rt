@@ -15,9 +15,10 @@ use combine::Rule;
 use std::alloc::Global;
 use text::decimal;
 
-/// Returns the message table of a story: one of three campaigns with too few generals, of which every decision rule
-/// breaks IC1 or IC2 in at least one. It is the story `asked` or, for `None`, the first that breaks `rule`. The texts
-/// `generals`, `bound` and `commander` are decimal numbers, and `bound` is m.
+/// Returns the message table of a story. The stories are three campaigns with too few generals, and every decision
+/// rule breaks IC1 or IC2 in at least one of them. The result is for the story `asked` or, if that is `None`, for the
+/// first in which `rule` breaks IC1 or IC2. The texts `generals`, `bound` and `commander` are decimal numbers, and
+/// `bound` is m.
 ///
 /// # Errors
 ///

@@ -7,7 +7,7 @@ use std::fmt;
 /// Why there is no message table that breaks a rule.
 #[derive(Clone, Copy, Debug, PartialEq, Eq, Drop)]
 pub enum RefutationError {
-    /// The numbers are not those of a message table, or memory ran out.
+    /// No message table can have these numbers, or memory ran out.
     Table(TableError),
     /// There are more than 3m generals, who tolerate m traitors, so no message table breaks the rule.
     Enough,

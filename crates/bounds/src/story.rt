@@ -1,5 +1,5 @@
-//! Defines three stories: campaigns with too few generals, of which every decision rule breaks IC1 or IC2 in at least
-//! one.
+//! Defines three stories: campaigns with too few generals. Every decision rule breaks IC1 or IC2 in at least one of
+//! them.
 ghost use Rattle.std.specs.Prelude.{◌≡◌, ◌<◌, ◌≤◌, true, false, None, Some};
 ghost use Rattle.bounds.specs.Stories.{copy_in, is_traitor_in, lying_group, story_messages, story_numbered, story_order};
 

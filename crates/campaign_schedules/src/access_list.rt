@@ -1,5 +1,5 @@
 //! Parses a list of accesses, such as `1 2 1/2`: for each round the generals who access the board, in this order.
-//! Slashes separate the rounds. A text that is not such a list is rejected without needing memory.
+//! Slashes separate the rounds. Rejecting another text needs no memory.
 ghost use Rattle.std.specs.Prelude.{◌≡◌, ◌+◌, ◌∷◌, ◌<◌, ◌≤◌, ◌^◌, ℕ, List, [], Err, Ok, Some, IfErr, IfOk, OnOk, MatchResult, vec_len};
 ghost use Rattle.std.specs.Result.{result_err};
 ghost use Rattle.campaign_schedules.specs.Accesses.{accesses_told, general_of, row_fault, row_told, slash};
@@ -73,8 +73,8 @@ fn row_fault(round: u64, text: &[u8]) -> Option<AccessFault>
     None
 }
 
-/// Returns why a text is not a list of accesses: its first word that is not the number of a general, or a sixth
-/// round. Returns `None` if it is such a list.
+/// Returns the first fault of a text that should be a list of accesses: a word that is not the number of a general,
+/// or a sixth round. Returns `None` if the text has no fault.
 #[tactic(auto, unfolding(crate::specs::Accesses::accesses_told), using(crate::proofs::Listed::told_fault))]
 fn fault_of(text: &str) -> Option<AccessFault>
     ensures { result ≡ result_err (accesses_told text.now) }
@@ -143,8 +143,8 @@ fn rows_of(alloc: Global, text: &str) -> Result<Vec<Vec<u8>>, AllocError>
 ///
 /// # Errors
 ///
-/// Fails with the first fault if the text is not a list of accesses, without needing memory. Otherwise fails only
-/// with `Memory`, if memory runs out.
+/// Fails with the first fault of the text if it has one, which needs no memory. Otherwise fails only with `Memory`,
+/// if memory runs out.
 #[tactic(auto, using(crate::proofs::Listed::listed, crate::proofs::Listed::faulty))]
 pub(crate) fn accesses_of(alloc: Global, text: &str) -> Result<Vec<Vec<u8>>, AccessesError>
     ensures told { IfOk result (λ rows. accesses_told text.now ≡ Ok (lists_in rows.items)) }

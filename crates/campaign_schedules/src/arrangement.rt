@@ -34,7 +34,7 @@ fn never(rows: &[Vec<u8>], round: usize, place: usize) -> AccessFault
 ///
 /// # Errors
 ///
-/// Fails with the fault of the first word that is not the number of a general, or of a sixth round, without needing
+/// Fails with the fault of the first word that is not the number of a general, or of a sixth round, which needs no
 /// memory. Otherwise fails with the fault of the first access that cannot be made, or with `Memory` if memory runs
 /// out.
 pub fn arranged(alloc: Global, scenario: &Scenario, text: &str) -> Result<String, AccessesError>

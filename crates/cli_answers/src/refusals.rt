@@ -101,7 +101,7 @@ fn first_of(lines: &[u8]) -> Option<&[u8]>
 }
 
 /// Returns the line that says why a file is rejected with this code, if no line begins with `error: `. Returns `None`
-/// if the code is not from the verifier (`V`) or of an object file (`O`), or if there is no such line.
+/// for codes other than the verifier's (`V`) and those of object files (`O`), or if there is no such line.
 fn said<'a>(code: &[u8], lines: &'a [u8]) -> Option<&'a [u8]>
     ensures { option_map (λ l. l.now) result ≡ said code.now (lines_of lines.now) }
 {
@@ -153,8 +153,8 @@ fn namer(line: &[u8]) -> Option<&[u8]>
     last
 }
 
-/// Returns where a scenario names the object file that is rejected with this code. Returns `None` if it is not an
-/// object file (its code does not begin with `O`), or if the second line does not say where.
+/// Returns where a scenario names the object file that is rejected with this code. Returns `None` for another kind of
+/// file (the code does not begin with `O`), or if the second line does not say where.
 fn namer_of<'a>(code: &[u8], lines: &'a [u8]) -> Option<&'a [u8]>
     ensures { option_map (λ k. k.now) result ≡ namer_of code.now (lines_of lines.now) }
 {

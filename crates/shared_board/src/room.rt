@@ -3,7 +3,7 @@ use std::marker::Brand;
 use std::sync::ledger::Ledger;
 
 /// The name of one shared board, used as a type parameter. It determines the history of the board's accesses and the
-/// words at the start. A function that shares a board uses a new name in each call. The name is also that of a ledger
+/// words at the start. A function that shares a board uses a new name in each call. The same name belongs to a ledger
 /// of `std`, which counts the accesses.
 pub trait Room: Ledger {
     ghost use Rattle.std.specs.Prelude.{ℕ, List};

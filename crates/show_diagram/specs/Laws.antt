@@ -40,7 +40,7 @@ abbrev pub BlamesTraitors : Scenario → MessageTable → Type 0
 BlamesTraitors s t = All (λ stroke. is_traitor s stroke.teller ≡ false → IsDrawnHonest stroke) (strokes_of t s.order)
 
 -- States that in a finished campaign only strokes of traitors are drawn in red. A message's `differs` is false
--- exactly if its sender is faithful in it: the commander sends the order that he was given, and another general the
+-- exactly if it has the right order: from the commander the order that he was given, and from another general the
 -- order that he took.
 pub record OnlyTraitorsDiffer : Type 0 where
   pub drawn : (s : Scenario) (events : List Event) (t : MessageTable) → IsFinishedTable s events t →

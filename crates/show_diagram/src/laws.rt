@@ -20,9 +20,9 @@ pub fn strokes_are_exact()
 {}
 
 /// States which strokes are drawn if a lieutenant's list for a round is longer than its room of 24 rows. A lie is a
-/// stroke that a loyal general would not send. The rows of a list are numbered from 0, and the first ones are drawn.
-/// If a lie is left out, no honest row is drawn, and every general who lies has a row that is drawn. The number of
-/// rows that are reported as left out is the number of rows that are not drawn.
+/// stroke that a loyal general would not send. The rows of a list are numbered from 0, and the first 24 are drawn. If
+/// a lie is left out, no honest row is drawn, and every general who lies has a row that is drawn. The number of rows
+/// that are reported as left out is the number of rows that are not drawn.
 pub fn rows_are_exact()
     ensures { RowsAreExact }
 {}

@@ -1,6 +1,5 @@
-//! Sorts a list of the messages that a lieutenant received. If the diagram has no room for all of them, the lies come
-//! first: messages that a faithful general would not send. Functions that return a `Result` fail only if memory runs
-//! out.
+//! Sorts a list of the messages that a lieutenant received. If there are more than 24, the lies come first: messages
+//! that a faithful general would not send. Functions that return a `Result` fail only if memory runs out.
 ghost use Rattle.std.specs.Prelude.{◌≡◌, ◌++◌, ◌∷◌, [], cond, filter, not, IfOk, OnOk};
 ghost use Rattle.std.specs.List.{list_any};
 ghost use Rattle.show_diagram.specs.Lists.{is_in, is_lie, teller};

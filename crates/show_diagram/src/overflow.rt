@@ -271,8 +271,8 @@ pub fn put_cut(out: &mut String, is_cut: bool) -> Result<(), AllocError>
     if is_cut { put_cut_words(out) } else { Ok(()) }
 }
 
-/// Appends the note that a list has at most 24 rows, which rows come first, and where the number of the others is
-/// written.
+/// Appends the note that a list has at most 24 rows, which rows come first, and where the number of rows that are not
+/// drawn is written.
 #[tactic(auto, unfolding(crate::specs::Left::cut_words))]
 fn put_cut_words(out: &mut String) -> Result<(), AllocError>
     ensures { OnOk result (string_bytes out.new ≡ string_bytes out.old ++ cut_words) }

@@ -33,8 +33,8 @@ pub(crate) fn tellings<H: Heard>(
     Ok(tellings)
 }
 
-/// Returns the commander's message to the lieutenant `general`. Its `differs` is true if it is not `order`, the order
-/// that the commander was given.
+/// Returns the commander's message to the lieutenant `general`. The message's `differs` is true if `order`, the order
+/// that the commander was given, was not sent.
 fn first<H: Heard>(table: &H, order: u32, general: u8, label: &Label) -> Telling
     requires label { label.now ≡ (H.seen table.now).commander ∷ [] }
     requires place { is_place (H.seen table.now) label.now general ≡ true }

@@ -11,7 +11,7 @@ use std::alloc::{AllocError, Global};
 use world::Chronicle;
 
 /// Returns the message table of a campaign as text. It has a line for each label and receiver for which an order was
-/// received, with shorter labels first. The decisions from this table are those of the chronicle.
+/// received, with shorter labels first. This table leads to the decisions in the chronicle.
 ///
 /// # Errors
 ///

@@ -6,13 +6,13 @@ use label::Label;
 /// Which marks occur in a picture, so that its legend explains these and no others.
 #[derive(Clone, Copy, Drop)]
 pub struct DrawnMarks {
-    /// Whether any label has a circle: its message is not known to be a lie.
+    /// Whether any label is drawn as a circle: its message is not known to be a lie.
     pub circle: bool,
-    /// Whether any label has a square: its message is from a commander who is named as a traitor.
+    /// Whether any label is drawn as a square: its message is from a commander who is named as a traitor.
     pub square: bool,
-    /// Whether any label has a diamond: its message is a lie.
+    /// Whether any label is drawn as a diamond: its message is a lie.
     pub diamond: bool,
-    /// Whether any label has dashes: no order has a majority in its list.
+    /// Whether any label has a dashed outline: no order has a majority in its list.
     pub dashes: bool,
 }
 

@@ -94,7 +94,7 @@ fn put_in_brackets(out: &mut String, place: &str) -> Result<(), AllocError>
     out.push_str(")")
 }
 
-/// Appends the reason why a call sets no order, or nothing if the helper is not one that sets orders.
+/// Appends the reason why a call sets no order. Appends nothing for a helper that is not meant to set orders.
 fn put_reason(
     alloc: Global,
     out: &mut String,
@@ -111,8 +111,8 @@ fn put_reason(
     }
 }
 
-/// Appends the reason why `send` sets no order for the label with this rank and this receiver: there is no such
-/// label, or he does not receive it.
+/// Appends the reason why `send` sets no order for the label with this rank and this receiver: the label does not
+/// exist, or does not go to him.
 fn put_no_place(
     alloc: Global,
     out: &mut String,

@@ -8,9 +8,9 @@ pub fn traces_are_trials()
     ensures { TracesAreTrials }
 {}
 
-/// States that the reasons in notes on calls that set no order are true. If a general in range gets no order for a
-/// label and he is not the sender, then he is on the label. If `send_row` sets none for a label although orders were
-/// passed, nobody receives the label.
+/// States that the reasons in notes on calls that set no order are true. If another general than the sender gets no
+/// order for a label, he is on this label. If `send_row` sets none for a label although orders were passed, nobody
+/// receives the label.
 pub fn reasons_hold()
     ensures { ReasonsHold }
 {}

@@ -59,7 +59,8 @@ fn words(values: &[Value]) -> Result<[u64; 64], SettingError>
     listed(values)
 }
 
-/// Returns the board's words at the start of a trial: those of the key `board`, or zeros if the key is missing.
+/// Returns the board's words at the start of a trial: the words that the key `board` gives, or zeros if the key is
+/// missing.
 ///
 /// # Errors
 ///

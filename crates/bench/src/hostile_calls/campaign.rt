@@ -111,7 +111,8 @@ const SEVEN_SIGNED: &str = signing!(
     [0, 4]
 );
 
-/// The scenario of the sample campaign `Copying`, with signed messages. It names no rule, since these have none.
+/// The scenario of the sample campaign `Copying`, with signed messages. It names no rule, since campaigns with signed
+/// messages have none.
 const FOUR_SIGNED_WITH_PATIENCE: &str = signing!(
     campaign "exit\n",
     "generals = 4\nbound = 1\ncommander = 0\norder = 1\npatience = 20\nmessages = \"signed\"\n",

@@ -18,7 +18,7 @@ pub fn decodes<R: Print + AllocGlobal>(rt: &R, campaign: SampleCampaign) -> Resu
     decodes_again(rt.alloc(), first, bytes.as_slice())
 }
 
-/// Calls `decode` again, and compares the result with that of the first call.
+/// Calls `decode` again, and compares both results.
 fn decodes_again(
     alloc: Global,
     first: Result<Program, CodecError>,
@@ -62,7 +62,7 @@ pub fn assembles<R: Print + AllocGlobal>(rt: &R, campaign: SampleCampaign) -> Re
     assembles_again(rt.alloc(), first, campaign.assembly())
 }
 
-/// Calls `assemble` again, and compares the result with that of the first call.
+/// Calls `assemble` again, and compares both results.
 fn assembles_again(
     alloc: Global,
     first: Result<Program, AsmError>,
@@ -114,7 +114,7 @@ pub fn verifies<R: Print + AllocGlobal>(rt: &R, campaign: SampleCampaign) -> Res
     verifies_again(rt.alloc(), first, campaign)
 }
 
-/// Calls `verify` again with enough memory, and compares the result with that of the first call.
+/// Calls `verify` again with enough memory, and compares both results.
 fn verifies_again(
     alloc: Global,
     first: Result<Verified, Refused>,

@@ -64,7 +64,7 @@ fn scheduled(alloc: Global, campaign: SampleCampaign, schedule: &Schedule) -> Re
     Ok(CallAnswer::Bytes(told(alloc, MessageKind::Oral, scenario, schedule)?))
 }
 
-/// The pieces of text of which random schedules consist.
+/// The pieces of text that random schedules are made of.
 const PIECES: &[&str; 16] = &[
     "0", "3", "4", "12", "13", "*15", "*4096", "*4097", "*0", " ", " ", " ", "\n", "\n", "01", "-",
 ];

@@ -28,7 +28,7 @@ pub fn opens<R: Print + AllocGlobal>(
     opens_again(rt.alloc(), messages, campaign, first)
 }
 
-/// Opens the world of a campaign's scenario again, and compares the result with that of the first call.
+/// Opens the world of a campaign's scenario again, and compares both results.
 fn opens_again(
     alloc: Global,
     messages: MessageKind,
@@ -141,7 +141,7 @@ pub fn plays<R: Print + AllocGlobal>(
     plays_again(rt.alloc(), messages, campaign, &schedule, first)
 }
 
-/// Plays a campaign by its schedule again, and compares the result with that of the first call.
+/// Plays a campaign by its schedule again, and compares both results.
 fn plays_again(
     alloc: Global,
     messages: MessageKind,
@@ -188,8 +188,8 @@ fn musters_again<R: Threads + Wait + Sync + AllocGlobal>(
     compared(first, audited(rt.alloc(), again, &scenario)?)
 }
 
-/// Returns the answer of `muster`: no bytes if an audit accepts the chronicle, or that memory ran out or no thread
-/// could be started.
+/// Returns the answer of `muster`. It has no bytes if an audit accepts the chronicle. Otherwise it says that memory
+/// ran out, or that a thread could not be started.
 fn audited(
     alloc: Global,
     answer: Result<Chronicle, MusterError>,
