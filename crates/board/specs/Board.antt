@@ -3,7 +3,7 @@ use Rattle.std.specs.Prelude.{ℕ, ◌≡◌, ◌<◌, ◌+◌, ◌%◌, ◌^◌
 use Rattle.semantics.specs.declared.request.Request.{Request}
 use Rattle.semantics.specs.declared.request.Request.TheVariants.{Get, Swap, Add, Cas, Copy}
 
--- States that the words are those of a board: 64 words of 64 bits.
+-- States that a list of words is a board: 64 words of 64 bits.
 pub record IsBoard (words : List ℕ) : Type 0 where
   pub long : length words ≡ 64
   pub each : All (λ word. word < 2 ^ 64) words

@@ -9,7 +9,7 @@ use Rattle.semantics.specs.Execution.{step}
 use Rattle.board.specs.Board.{IsBoard, reply, next}
 
 -- States that the board's reply to any request of a program has the number of words that the request asks for. After
--- that, its words are again those of a board.
+-- that, its words are again a board.
 pub record BoardsServe : Type 0 where
   pub answers : (words : List ℕ) (program : List Insn) (context : List ℕ) (relay : Relay) (s asked : State)
       (request : Request) → IsBoard words →

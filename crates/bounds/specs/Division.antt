@@ -20,7 +20,7 @@ chain_order loyal [] (x ∷ xs) p = split_order loyal [] x
 chain_order loyal (t ∷ later) (x ∷ xs) p =
     if x == t then chain_order loyal later xs p else split_order loyal (t ∷ later) x
 
--- Returns the messages among n generals if those on the chain are the traitors who divide the others.
+-- Returns the messages among n generals if the generals on the chain are traitors, who divide the loyal generals.
 unfoldable pub division : ℕ → List ℕ → Messages
 division n chain w p = Some (chain_order (others n chain) chain w p)
 

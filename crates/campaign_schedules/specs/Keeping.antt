@@ -13,7 +13,7 @@ use Rattle.campaign_orders.specs.Keeping.{IsKept}
 use Rattle.campaign_orders.specs.Orders.{order_of}
 use Rattle.campaign_schedules.specs.Reading.{IsReadAs}
 
--- States that the text is that of a schedule, and that a campaign played by it leads to the decisions of the finding.
+-- States that the text contains a schedule, and that a campaign played by it leads to the decisions of the finding.
 -- The accesses then come in the order of the finding's example.
 pub record GivesOutcome (s : Scenario) (f : Finding) (text : List ℕ) : Type 0 where
   pub schedule : List (List Repeat)

@@ -13,7 +13,7 @@ use Rattle.campaign_orders.specs.Text.{schedule_text}
 use Rattle.trace.specs.Names.{chronicle_told}
 use Rattle.campaign_schedules.specs.Reading.{IsReadAs}
 
--- States that the accesses are those of a complete run of the scenario.
+-- States that some complete run of the scenario has exactly these accesses.
 abbrev pub IsLedgerOfRun : Scenario → List Access → Type 0
 IsLedgerOfRun s accesses = (events : List Event) × IsComplete s events × ((run (opening s) events).ledger ≡ accesses)
 

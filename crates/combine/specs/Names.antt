@@ -17,7 +17,7 @@ rule_names = join_by rule_name (codes " or ") every_rule
 abbrev pub default_rule : Rule
 default_rule = Majority
 
--- Returns whether the rule is that of a campaign whose file names no rule.
+-- Returns whether the rule is the one that applies if a campaign's file names no rule.
 abbrev pub is_default : Rule → Bool
 is_default Majority = true
 is_default _ = false

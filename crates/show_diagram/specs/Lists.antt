@@ -87,7 +87,7 @@ is_to round p stroke = stroke.round == round && stroke.receiver == p
 abbrev pub is_lie_to : ℕ → ℕ → Stroke → Bool
 is_lie_to round p stroke = stroke.differs && is_to round p stroke
 
--- Returns those of the strokes that are in the list of what p received in the round.
+-- Returns the strokes that are in the list of what p received in the round.
 abbrev pub list_to : ℕ → ℕ → List Stroke → List Stroke
 list_to round p strokes = filter (is_to round p) strokes
 
@@ -95,6 +95,6 @@ list_to round p strokes = filter (is_to round p) strokes
 abbrev pub has_row : Stroke → Bool
 has_row stroke = nat_lt stroke.row most_rows
 
--- Returns those of the strokes that are drawn.
+-- Returns the strokes that are drawn.
 abbrev pub with_rows : List Stroke → List Stroke
 with_rows strokes = filter has_row strokes

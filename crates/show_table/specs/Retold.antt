@@ -25,7 +25,7 @@ pub record IsWhole (c : Chronicle) : Type 0 where
   pub decisions : c.decisions ≡ decisions c.scenario (messages c.letters)
 
 -- States that the text is the message table of the chronicle's campaign. The table has the campaign's numbers and
--- rule, and the decisions from it are those of the chronicle.
+-- rule, and leads to the decisions in the chronicle.
 pub record IsRetold (c : Chronicle) (text : List ℕ) : Type 0 where
   pub written : text ≡ table_of c
   pub table : MessageTable

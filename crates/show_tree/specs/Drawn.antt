@@ -20,7 +20,7 @@ abbrev pub drawn : MessageTable → List ℕ → View → TreeForm → ℕ → L
 drawn t traitors view form p =
     if nat_lt p t.generals && not (p == t.commander) then picture t traitors view form p else []
 
--- States that the text is that of a message table, and that `drawing` is the tree of general p by this table.
+-- States that the text contains a message table, and that `drawing` is the tree of general p by this table.
 abbrev pub DrawsTable : List ℕ → List ℕ → View → TreeForm → ℕ → List ℕ → Type 0
 DrawsTable text traitors view form p drawing =
     (table : MessageTable) × (table_told text ≡ Ok table) × (drawing ≡ drawn table traitors view form p)

@@ -49,8 +49,8 @@ is_alike t traitors zero w p = true
 is_alike t traitors (suc k) w p =
     list_all (λ j. tells t traitors w j p && is_alike t traitors k (w ++ j ∷ []) p) (others t.generals (p ∷ w))
 
--- Returns whether p received the same for w, for w extended by j, and for all labels that extend the latter by up to
--- k generals. None of the messages after w may be known to be a lie.
+-- Returns whether p received the same for w, for w extended by j, and for all labels that extend this longer label by
+-- up to k generals. None of the messages after w may be known to be a lie.
 abbrev pub is_alike_by : MessageTable → List ℕ → ℕ → List ℕ → ℕ → ℕ → Bool
 is_alike_by t traitors k w j p = tells t traitors w j p && is_alike t traitors k (w ++ j ∷ []) p
 

@@ -46,7 +46,7 @@ root_node t traitors view p =
 abbrev pub with_those : Node → List Node → List Node
 with_those node nodes = node ∷ (if is_open node.extent then nodes else [])
 
--- Returns those of the labels that extend w by 1 to k generals that are shown. They are sorted by their next general,
+-- Returns the shown labels among the labels that extend w by 1 to k generals. They are sorted by their next general,
 -- and a label comes before the labels that extend it.
 unfoldable pub nodes_below : MessageTable → List ℕ → View → ℕ → List ℕ → ℕ → List Node
 nodes_below t traitors view zero w p = []

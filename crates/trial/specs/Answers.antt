@@ -19,7 +19,7 @@ Reads None (Err errors.Memory) = Unit {0}
 Reads None _ = ⊥
 Reads (Some ms) r = Gives (λ s. s) r (setting ms)
 
--- States that the text is that of this setting.
+-- States that reading the text gives this setting.
 abbrev pub Tells : List ℕ → Setting → Type 0
 Tells text s = Reads (parse_document text) (Ok s)
 
