@@ -1,5 +1,5 @@
-//! Times campaigns: from a scenario to its chronicle, from text to text, audits, and the most expensive close of a
-//! round of signed messages.
+//! Times campaigns: from a scenario to its chronicle, from the scenario's text to the chronicle's text, audits, and
+//! the slowest close of a round with signed messages.
 
 use crate::chronicles::{MessageKind, audited, freely, scenario_of, told_freely};
 use crate::task::{Workload, report_task};
@@ -16,7 +16,7 @@ use std::thread::Threads;
 use std::time::Instant;
 use world::{Event, EventError, play};
 
-/// Measures how long a campaign takes from its scenario to its chronicle, in nanoseconds.
+/// Returns how long it takes to play a campaign once, from its scenario to its chronicle, in nanoseconds.
 pub fn play_once<C: Clock>(
     alloc: Global,
     clock: &C,
@@ -30,7 +30,8 @@ pub fn play_once<C: Clock>(
     }
 }
 
-/// Measures how long a campaign of oral messages takes from its scenario to its chronicle, in nanoseconds.
+/// Returns how long it takes to play a campaign with oral messages once, from its scenario to its chronicle, in
+/// nanoseconds.
 fn play_oral<C: Clock>(alloc: Global, clock: &C, scenario: Scenario) -> Result<u64> {
     let schedule = freely(alloc);
     let start = Instant::now(clock)?;
@@ -42,7 +43,8 @@ fn play_oral<C: Clock>(alloc: Global, clock: &C, scenario: Scenario) -> Result<u
     }
 }
 
-/// Measures how long a campaign of signed messages takes from its scenario to its chronicle, in nanoseconds.
+/// Returns how long it takes to play a campaign with signed messages once, from its scenario to its chronicle, in
+/// nanoseconds.
 fn sign_once<C: Clock>(alloc: Global, clock: &C, scenario: Scenario) -> Result<u64> {
     let schedule = freely(alloc);
     let start = Instant::now(clock)?;
@@ -54,12 +56,13 @@ fn sign_once<C: Clock>(alloc: Global, clock: &C, scenario: Scenario) -> Result<u
     }
 }
 
-/// Plays the scenario in a text, and returns the text of its chronicle.
+/// Reads a scenario from its text, plays it, and returns the text of its chronicle.
 fn chronicle_of(alloc: Global, messages: MessageKind, text: &str) -> Result<Vec<u8>> {
     told_freely(alloc, messages, scenario_of(alloc, messages, text)?)
 }
 
-/// Measures how long a campaign takes from the text of its scenario to the text of its chronicle, in nanoseconds.
+/// Returns how long it takes to play a campaign once, from the text of its scenario to the text of its chronicle, in
+/// nanoseconds.
 pub fn tell_once<C: Clock>(
     alloc: Global,
     clock: &C,
@@ -75,7 +78,8 @@ pub fn tell_once<C: Clock>(
     }
 }
 
-/// Measures how long an audit takes, from a scenario and the text of its chronicle to the verdict, in nanoseconds.
+/// Returns how long it takes to audit the text of a scenario's chronicle once, in nanoseconds. Fails if the text is
+/// rejected.
 pub fn audit_once<C: Clock>(
     alloc: Global,
     clock: &C,
@@ -92,7 +96,8 @@ pub fn audit_once<C: Clock>(
     }
 }
 
-/// The events before a round is closed, each with the number of times it happens.
+/// The events of a round before its close in the signed campaign of thirteen generals, each with how often it
+/// happens.
 const TURNS: &[(Event, u32)] = &[
     (Event::Post(1), 1),
     (Event::Post(2), 1),
@@ -109,7 +114,7 @@ const TURNS: &[(Event, u32)] = &[
     (Event::Tick(12), 80),
 ];
 
-/// Lets all generals act to their end in the open round.
+/// Lets all thirteen generals of the signed campaign finish in the open round.
 fn act(world: &mut SignedWorld) -> Result<(), EventError> {
     for (event, times) in TURNS {
         for _ in 0..*times {
@@ -119,14 +124,14 @@ fn act(world: &mut SignedWorld) -> Result<(), EventError> {
     Ok(())
 }
 
-/// Closes the round and measures how long this takes, in nanoseconds.
+/// Closes a round, and returns how long this takes in nanoseconds.
 fn close<C: Clock>(clock: &C, world: &mut SignedWorld) -> Result<u64> {
     let start = Instant::now(clock)?;
     world.apply(Event::Close)?;
     nanoseconds(clock, start)
 }
 
-/// Plays the `bound + 1` rounds of a campaign, and returns the longest time of a close, in nanoseconds.
+/// Plays the `bound + 1` rounds of a campaign, and returns how long the slowest close takes in nanoseconds.
 fn dearest<C: Clock>(clock: &C, world: &mut SignedWorld, bound: u8) -> Result<u64> {
     let mut dearest = 0;
     for _ in 0..=bound {
@@ -136,13 +141,13 @@ fn dearest<C: Clock>(clock: &C, world: &mut SignedWorld, bound: u8) -> Result<u6
     Ok(dearest)
 }
 
-/// Plays a campaign of signed messages, and returns the longest time of a close, in nanoseconds.
+/// Plays a campaign with signed messages, and returns how long its slowest close takes in nanoseconds.
 pub fn close_once<C: Clock>(alloc: Global, clock: &C, scenario: &Scenario) -> Result<u64> {
     let mut world = SignedWorld::open(alloc, scenario.copy(alloc)?)?;
     dearest(clock, &mut world, scenario.bound())
 }
 
-/// The descriptions that are printed for a campaign.
+/// The descriptions that are printed for what is timed with one campaign.
 #[derive(Clone, Copy)]
 struct Names {
     play: &'static str,
@@ -150,28 +155,28 @@ struct Names {
     audit: &'static str,
 }
 
-/// Descriptions of the campaign of seven generals, of whom two collude.
+/// The descriptions for the campaign of seven generals, two of whom collude.
 const TWO_OF_SEVEN: Names = Names {
     play: "play, two colluding traitors of seven",
     tell: "from text to text, two colluding traitors of seven",
     audit: "audit, two colluding traitors of seven",
 };
 
-/// Descriptions of the campaign of thirteen generals, of whom four have long programs.
+/// The descriptions for the campaign of thirteen generals, four of whom have long programs.
 const FOUR_LONG: Names = Names {
     play: "play, four long traitors of thirteen",
     tell: "from text to text, four long traitors of thirteen",
     audit: "audit, four long traitors of thirteen",
 };
 
-/// Descriptions of the campaign of thirteen generals, of whom four sign and pass on chains.
+/// The descriptions for the campaign of thirteen generals, four of whom sign orders and pass chains on.
 const SIGNED: Names = Names {
     play: "play, signed, four traitors of thirteen",
     tell: "from text to text, signed, four traitors of thirteen",
     audit: "audit, signed, four traitors of thirteen",
 };
 
-/// Measures all campaigns.
+/// Times all campaigns, and prints descriptions and times.
 pub fn report_campaigns<R: Print + Eprint + Clock + Threads + Wait + Sync + AllocGlobal>(
     rt: &R,
 ) -> Result<()> {
@@ -182,7 +187,7 @@ pub fn report_campaigns<R: Print + Eprint + Clock + Threads + Wait + Sync + Allo
     report_signed(rt, text.as_str())
 }
 
-/// Measures a campaign of oral messages.
+/// Times a campaign with oral messages, whose scenario is `text`.
 fn report_oral<R: Print + Eprint + Clock + Threads + Wait + Sync + AllocGlobal>(
     rt: &R,
     text: &str,
@@ -197,7 +202,7 @@ fn report_oral<R: Print + Eprint + Clock + Threads + Wait + Sync + AllocGlobal>(
     report_texts(rt, MessageKind::Oral, scenario, text, names)
 }
 
-/// Measures the campaign of signed messages.
+/// Times a campaign with signed messages, whose scenario is `text`.
 fn report_signed<R: Print + Eprint + Clock + Threads + Wait + Sync + AllocGlobal>(
     rt: &R,
     text: &str,
@@ -213,7 +218,7 @@ fn report_signed<R: Print + Eprint + Clock + Threads + Wait + Sync + AllocGlobal
     report_texts(rt, MessageKind::Signed, scenario, text, &SIGNED)
 }
 
-/// Measures a campaign from text to text, and its audit.
+/// Times a campaign from the text of its scenario to the text of its chronicle, and times the audit of that text.
 fn report_texts<R: Print + Eprint + Clock + Threads + Wait + Sync + AllocGlobal>(
     rt: &R,
     messages: MessageKind,

@@ -1,4 +1,4 @@
-//! Reads, plays, writes and audits campaigns of oral or of signed messages.
+//! Reads, plays, writes and audits campaigns with oral or signed messages.
 
 use anyhow::{Result, bail};
 use round::Scenario;
@@ -8,14 +8,14 @@ use std::alloc::{AllocError, Global};
 use trace::{Latch, TraceError, check, check_signed, write_chronicle, write_signed};
 use world::{Chronicle, Schedule, Verdict, play};
 
-/// The kind of a campaign's messages.
+/// Whether a campaign's messages are oral or signed.
 #[derive(Clone, Copy)]
 pub enum MessageKind {
     Oral,
     Signed,
 }
 
-/// Reads the scenario in a text.
+/// Reads a scenario with this kind of messages from its text.
 pub fn scenario_of(alloc: Global, messages: MessageKind, text: &str) -> Result<Scenario> {
     match messages {
         MessageKind::Oral => oral_scenario(alloc, text),
@@ -37,14 +37,14 @@ fn signed_scenario(alloc: Global, text: &str) -> Result<Scenario> {
     }
 }
 
-/// Returns a schedule without entries, by which the generals act one after another.
+/// Returns a schedule without entries, so that the generals act one after another.
 pub fn freely(alloc: Global) -> Schedule {
     Schedule {
         lines: Vec::new(alloc),
     }
 }
 
-/// Plays a scenario of oral messages by a schedule, and returns its chronicle.
+/// Plays a scenario with oral messages by a schedule, and returns its chronicle.
 pub fn played(
     alloc: Global,
     scenario: &Scenario,
@@ -53,7 +53,7 @@ pub fn played(
     play(alloc, scenario.copy(alloc)?, schedule)
 }
 
-/// Returns the text of a chronicle.
+/// Returns the text of a chronicle with oral messages.
 pub fn text(alloc: Global, chronicle: &Chronicle) -> Result<Vec<u8>> {
     let mut sink = Latch::new(Vec::new(alloc));
     match write_chronicle(chronicle, &mut sink) {
@@ -62,7 +62,7 @@ pub fn text(alloc: Global, chronicle: &Chronicle) -> Result<Vec<u8>> {
     }
 }
 
-/// Returns the text of a chronicle of signed messages.
+/// Returns the text of a chronicle with signed messages.
 pub fn signed_text(alloc: Global, chronicle: &SignedChronicle) -> Result<Vec<u8>> {
     let mut sink = Latch::new(Vec::new(alloc));
     match write_signed(chronicle, &mut sink) {
@@ -84,12 +84,12 @@ pub fn told(
     }
 }
 
-/// Plays a scenario whose generals act one after another, and returns the text of its chronicle.
+/// Plays a scenario in which the generals act one after another, and returns the text of its chronicle.
 pub fn told_freely(alloc: Global, messages: MessageKind, scenario: Scenario) -> Result<Vec<u8>> {
     told(alloc, messages, scenario, &freely(alloc))
 }
 
-/// Audits a text as the chronicle of a scenario, and returns the verdict.
+/// Audits a text that should be the chronicle of the scenario, and returns the verdict on the campaign.
 ///
 /// # Errors
 ///

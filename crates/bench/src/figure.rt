@@ -1,15 +1,15 @@
-//! The figure that is printed for a piece of work.
+//! Defines the figures that are printed for timed work.
 use crate::bytecode::UNITS;
 use std::fmt;
 
-/// How long a piece of work took.
+/// How long timed work took. It is displayed in microseconds, per unit of work, and in comparison to the plain loop.
 #[derive(Clone, Copy)]
 pub struct Figure {
-    /// The number of units, activations or steps.
+    /// The number of units, activations or steps in the work.
     pub count: u64,
-    /// The median time of the work in nanoseconds.
+    /// The median time of the work, in nanoseconds.
     pub time: u64,
-    /// The median time of the plain loop over 4,096 units in nanoseconds.
+    /// The median time of the plain loop over 4,096 units, in nanoseconds.
     pub plain: u64,
 }
 
@@ -29,7 +29,7 @@ impl fmt::Display for Figure {
     }
 }
 
-/// A quotient in hundredths, rounded down.
+/// A quotient in hundredths, rounded down. It is displayed with two decimals, such as `1.25`.
 #[derive(Clone, Copy)]
 struct Hundredths(u64);
 
@@ -47,7 +47,7 @@ impl fmt::Display for Hundredths {
     }
 }
 
-/// Returns the quotient, rounded down. A divisor of 0 counts as 1.
+/// Returns the quotient of two numbers, rounded down. A divisor of 0 counts as 1.
 fn quotient(dividend: u64, divisor: u64) -> u64 {
     dividend / divisor.max(1)
 }

@@ -1,8 +1,8 @@
-//! Makes the calls of the laboratory's layers that allocate memory, and gives them damaged input.
+//! Makes the calls of the laboratory that allocate memory, and gives its layers damaged input.
 //!
-//! Before a call on the data of a campaign, the line `ready` is printed, and after it the line `back`. All memory that
-//! is allocated between the two lines is allocated by the call, so that another program can refuse it there. Then the
-//! same call is made again, and the two results are compared.
+//! Before a call on the data of a campaign, the line `ready` is printed, and after it the line `back`. All memory
+//! that is allocated between the two lines is allocated by the call, so that another program can make the allocation
+//! fail. Then the same call is made again, and the two results are compared.
 
 mod audit_calls;
 mod board_calls;
@@ -29,8 +29,8 @@ use std::rt::Files;
 use std::sync::Wait;
 use std::thread::Threads;
 
-/// Makes one call on one campaign if `words` are their two names. Otherwise it makes every call on every campaign,
-/// damages the programs in the files that `words` names, and gives the layers the rest of the hostile input.
+/// Makes one call on one campaign if `words` are their names. Otherwise `words` are files of programs: makes every
+/// call on every campaign, checks damaged copies of these programs, and gives the layers other damaged input.
 pub fn answer<R: Print + Files + Threads + Wait + Sync + AllocGlobal>(
     rt: &R,
     words: &[String],
@@ -53,7 +53,7 @@ fn damaged<R: Print + AllocGlobal>(rt: &R) -> Result<()> {
     write_failures::report(rt)
 }
 
-/// Makes the call with this name on the campaign with this name.
+/// Makes the call `name` on the campaign `campaign`. Fails if there is no such call or campaign.
 fn one<R: Print + Threads + Wait + Sync + AllocGlobal>(
     rt: &R,
     name: &str,
@@ -65,7 +65,7 @@ fn one<R: Print + Threads + Wait + Sync + AllocGlobal>(
     }
 }
 
-/// Makes every call on every campaign.
+/// Makes every call that allocates memory on every sample campaign.
 fn every<R: Print + Threads + Wait + Sync + AllocGlobal>(rt: &R) -> Result<()> {
     for &(name, call) in CALLS {
         for campaign in CAMPAIGNS {

@@ -38,11 +38,11 @@ fn main(rt: HostRuntime) -> Result<()> {
     }
 }
 
-/// Runs the task with this name, with these words.
+/// Runs the task `task` with these arguments.
 ///
 /// # Errors
 ///
-/// Fails if there is no such task, or if it fails.
+/// Fails if there is no such task, or if the task fails.
 fn answer<R: Print + Eprint + Clock + Files + Threads + Wait + Sync + AllocGlobal>(
     rt: &R,
     task: &str,
@@ -64,7 +64,7 @@ fn answer<R: Print + Eprint + Clock + Files + Threads + Wait + Sync + AllocGloba
     }
 }
 
-/// Times all layers.
+/// Times all layers of the laboratory, and prints descriptions and times.
 fn times<R: Print + Eprint + Clock + Threads + Wait + Sync + AllocGlobal>(rt: &R) -> Result<()> {
     report::report(rt)?;
     trees::report_trees(rt)?;

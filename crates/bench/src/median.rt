@@ -1,4 +1,4 @@
-//! The median of measured times.
+//! Computes the median of measured times.
 ghost use Rattle.std.specs.Prelude.{◌≡◌, ◌/◌, vec_len, slice_get};
 ghost use Rattle.std.specs.List.Sorted.{IsPermutation, IsSorted};
 ghost use Rattle.std.specs.Ordering.{nat_cmp};

@@ -1,4 +1,4 @@
-//! Times campaigns with a thread for each general, and for comparison as many threads that do nothing.
+//! Times campaigns with a thread for each general and, for comparison, the same number of threads that do nothing.
 
 use crate::chronicles::{MessageKind, scenario_of};
 use crate::task::{Workload, report_task};
@@ -13,8 +13,8 @@ use std::thread::Threads;
 use std::time::Instant;
 use threads::{Open, muster};
 
-/// Plays a campaign once, in which each general has one thread through all rounds. Returns how long this takes, in
-/// nanoseconds. Fails if the campaign cannot be played, the clock cannot be read, or memory runs out.
+/// Plays a campaign once, with a thread for each general, and returns how long this takes in nanoseconds. Fails if
+/// the campaign cannot be played, the clock cannot be read, or memory runs out.
 pub fn muster_once<R: Clock + Threads + Wait + Sync + AllocGlobal>(
     rt: &R,
     scenario: &Scenario,
@@ -29,9 +29,9 @@ pub fn muster_once<R: Clock + Threads + Wait + Sync + AllocGlobal>(
     }
 }
 
-/// Starts `generals` threads that do nothing and waits for them, once in each of `rounds` rounds. Returns how long this
-/// takes, in nanoseconds, and adds the number of started threads to `count`. The result is to be compared with
-/// `muster_once`: there, each general keeps one thread through all rounds. Fails if the clock cannot be read.
+/// Starts `generals` threads that do nothing and waits for them, once in each of `rounds` rounds. Returns how long
+/// this takes in nanoseconds, and adds the number of started threads to `count`. The time is for comparison with
+/// `muster_once`, where each general keeps one thread through all rounds. Fails if the clock cannot be read.
 pub fn start_once<R: Clock + Threads + Wait + Sync>(
     rt: &R,
     generals: u8,
@@ -45,7 +45,7 @@ pub fn start_once<R: Clock + Threads + Wait + Sync>(
     nanoseconds(rt, start)
 }
 
-/// Starts `wanted` threads, waits for them, and returns how many were started.
+/// Starts `wanted` threads that do nothing and waits for them. Returns how many could be started.
 fn started_at_once<R: Threads + Wait + Sync>(rt: &R, wanted: u8) -> u64 {
     thread::scope(thread::scope_env(), rt, |scope| -> u64 {
         let mut count = 0u64;
@@ -59,8 +59,8 @@ fn started_at_once<R: Threads + Wait + Sync>(rt: &R, wanted: u8) -> u64 {
     })
 }
 
-/// Measures two campaigns in threads. In one, four of thirteen generals take 4,096 steps in each of five rounds. In the
-/// other, two of seven generals share the board in three rounds.
+/// Times two campaigns that are played with threads. In one, four of thirteen generals take 4,096 steps in each of
+/// five rounds. In the other, two of seven generals share the board in three rounds.
 pub fn report_musters<R: Print + Eprint + Clock + Threads + Wait + Sync + AllocGlobal>(
     rt: &R,
 ) -> Result<()> {
@@ -72,7 +72,7 @@ pub fn report_musters<R: Print + Eprint + Clock + Threads + Wait + Sync + AllocG
     report_musters_of_seven(rt)
 }
 
-/// Measures the campaign of seven generals in threads.
+/// Times the campaign of seven generals when it is played with threads, and the same number of idle threads.
 fn report_musters_of_seven<R: Print + Eprint + Clock + Threads + Wait + Sync + AllocGlobal>(
     rt: &R,
 ) -> Result<()> {
@@ -82,7 +82,7 @@ fn report_musters_of_seven<R: Print + Eprint + Clock + Threads + Wait + Sync + A
     report_task(rt, what, &Workload::Threads(7, 3))
 }
 
-/// Measures the campaign of a text in threads.
+/// Times the campaign whose scenario is `text` when it is played with threads.
 fn report_muster<R: Print + Eprint + Clock + Threads + Wait + Sync + AllocGlobal>(
     rt: &R,
     text: &str,

@@ -1,16 +1,16 @@
-//! Prints what the object reader finds in ELF objects, for the model of checks/objects to compare.
+//! Prints what the object reader finds in ELF objects. checks/objects compares it with the output of its model.
 
 use anyhow::{Result, bail};
 use std::fs;
 use std::rt::Files;
 
-/// Prints the code of the only global function of an object, and of its functions with the given names, in hexadecimal.
-/// After each function comes a line for each unit with a known place in the source. If a function cannot be read, its
-/// first fault is printed instead of its code.
+/// Prints the code of an object's only global function, and of its functions with the given names, in hexadecimal.
+/// After each function comes a line for each unit whose place in the source is known. If a function cannot be read,
+/// its first fault is printed instead of its code.
 ///
-/// The words are the object's file and the names, or `--each` and the file of a list. Each line of the list is an
-/// object in hexadecimal and the names, separated by blanks. data/several.o is compiled by clang from the second
-/// program of checks/objects.
+/// The words are the object's file and the names of functions, or `--each` and the file of a list. Each line of this
+/// list is an object in hexadecimal and the names of functions, separated by blanks. data/several.o is compiled by
+/// clang from the second program of checks/objects.
 pub fn answer<R: Print + Files + AllocGlobal>(rt: &R, words: &[String]) -> Result<()> {
     match words {
         [word, list] if word.as_str() == "--each" => {
@@ -32,7 +32,7 @@ pub fn answer<R: Print + Files + AllocGlobal>(rt: &R, words: &[String]) -> Resul
     }
 }
 
-/// Prints what the object reader finds in the object of a line, and in the functions that the line names.
+/// Prints what the object reader finds in one line of a list: an object in hexadecimal, and names of its functions.
 fn tell_line<R: Print + AllocGlobal>(rt: &R, line: &str) -> Result<()> {
     let mut words = line.split(' ');
     let Some(digits) = words.next() else {
@@ -46,12 +46,13 @@ fn tell_line<R: Print + AllocGlobal>(rt: &R, line: &str) -> Result<()> {
     Ok(())
 }
 
-/// Prints what the object reader finds in the function with this name.
+/// Prints what the object reader finds in the object's function `name`.
 fn tell_named<R: Print + AllocGlobal>(rt: &R, object: &[u8], name: &str) -> Result<()> {
     tell(rt, name, object, Some(name.as_bytes()))
 }
 
-/// Prints a function's name and its code in hexadecimal, or the fault, and then the known places of its units.
+/// Prints a function's name and its code in hexadecimal, or why it cannot be read, and then the known places of its
+/// units in the source.
 fn tell<R: Print + AllocGlobal>(
     rt: &R,
     name: &str,

@@ -1,8 +1,8 @@
-//! The plain loop over a program's units, with which other work is compared.
+//! Defines the plain loop over a program's units, to which other work is compared.
 use byteorder::{ByteOrder, LittleEndian};
 use std::alloc::{AllocError, Global};
 
-/// Reads bytecode as units of 64 bits, little endian.
+/// Reads bytecode as units of 8 bytes, little-endian. Bytes after the last whole unit are left out.
 pub fn units_of(alloc: Global, bytecode: &[u8]) -> Result<Vec<u64>, AllocError> {
     let mut units = Vec::with_capacity(alloc, bytecode.len() / 8)?;
     for unit in bytecode.chunks_exact(8) {
@@ -11,8 +11,8 @@ pub fn units_of(alloc: Global, bytecode: &[u8]) -> Result<Vec<u64>, AllocError> 
     Ok(units)
 }
 
-/// Computes the plain measure: a loop that mixes each unit into a sum. Each step needs the result of the step before,
-/// so that the processor cannot do several at a time.
+/// Runs the plain loop, which mixes each unit into a sum, and returns the sum. Each step needs the result of the step
+/// before it, so that the processor cannot do several steps at a time.
 pub fn mixed(units: &[u64], first: u64) -> u64 {
     units.iter().fold(
         first,

@@ -1,4 +1,4 @@
-//! Measures the programs of all shapes, and prints the figures.
+//! Times work on the programs of all shapes, and prints the results.
 use crate::bytecode::UNITS;
 use crate::figure::Figure;
 use crate::median::median;
@@ -9,7 +9,7 @@ use anyhow::Result;
 use std::alloc::Global;
 use std::rt::Clock;
 
-/// Measures the programs of all shapes. Prints descriptions on standard output, and the figures on standard error.
+/// Times work on the programs of all shapes. Prints descriptions on standard output, and times on standard error.
 pub fn report<R: Print + Eprint + Clock + AllocGlobal>(rt: &R) -> Result<()> {
     let mut sum = 0;
     for shape in SHAPES {
@@ -19,7 +19,7 @@ pub fn report<R: Print + Eprint + Clock + AllocGlobal>(rt: &R) -> Result<()> {
     Ok(())
 }
 
-/// Returns the kinds of work that are timed for a shape.
+/// Returns the kinds of work that are timed on the program of this shape.
 fn works(shape: &MeasuredProgram) -> &'static [TimedWork] {
     if shape.is_started {
         &[
@@ -39,8 +39,8 @@ fn works(shape: &MeasuredProgram) -> &'static [TimedWork] {
     }
 }
 
-/// Returns the median time of the work, in nanoseconds. The results are mixed into `sum`, so that the compiler cannot
-/// leave out the work.
+/// Returns the median time of the work, in nanoseconds. The work's results are mixed into `sum`, so that the compiler
+/// cannot leave the work out.
 fn time_of<C: Clock>(
     alloc: Global,
     clock: &C,
@@ -69,8 +69,8 @@ fn report_shape<R: Print + Eprint + Clock + AllocGlobal>(
     Ok(())
 }
 
-/// Returns the figure of work with the median time `time`, if the plain loop took the time `plain`, both in
-/// nanoseconds.
+/// Returns the figure that is printed for work. `time` is its median time, and `plain` the median time of the plain
+/// loop, both in nanoseconds.
 fn figure(work: TimedWork, time: u64, plain: u64) -> Figure {
     Figure {
         count: count(work),
@@ -92,7 +92,7 @@ fn report_figure<R: Print + Eprint>(
     Ok(())
 }
 
-/// Returns the number of units, activations or steps that are timed together.
+/// Returns how many units, activations or steps are timed together in work of this kind.
 fn count(work: TimedWork) -> u64 {
     let units = UNITS as u64;
     let activations = ACTIVATIONS as u64;
@@ -103,7 +103,7 @@ fn count(work: TimedWork) -> u64 {
     }
 }
 
-/// Returns the name of what `count` counts.
+/// Returns what `count` counts for work of this kind: units, activations or steps.
 fn things(work: TimedWork) -> &'static str {
     match work {
         TimedWork::Plain | TimedWork::Decode | TimedWork::Verify => "units",

@@ -1,4 +1,4 @@
-//! Times the context of a general in a round, and the delivery of a round's letters.
+//! Times how a general's context is computed in a round, and how a round's letters are delivered.
 ghost use Rattle.std.specs.Prelude.{◌≡◌, ◌≤◌, suc, List, IfOk, length};
 ghost use Rattle.round.specs.Letters.{Letter as LetterSeen};
 ghost use Rattle.round.specs.Origin.{AreLettersOf, AreRoundsOf};
@@ -14,7 +14,7 @@ use std::rt::Clock;
 use std::time::Instant;
 use world::Chronicle;
 
-/// Thirteen loyal generals. In the last round, each lieutenant relays 990 labels.
+/// A campaign of thirteen loyal generals. In its last round, each lieutenant relays 990 labels.
 const THIRTEEN: &str = "generals = 13\nbound = 4\ncommander = 0\norder = 1\n";
 
 /// Plays the campaign `THIRTEEN` and returns its chronicle.
@@ -23,7 +23,8 @@ fn thirteen(alloc: Global) -> Result<Chronicle> {
     Ok(played(alloc, &scenario, &freely(alloc))?)
 }
 
-/// Measures the last round of thirteen generals. Prints descriptions on standard output, and times on standard error.
+/// Times a context and a delivery in the last round of thirteen generals. Prints descriptions on standard output, and
+/// times on standard error.
 pub fn report_rounds<R: Print + Eprint + Clock + AllocGlobal>(rt: &R) -> Result<()> {
     let alloc = rt.alloc();
     let chronicle = thirteen(alloc)?;
@@ -39,7 +40,7 @@ pub fn report_rounds<R: Print + Eprint + Clock + AllocGlobal>(rt: &R) -> Result<
     report_delivery(rt, scenario, &mut told, last.letters())
 }
 
-/// Delivers the letters of these rounds, and returns what the lieutenants received.
+/// Delivers the letters of these rounds to the lieutenants, and returns what they received.
 fn told_by(alloc: Global, scenario: &Scenario, rounds: &[Round]) -> Result<Received, AllocError>
     requires few { length rounds.now ≤ scenario.now.bound }
     requires letters { AreRoundsOf scenario.now rounds.now }
@@ -65,7 +66,7 @@ fn report_context<R: Print + Eprint + Clock + AllocGlobal>(
     report_time(rt, what, time)
 }
 
-/// Returns the median time of computing a general's context, in nanoseconds.
+/// Returns the median time in nanoseconds that it takes to compute the last general's context.
 fn context_time<C: Clock>(
     alloc: Global,
     clock: &C,
@@ -82,7 +83,7 @@ fn context_time<C: Clock>(
     Ok(median(&mut times).unwrap_or(0))
 }
 
-/// Measures how long it takes to compute the last general's context, in nanoseconds.
+/// Returns how long it takes to compute the last general's context once, in nanoseconds.
 fn context_once<C: Clock>(
     alloc: Global,
     clock: &C,
@@ -115,7 +116,7 @@ fn report_delivery<R: Print + Eprint + Clock + AllocGlobal>(
     )
 }
 
-/// Returns the median time of delivering a round's letters to all lieutenants, in nanoseconds.
+/// Returns the median time in nanoseconds that it takes to deliver a round's letters to all lieutenants.
 fn delivery_time<C: Clock>(
     alloc: Global,
     clock: &C,
@@ -137,7 +138,7 @@ fn delivery_time<C: Clock>(
     Ok(median(&mut times).unwrap_or(0))
 }
 
-/// Measures how long one delivery takes, in nanoseconds, and then undoes it.
+/// Returns how long it takes to deliver a round's letters once, in nanoseconds. Undoes the delivery after that.
 fn deliver_once<C: Clock>(
     clock: &C,
     scenario: &Scenario,

@@ -1,21 +1,22 @@
-//! The shapes of the measured programs: which instructions they consist of.
+//! Defines the shapes of the timed programs: which instructions the programs have.
 
-/// The shape of a program of 4,096 units: its first lines, and lines that repeat in turn after them. The line at a unit
-/// is the one at index `unit % in_turn.len()`.
+/// The shape of a timed program of 4,096 units: its first lines, and lines that are repeated in turn after them. The
+/// line of a unit after the first lines is the one at index `unit % in_turn.len()`.
 #[derive(Clone, Copy)]
 pub struct MeasuredProgram {
-    /// The name of the shape that is printed.
+    /// The name of the shape, as it is printed.
     pub name: &'static str,
-    /// Whether starts of activations are measured with this shape, too.
+    /// Whether starting activations is timed with this shape, too.
     pub is_started: bool,
     first: &'static [&'static str],
     in_turn: &'static [&'static str],
-    /// The line after the first lines up to unit 2,094, if it differs from `in_turn`.
+    /// The line from the end of the first lines to unit 2,094. `None` means that the lines of `in_turn` begin at
+    /// once.
     far: Option<&'static str>,
 }
 
 impl MeasuredProgram {
-    /// Returns the assembly of the instruction at this unit.
+    /// Returns the line of assembly for unit `unit` of the program.
     pub fn line(&self, unit: usize) -> &'static str {
         match self.first.get(unit) {
             Some(line) => *line,
@@ -23,7 +24,7 @@ impl MeasuredProgram {
         }
     }
 
-    /// Returns the assembly of the instruction at a unit after the first lines.
+    /// Returns the line of assembly for unit `unit` of the program, which comes after the first lines.
     fn later(&self, unit: usize) -> &'static str {
         match self.far {
             Some(line) if unit <= 2094 => line,
@@ -32,7 +33,7 @@ impl MeasuredProgram {
     }
 }
 
-/// Returns the line at this unit, if these lines repeat in turn.
+/// Returns the line for unit `unit` if these lines are repeated in turn from unit 0 on.
 fn of_turn(lines: &[&'static str], unit: usize) -> &'static str {
     match lines.get(unit % lines.len().max(1)) {
         Some(line) => *line,
@@ -40,7 +41,7 @@ fn of_turn(lines: &[&'static str], unit: usize) -> &'static str {
     }
 }
 
-/// All shapes, in the order in which they are measured.
+/// The shapes of all timed programs, in the order in which they are timed.
 pub const SHAPES: &[MeasuredProgram] = &[
     MeasuredProgram {
         name: "moves",
@@ -146,7 +147,7 @@ pub const SHAPES: &[MeasuredProgram] = &[
     },
 ];
 
-/// Stores of 8 bytes at four places of the stack.
+/// Stores of 8 bytes at four places in the stack.
 const STORES: &[&str] = &[
     "stxd [r10-512], r0",
     "stxd [r10-8], r0",
@@ -154,5 +155,5 @@ const STORES: &[&str] = &[
     "stxd [r10-264], r0",
 ];
 
-/// The lines before conditional jumps that are not taken: a load from the context, and a move.
+/// The first lines of programs with conditional jumps that are not taken: a load from the context, and a move.
 const JUMPS: &[&str] = &["ldd r2, [r1+32]", "mov r0, 0"];

@@ -1,4 +1,4 @@
-//! The workloads on labels, trees, campaigns and threads, and how long each takes.
+//! Times work on labels, trees, campaigns and threads.
 
 use crate::chronicles::MessageKind;
 use crate::median::median;
@@ -13,35 +13,35 @@ use std::sync::Wait;
 use std::thread::Threads;
 use tree::Tree;
 
-/// A workload that is timed.
+/// Work that is timed as a whole.
 #[derive(Clone, Copy)]
 pub enum Workload<'a> {
-    /// Ranks all labels.
+    /// Computes the ranks of these labels.
     Ranks(&'a [Label]),
-    /// Resolves one tree. The number of the attempt chooses the tree, so that successive attempts resolve different
-    /// ones.
+    /// Resolves one of these trees by a rule. The number of the attempt chooses the tree, so that successive attempts
+    /// resolve different trees.
     Tree(&'a [Tree], Rule),
-    /// Resolves all trees, one after another.
+    /// Resolves all these trees, one after another.
     Turns(&'a [Tree]),
-    /// Resolves all trees in parallel.
+    /// Resolves all these trees in parallel.
     Halves(&'a [Tree]),
-    /// Plays a campaign from its scenario to its chronicle.
+    /// Plays a campaign, from its scenario to its chronicle.
     Play(MessageKind, &'a Scenario),
-    /// Plays a campaign from the text of its scenario to the text of its chronicle.
+    /// Plays a campaign, from the text of its scenario to the text of its chronicle.
     Tell(MessageKind, &'a str),
-    /// Audits the text of a scenario's chronicle.
+    /// Audits a text as the chronicle of a scenario.
     Audit(MessageKind, &'a Scenario, &'a str),
-    /// Plays a campaign of signed messages, of which only the most expensive close is timed.
+    /// Plays a campaign with signed messages. Only the slowest close of a round is timed.
     Close(&'a Scenario),
-    /// Plays a campaign from its scenario to its chronicle, with a thread for each general through all rounds.
+    /// Plays a campaign from its scenario to its chronicle, with a thread for each general.
     Muster(&'a Scenario),
     /// Starts threads that do nothing, one for each general in each round. The fields are the numbers of generals and
-    /// of rounds.
+    /// rounds.
     Threads(u8, u8),
 }
 
-/// Measures how long the workload takes once, in nanoseconds. `nth` is the number of the attempt, and chooses a tree.
-/// The results are added to `sum`, so that the compiler cannot leave out the work.
+/// Returns how long the work takes once, in nanoseconds. `nth` is the number of the attempt, which chooses a tree.
+/// The work's results are added to `sum`, so that the compiler cannot leave the work out.
 fn time_once<R: Clock + Threads + Wait + Sync + AllocGlobal>(
     rt: &R,
     task: &Workload<'_>,
@@ -65,7 +65,7 @@ fn time_once<R: Clock + Threads + Wait + Sync + AllocGlobal>(
     }
 }
 
-/// Returns the median time of the workload, in nanoseconds.
+/// Returns the median time of the work, in nanoseconds. The work's results are added to `sum`.
 fn median_time<R: Clock + Threads + Wait + Sync + AllocGlobal>(
     rt: &R,
     task: &Workload<'_>,
@@ -78,7 +78,7 @@ fn median_time<R: Clock + Threads + Wait + Sync + AllocGlobal>(
     Ok(median(&mut times).unwrap_or(0))
 }
 
-/// Measures the workload. Prints its description on standard output, and its median time on standard error.
+/// Times the work. Prints the description `what` on standard output, and the median time on standard error.
 pub fn report_task<R: Print + Eprint + Clock + Threads + Wait + Sync + AllocGlobal>(
     rt: &R,
     what: &str,

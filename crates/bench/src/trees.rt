@@ -1,4 +1,4 @@
-//! Times the ranks of labels, and the resolution of one tree and of twelve.
+//! Times the ranking of labels, and the resolution of one tree and of twelve.
 
 use crate::task::{Workload, report_task};
 use crate::timing::nanoseconds;
@@ -13,14 +13,14 @@ use std::thread::Threads;
 use std::time::Instant;
 use tree::Tree;
 
-/// The space of the labels that are ranked: thirteen generals with commander 0, as the last of them sees them.
+/// The labels that are ranked: labels among thirteen generals with commander 0 that general 12 is not on.
 const SPACE: Space = Space {
     generals: 13,
     commander: 0,
     general: 12,
 };
 
-/// Returns all labels of five generals.
+/// Returns all 7,920 labels of five generals in `SPACE`.
 fn labels(alloc: Global) -> Result<Vec<Label>, AllocError> {
     let mut labels = Vec::new(alloc);
     for place in 0..7920 {
@@ -31,7 +31,7 @@ fn labels(alloc: Global) -> Result<Vec<Label>, AllocError> {
     Ok(labels)
 }
 
-/// Returns the trees of twelve lieutenants. Each value is a pseudorandom order of 0 or 1.
+/// Returns the trees of twelve lieutenants. For each label they have a pseudorandom order, 0 or 1.
 fn trees(alloc: Global) -> Result<Vec<Tree>, AllocError> {
     let mut trees = Vec::new(alloc);
     let mut state = 1;
@@ -41,7 +41,8 @@ fn trees(alloc: Global) -> Result<Vec<Tree>, AllocError> {
     Ok(trees)
 }
 
-/// Fills the tree with a value for each label, by a linear congruential generator.
+/// Fills a tree with a pseudorandom order, 0 or 1, for each label. `state` is the state of a linear congruential
+/// generator.
 fn filled(mut tree: Tree, state: &mut u64) -> Tree {
     let space = tree.space();
     for size in 1..6 {
@@ -57,7 +58,7 @@ fn filled(mut tree: Tree, state: &mut u64) -> Tree {
     tree
 }
 
-/// Measures how long it takes to rank all labels, in nanoseconds. The ranks are added to `sum`.
+/// Returns how long it takes to rank all these labels, in nanoseconds. The ranks are added to `sum`.
 pub fn rank_all<C: Clock>(clock: &C, labels: &[Label], sum: &mut u64) -> Result<u64> {
     let start = Instant::now(clock)?;
     for label in labels {
@@ -66,8 +67,8 @@ pub fn rank_all<C: Clock>(clock: &C, labels: &[Label], sum: &mut u64) -> Result<
     nanoseconds(clock, start)
 }
 
-/// Measures how long it takes to resolve the tree at index `nth % trees.len()`, in nanoseconds. The decision is added
-/// to `sum`.
+/// Returns how long it takes to resolve one tree, in nanoseconds. It is the tree at index `nth % trees.len()`. The
+/// decision is added to `sum`.
 pub fn resolve_one<C: Clock>(
     clock: &C,
     trees: &[Tree],
@@ -83,7 +84,7 @@ pub fn resolve_one<C: Clock>(
     nanoseconds(clock, start)
 }
 
-/// Measures how long it takes to resolve all trees, one after another, in nanoseconds. The decisions are added to
+/// Returns how long it takes to resolve all these trees one after another, in nanoseconds. The decisions are added to
 /// `sum`.
 pub fn resolve_in_turn<C: Clock>(clock: &C, trees: &[Tree], sum: &mut u64) -> Result<u64> {
     let start = Instant::now(clock)?;
@@ -93,7 +94,7 @@ pub fn resolve_in_turn<C: Clock>(clock: &C, trees: &[Tree], sum: &mut u64) -> Re
     nanoseconds(clock, start)
 }
 
-/// Measures how long it takes to resolve all trees in parallel, in nanoseconds.
+/// Returns how long it takes to resolve all these trees in parallel, in nanoseconds.
 pub fn resolve_at_once<R: Clock + Threads + Sync + AllocGlobal>(
     rt: &R,
     trees: &[Tree],
@@ -103,7 +104,8 @@ pub fn resolve_at_once<R: Clock + Threads + Sync + AllocGlobal>(
     nanoseconds(rt, start)
 }
 
-/// Measures ranks and trees. Each call is timed by itself, and the trees differ.
+/// Times the ranking of labels and the resolution of trees. Each call is timed by itself, and successive calls of
+/// `resolve` get different trees.
 pub fn report_trees<R: Print + Eprint + Clock + Threads + Wait + Sync + AllocGlobal>(
     rt: &R,
 ) -> Result<()> {
@@ -114,7 +116,7 @@ pub fn report_trees<R: Print + Eprint + Clock + Threads + Wait + Sync + AllocGlo
     report_resolution(rt, trees.as_slice())
 }
 
-/// Measures the resolution of one tree by each rule, and of all trees.
+/// Times the resolution of one tree by each rule, and the resolution of all trees in turn and in parallel.
 fn report_resolution<R: Print + Eprint + Clock + Threads + Wait + Sync + AllocGlobal>(
     rt: &R,
     trees: &[Tree],

@@ -1,4 +1,4 @@
-//! Times work on one program: the plain loop, decoding, verification, and starts and runs of activations.
+//! Times work on one program: the plain loop, decoding, verification, and starting and running activations.
 ghost use Rattle.std.specs.Prelude.{List, ℕ, OnOk};
 ghost use Rattle.insn.specs.declared.insn.Insn.{Insn};
 ghost use Rattle.machine.specs.Advance.{IsOfRun, IsAskOfRun};
@@ -20,10 +20,11 @@ use std::rt::Clock;
 use std::time::Instant;
 use verify::{Verified, verify};
 
-/// The number of activations that are timed together.
+/// How many activations are timed together.
 pub const ACTIVATIONS: usize = 16;
 
-/// The last of 4 generals in the second round, who relays one label to two receivers.
+/// The general and the round of the timed activations: general 3 of 4 in round 2, who relays one label to two
+/// receivers.
 const SHAPE: Shape = Shape {
     generals: 4,
     commander: 0,
@@ -31,16 +32,16 @@ const SHAPE: Shape = Shape {
     round: 2,
 };
 
-/// The work on a program that is timed.
+/// The kinds of work on a program that are timed.
 #[derive(Clone, Copy)]
 pub enum TimedWork {
-    /// Runs the plain measure, which is a loop over the program's units.
+    /// Runs the plain loop over the program's units.
     Plain,
     Decode,
     Verify,
-    /// Starts activations, which end at once.
+    /// Starts activations, which end before their first step.
     Start,
-    /// Runs activations to their exit.
+    /// Runs activations until they exit.
     Run,
 }
 
@@ -56,7 +57,7 @@ impl fmt::Display for TimedWork {
     }
 }
 
-/// What the work is done on: a program as bytecode, as units and verified, and a context.
+/// What the timed work needs: a program as bytecode, as units and as a verified program, and a context.
 #[derive(Drop)]
 pub struct Material {
     bytecode: Vec<u8>,
@@ -66,8 +67,7 @@ pub struct Material {
 }
 
 impl Material {
-    /// Builds the measured program of the given shape, in each form that the work needs, and a context that consists of
-    /// zero bytes.
+    /// Builds the program of this shape in all forms that the timed work needs, and a context of zero bytes.
     pub fn of(alloc: Global, shape: &MeasuredProgram) -> Result<Material> {
         let bytecode = bytecode(alloc, shape)?;
         let units = units_of(alloc, bytecode.as_slice())?;
@@ -82,7 +82,7 @@ impl Material {
     }
 }
 
-/// Decodes and verifies the bytecode.
+/// Decodes and verifies bytecode. Fails if it is not a program, or if the verifier rejects it.
 fn accepted(alloc: Global, bytecode: &[u8]) -> Result<Verified> {
     match verify(alloc, decode(alloc, bytecode)?) {
         Ok(verified) => Ok(verified),
@@ -90,8 +90,8 @@ fn accepted(alloc: Global, bytecode: &[u8]) -> Result<Verified> {
     }
 }
 
-/// Measures how long the work takes once, in nanoseconds. The results are mixed into `sum`, so that the compiler cannot
-/// leave out the work.
+/// Returns how long the work takes once, in nanoseconds. Its results are mixed into `sum`, so that the compiler
+/// cannot leave the work out.
 pub fn time_once<C: Clock>(
     alloc: Global,
     clock: &C,
@@ -138,8 +138,8 @@ fn time_verify<C: Clock>(alloc: Global, clock: &C, bytecode: &[u8], sum: &mut u6
     time
 }
 
-/// Measures how long `ACTIVATIONS` activations take, in nanoseconds. Each runs until it has taken `limit` steps or has
-/// exited.
+/// Returns how long `ACTIVATIONS` activations take, in nanoseconds. An activation runs until it exits, or has taken
+/// `limit` steps.
 fn time_activations<C: Clock>(
     alloc: Global,
     clock: &C,
@@ -158,7 +158,7 @@ fn time_activations<C: Clock>(
     Ok(time)
 }
 
-/// Measures how long one activation takes, in nanoseconds. It runs until it has taken `limit` steps or has exited.
+/// Returns how long one activation takes, in nanoseconds. It runs until it exits, or has taken `limit` steps.
 fn time_activation<C: Clock>(
     alloc: Global,
     clock: &C,
@@ -177,8 +177,8 @@ fn time_activation<C: Clock>(
     time
 }
 
-/// Runs an activation until it has taken `limit` steps or has exited, and returns the number of its steps. The board
-/// answers its requests.
+/// Runs an activation until it exits, or has taken `limit` steps, and returns the number of steps. The board answers
+/// its requests.
 fn served(
     verified: &Verified,
     context: &Context,
@@ -197,7 +197,7 @@ fn served(
     bail!("more requests than units")
 }
 
-/// Answers an activation's request from the board.
+/// Lets the board answer an activation's request, and resumes the activation with the answer.
 fn answer(activation: &mut Machine, board: &mut Board, request: &Request) -> Result<()>
     ensures of_run { OnOk result ((program : List Insn) (context : List ℕ) →
         IsAskOfRun program context request.now activation.old →

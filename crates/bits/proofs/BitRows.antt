@@ -1,4 +1,4 @@
--- The rows of the table of known bits: what is known of a result holds of it, and is itself well formed.
+-- The rows of the table of known bits: they hold for the result, and are themselves well-formed.
 use Rattle.std.proofs.Common.{◌≡◌, ◌∙◌, ℕ, ◌-◌, ◌^◌, ◌<◌, ◌≤◌, refl, arith}
 use Rattle.std.specs.Prelude.{bit_and, bit_or, bit_xor}
 use Rattle.std.proofs.lemmas.Nat.{and_comm, and_le_l, and_le_r, or_lt, xor_lt}
@@ -10,7 +10,7 @@ use Rattle.word.specs.Arithmetic.{bits_of, taken, operated, arithmetic}
 use Rattle.bits.specs.Known.{HasBits, less, single, unknown, used, joined, joined_mask, common, either, differing, row, table}
 use Rattle.bits.proofs.Laws.{less_lt, less_apart, and_holds, or_holds, xor_holds, joined_lt, joined_left, joined_right, cut_holds, cut_apart, unknown_has}
 
--- a mask and a value of words, with no bit in both
+-- States that a mask and a value are words without a common bit.
 pub record AreBits (b : ℕ × ℕ) : Type 0 where
   pub mask : b.0 < 2 ^ 64
   pub value : b.1 < 2 ^ 64

@@ -1,7 +1,7 @@
--- One bit of each number: m and n unknown, v and w known to be 1, x and y the words' bits.
+-- One bit of each number: m and n are unknown bits, v and w bits known to be 1, and x and y the bits of the words.
 use Rattle.std.proofs.Common.{◌≡◌, ℕ, ◌+◌, ◌-◌, ◌%◌, ◌<◌, min, max, arith}
 
--- what a bit may be that is not in the mask
+-- States what a bit may be if it is not set in the mask.
 abbrev Agrees : ℕ → ℕ → ℕ → Type 0
 Agrees m v x = m ≡ 0 → x ≡ v
 
@@ -17,7 +17,7 @@ pub xor_digit : (m v x n w y q p c : ℕ) → m < 2 → v < 2 → x < 2 → n < 
     c ≡ min p (1 - q) → p ≡ (v + w) % 2 → q ≡ max m n → q ≡ 0 → (x + y) % 2 ≡ c
 xor_digit m v x n w y q p c lm lv lx ln lw ly h k ce pe qe z = grind arith
 
--- of a join: d whether the known bits differ
+-- Proves the claim for a join, where p is whether the known bits differ.
 pub join_digit : (m v x n w p q c : ℕ) → m < 2 → v < 2 → x < 2 → n < 2 → w < 2 → (m ≡ 0 → x ≡ v) →
     q ≡ max (max m n) p → p ≡ (v + w) % 2 → c ≡ min v (1 - q) → q ≡ 0 → x ≡ c
 join_digit m v x n w p q c lm lv lx ln lw h qe pe ce z = grind arith

@@ -1,4 +1,4 @@
--- What the known bits of operands tell of their results.
+-- What known bits of operands mean for the results of operations.
 use Rattle.std.proofs.Common.{◌≡◌, ◌∙◌, ℕ, ◌+◌, ◌-◌, ◌*◌, ◌/◌, ◌%◌, ◌^◌, ◌<◌, ◌≤◌, min, max, inl, inr, sym, ap, subst, arith}
 use Rattle.std.specs.Int.{w64, bit_at, bit_not}
 use Rattle.std.specs.Prelude.{bit_and, bit_or, bit_xor}
@@ -26,7 +26,7 @@ or_below a b h k = or_lt 64 a b h k
 pub xor_below : (a b : ℕ) → a < 2 ^ 64 → b < 2 ^ 64 → bit_xor a b < 2 ^ 64
 xor_below a b h k = xor_lt 64 a b h k
 
--- no bit is in both
+-- Proves that no bit is set in both numbers.
 pub apart_at : (m v i : ℕ) → bit_and m v ≡ 0 → min (bit_at m i) (bit_at v i) ≡ 0
 apart_at m v i e = sym (bit_at_and m v i) ∙ ap (λ z. bit_at z i) e ∙ bit_at-zero i
 
@@ -85,7 +85,7 @@ joined_right m v n w x lm lv ln lw h = record {
       (joined_at m v n w i) (bit_at_xor v w i) (less_at v (joined_mask (m, v) (n, w)) i lv (joined_lt m v n w lm lv ln lw)) e;
 }
 
--- bits that another number has not are apart from it
+-- Proves that the bits which another number does not have are separate from it.
 pub less_apart : (a b : ℕ) → a < 2 ^ 64 → b < 2 ^ 64 → bit_and b (less a b) ≡ 0
 less_apart a b h k = same_from_bits _ _ (λ i.
     let e = bit_at_and b (less a b) i in
@@ -97,7 +97,7 @@ less_apart a b h k = same_from_bits _ _ (λ i.
     digits : (p q c r : ℕ) → q < 2 → r ≡ min q c → c ≡ min p (1 - q) → r ≡ 0
     digits p q c r l e f = grind arith
 
--- the low 32 bits
+-- Proves which bits the low 32 bits are.
 cut_low : (a i : ℕ) → i < 32 → bit_at (a % 2 ^ 32) i ≡ bit_at a i
 cut_low a i lt =
     let e : (a / 2 ^ 32) * 2 ^ 32 + a % 2 ^ 32 ≡ a = omega arith in
@@ -121,7 +121,7 @@ cut_apart m v e = same_from_bits _ _ (λ i. bit_at_and (m % 2 ^ 32) (v % 2 ^ 32)
   | inr ge ↦ let a = cut_high m i ge in rw a (omega arith) ∙ sym (bit_at-zero i)
 ])
 
--- all bits of a width unknown
+-- Proves the claim if all bits of a width are unknown.
 pub unknown_holds : (k x : ℕ) → k ≤ 64 → x < 2 ^ k → x < 2 ^ 64 → HasBits (2 ^ k - 1, 0) x
 unknown_holds k x le h l = record {
   word = l;
@@ -140,7 +140,7 @@ unknown_has W64 x h = unknown_holds 64 x (omega arith) h h
 pub unknown_at : (v w : Width) (x : ℕ) → v ≡ w → x < 2 ^ bits_of v → HasBits (unknown w) x
 unknown_at v w x e h = unknown_has w x (subst (λ (u : Width). x < 2 ^ bits_of u) e h)
 
--- a word of these bits is the value beside some bits of the mask
+-- Proves that a word with these known bits is the value with some bits of the mask.
 pub masked_same : (m v x : ℕ) → HasBits (m, v) x → bit_or x m ≡ bit_or v m
 masked_same m v x h = same_from_bits _ _ (λ i.
     bit_at_or x m i ∙ digits (bit_at m i) (bit_at v i) (bit_at x i) (bit_at-lt m i) (bit_at-lt v i) (bit_at-lt x i) (h.same i) ∙ sym (bit_at_or v m i))

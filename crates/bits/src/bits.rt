@@ -1,4 +1,4 @@
-//! Words of which some bits are known: the type, membership and joins.
+//! Defines known bits of words (in the field, a tnum): the type, membership and joins.
 
 ghost use Rattle.std.specs.Prelude.{◌≡◌, ◌↔◌, ◌≤◌, ◌<◌, ◌^◌, ℕ, IsTrue, bit_or};
 ghost use Rattle.word.specs.Arithmetic.{bits_of};
@@ -7,7 +7,8 @@ ghost use Rattle.bits.specs.Known.{HasBits, has_bits, single, unknown, joined};
 use std::marker::Model;
 use word::Width;
 
-/// The words with certain known bits. A bit of the mask is unknown, and any other bit is as in the value.
+/// The words that have certain known bits. A bit that is set in `mask` is unknown, and any other bit is as in
+/// `value`.
 #[derive(Clone, Copy)]
 pub struct Bits {
     /// The bits that are unknown.
@@ -29,7 +30,7 @@ impl Model for Bits {
 }
 
 impl Bits {
-    /// Returns the known bits of the number `n`. All 64 bits are known, so the result contains only `n`.
+    /// Returns the known bits of only one number, `n`: all 64 bits are known.
     pub fn exactly(n: u64) -> Bits
         ensures exact { result ≡ single n }
         ensures holds { HasBits result n }
@@ -37,7 +38,8 @@ impl Bits {
         Bits { mask: 0, value: n }
     }
 
-    /// Returns the known bits of an arbitrary number of a width: all bits of the width are unknown.
+    /// Returns the known bits of an arbitrary number of this width: all its bits are unknown, and any bits above are
+    /// 0.
     pub fn unknown(width: Width) -> Bits
         ensures exact { result ≡ unknown width }
         ensures holds { (x : ℕ) → x < 2 ^ bits_of width → HasBits result x }
@@ -49,7 +51,7 @@ impl Bits {
         Bits { mask, value: 0 }
     }
 
-    /// Checks whether a word has these known bits.
+    /// Checks whether the word `x` has these known bits.
     pub fn contains(self, x: u64) -> bool
         ensures exact { result ≡ has_bits self x }
         ensures means { IsTrue result ↔ HasBits self x }
@@ -73,8 +75,8 @@ impl Bits {
         self.value | self.mask
     }
 
-    /// Returns the known bits that describe both arguments: a bit is known if both know it and have the same value for
-    /// it. The result contains every word that one of the two contains.
+    /// Returns the known bits that two sets of words have in common. A bit is known if it is known in both with the
+    /// same value. The result contains all words of both sets.
     pub fn join(self, other: Bits) -> Bits
         ensures exact { result ≡ joined self other }
         ensures left { (x : ℕ) → HasBits self x → HasBits result x }

@@ -1,4 +1,5 @@
-//! Computes with known bits of words: from the known bits of the operands it computes those of an operation's result.
+//! Computes with known bits of words: from the known bits of an operation's operands, it computes the known bits of
+//! the result.
 #![tactic(auto)]
 
 pub mod bits;

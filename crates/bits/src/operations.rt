@@ -1,4 +1,4 @@
-//! Known bits of the results of operations: the table of operations.
+//! Computes the known bits of the results of operations.
 
 ghost use Rattle.std.specs.Prelude.{◌≡◌, ◌<◌, ◌^◌, ℕ};
 ghost use Rattle.word.specs.Arithmetic.{taken, bits_of, arithmetic};
@@ -7,8 +7,8 @@ ghost use Rattle.bits.specs.Known.{HasBits, used, common, either, differing, row
 use crate::bits::Bits;
 use word::{Operation, Width};
 
-/// Returns the known bits of an operation's results for words of `a` and of `b`. AND, OR, XOR and MOV are computed bit
-/// by bit. For any other operation all bits of the width are unknown.
+/// Returns the known bits of an operation's results for all words of `a` and `b`. AND, OR, XOR and MOV are computed
+/// bit by bit. For any other operation all bits of the width are unknown.
 pub fn operate(width: Width, operation: Operation, a: Bits, b: Bits) -> Bits
     ensures exact { result ≡ table width operation a b }
     ensures holds { (x y : ℕ) → HasBits a x → HasBits b y
@@ -20,7 +20,7 @@ pub fn operate(width: Width, operation: Operation, a: Bits, b: Bits) -> Bits
     by_row(width, operation, a, b)
 }
 
-/// Returns the known bits of an operation's results by the operation's row of the table.
+/// Returns the known bits of an operation's results for words of `a` and `b` that have no bits above the width.
 fn by_row(width: Width, operation: Operation, a: Bits, b: Bits) -> Bits
     ensures exact { result ≡ row width operation a b }
 {
@@ -42,7 +42,7 @@ fn by_row(width: Width, operation: Operation, a: Bits, b: Bits) -> Bits
     }
 }
 
-/// Returns the known bits of the low part of the words that operations of a width use.
+/// Returns the known bits of the low 32 or 64 bits, which operations of this width use, of all words of `a`.
 pub fn used(width: Width, a: Bits) -> Bits
     ensures exact { result ≡ used width a }
     ensures holds { (x : ℕ) → HasBits a x → HasBits result (taken width x) }
@@ -53,7 +53,7 @@ pub fn used(width: Width, a: Bits) -> Bits
     }
 }
 
-/// Returns the known bits of the low 32 bits of the words.
+/// Returns the known bits of the low 32 bits of all words of `a`.
 fn low_word(a: Bits) -> Bits
     ensures exact { result ≡ used Width.W32 a }
     ensures holds { (x : ℕ) → HasBits a x → HasBits result (taken Width.W32 x) }
@@ -64,7 +64,7 @@ fn low_word(a: Bits) -> Bits
     }
 }
 
-/// Returns the known bits of `x & y` for words `x` of `a` and `y` of `b`.
+/// Returns the known bits of `x & y` for all words `x` of `a` and `y` of `b`.
 fn and(a: Bits, b: Bits) -> Bits
     ensures exact { result ≡ common a b }
 {
@@ -76,7 +76,7 @@ fn and(a: Bits, b: Bits) -> Bits
     }
 }
 
-/// Returns the known bits of `x | y` for words `x` of `a` and `y` of `b`.
+/// Returns the known bits of `x | y` for all words `x` of `a` and `y` of `b`.
 fn or(a: Bits, b: Bits) -> Bits
     ensures exact { result ≡ either a b }
 {
@@ -87,7 +87,7 @@ fn or(a: Bits, b: Bits) -> Bits
     }
 }
 
-/// Returns the known bits of `x ^ y` for words `x` of `a` and `y` of `b`.
+/// Returns the known bits of `x ^ y` for all words `x` of `a` and `y` of `b`.
 fn xor(a: Bits, b: Bits) -> Bits
     ensures exact { result ≡ differing a b }
 {

@@ -1,4 +1,4 @@
--- What a step asks lies within the board.
+-- The words that a program's request names are within the board.
 use Rattle.std.proofs.Common.{◌≡◌, ℕ, pos, ◌+◌, ◌*◌, ◌<◌, ◌≤◌, List, Bool, true, false, refl, subst}
 use Rattle.std.specs.Prelude.{Option, Some, None, Result, Ok, Err, if◌then◌else◌, nat_lt, nat_le}
 use Rattle.std.proofs.lemmas.Bool.{ltb-true, leb-true}
@@ -88,6 +88,6 @@ step_within program context relay s =
     })
     (called_within context relay s)
 
--- what a step asks lies within the board
+-- Proves that the words that a step's request names are within the board.
 pub asks_within : (program : List Insn) (context : List ℕ) (relay : Relay) (s t : State) (request : Request) → step program context relay s ≡ Ask request t → IsRequest request
 asks_within program context relay s t request e = subst (λ (o : Outcome). AsksWithin o) e (step_within program context relay s)

@@ -1,4 +1,4 @@
--- Ledgers with one entry more.
+-- Ledgers with one access more.
 use Rattle.std.proofs.Common.{◌≡◌, ℕ, List, [], ◌∷◌, ◌++◌, refl}
 use Rattle.board.specs.Board.{Access, reply, next, words_after, IsLegal}
 

@@ -1,4 +1,4 @@
--- A board with one access more.
+-- A board after one access more.
 use Rattle.std.proofs.Common.{◌≡◌, ℕ, List, [], ◌∷◌, ◌++◌, sym, ap, subst, ◌∙◌}
 use Rattle.board.specs.Board.{Access, IsBoard, reply, next, words_after, IsLegal}
 use Rattle.board.specs.Requests.{IsRequest}
@@ -6,7 +6,7 @@ use Rattle.board.specs.Ledger.{IsRecorded}
 use Rattle.board.proofs.Serving.{next_board}
 use Rattle.board.proofs.Histories.{words_after-snoc, IsLegal-snoc}
 
--- what is kept stays so with an entry that the board answered
+-- Proves that the facts about a board still hold after an access that the board answered.
 pub kept_next : (opening words : List ℕ) (ledger more : List Access) (after : List ℕ) (entry : Access) → more ≡ ledger ++ entry ∷ [] → entry.reply ≡ reply words entry.request →
     after ≡ next words entry.request → IsRequest entry.request → IsRecorded opening words ledger → IsRecorded opening after more
 kept_next opening words ledger more after entry pushed answered changed within k = record {
@@ -17,7 +17,7 @@ kept_next opening words ledger more after entry pushed answered changed within k
   left = changed ∙ (ap (λ (ws : List ℕ). next ws entry.request) k.left ∙ (sym (words_after-snoc opening ledger entry) ∙ ap (words_after opening) (sym pushed)));
 }
 
--- with no access yet
+-- Proves the facts about a board without accesses.
 pub kept_begun : (words : List ℕ) (ledger : List Access) → ledger ≡ [] → IsBoard words → IsRecorded words words ledger
 kept_begun words ledger none board = record {
   begun = board;

@@ -1,4 +1,4 @@
--- What holds of each row of the table holds of the row of each request.
+-- What holds for each entry of the table holds for the entry of each request.
 use Rattle.std.proofs.Common.{◌≡◌, ℕ, zero, suc, Bool, true, List, [], ◌∷◌}
 use Rattle.std.specs.Prelude.{slice_index_or}
 use Rattle.std.specs.List.{list_all}

@@ -1,4 +1,4 @@
--- A board answers what lies within it, and stays a board.
+-- The board answers each request that names words within it, and its words are again a board.
 use Rattle.std.proofs.Common.{◌≡◌, ℕ, zero, suc, ◌+◌, ◌^◌, ◌<◌, ◌≤◌, ◌%◌, List, [], ◌∷◌, length, take, drop, Bool, true, false, cond, refl, ap, arith, All}
 use Rattle.std.specs.Prelude.{◌==◌, nat_lt, ◌&&◌, slice_index, slice_set}
 use Rattle.std.specs.List.{list_all}
@@ -11,7 +11,7 @@ use Rattle.semantics.specs.Call.{fits}
 use Rattle.board.specs.Board.{IsBoard, reply, next}
 use Rattle.board.specs.Requests.{IsRequest}
 
--- each is a word
+-- States that each number of a list is a word of 64 bits.
 abbrev AreWords : List ℕ → Type 0
 AreWords [] = Unit {0}
 AreWords (w ∷ ws) = (w < 2 ^ 64) × AreWords ws

@@ -3,12 +3,13 @@ use Rattle.std.specs.Prelude.{ℕ, ◌≡◌, ◌<◌, ◌+◌, ◌%◌, ◌^◌
 use Rattle.semantics.specs.declared.request.Request.{Request}
 use Rattle.semantics.specs.declared.request.Request.TheVariants.{Get, Swap, Add, Cas, Copy}
 
--- States that a board has 64 words of 64 bits.
+-- States that a list of words is a board: 64 words of 64 bits.
 pub record IsBoard (words : List ℕ) : Type 0 where
   pub long : length words ≡ 64
   pub each : All (λ word. word < 2 ^ 64) words
 
--- Returns the board's reply to a request: the word as it was before, or the words copied.
+-- Returns the board's reply to a request: for a copy the copied words, and otherwise the word as it was before the
+-- request.
 abbrev pub reply : List ℕ → Request → List ℕ
 reply words (Get slot) = slice_index words slot ∷ []
 reply words (Swap slot value) = slice_index words slot ∷ []
@@ -31,12 +32,13 @@ pub record Access : Type 0 where
   pub request : Request
   pub reply : List ℕ
 
--- Returns the board's words after all accesses of a ledger.
+-- Returns the board's words after all accesses of a ledger, where it first had the given words.
 abbrev pub words_after : List ℕ → List Access → List ℕ
 words_after words [] = words
 words_after words (a ∷ ledger) = words_after (next words a.request) ledger
 
--- States that the ledger is legal: each reply is the board's, given the words that the earlier accesses left.
+-- States that a ledger is legal on a board with these words at the start: each reply is the one that the board gives
+-- after the earlier accesses.
 abbrev pub IsLegal : List ℕ → List Access → Type 0
 IsLegal words [] = Unit {0}
 IsLegal words (a ∷ ledger) = (a.reply ≡ reply words a.request) × IsLegal (next words a.request) ledger

@@ -1,4 +1,4 @@
--- The form of replies (own).
+-- How many words the reply to a request has (own).
 use Rattle.std.specs.Prelude.{◌≡◌, length}
 use Rattle.semantics.specs.declared.reply.Reply.{Reply}
 use Rattle.semantics.specs.declared.reply.Reply.TheVariants.{Word, Words}
@@ -6,7 +6,8 @@ use Rattle.semantics.specs.declared.request.Request.{Request}
 use Rattle.semantics.specs.declared.request.Request.TheVariants.{Copy}
 pub use Rattle.semantics.specs.Call.{IsRequest}
 
--- States that the reply has the form that the request asks for: as many words as a copy names, and otherwise one word.
+-- States that a reply has the form that the request asks for: for a copy the number of words that it names, and else
+-- one word.
 abbrev pub IsReplyTo : Request → Reply → Type 0
 IsReplyTo (Copy span) (Words words) = length words ≡ span.1
 IsReplyTo (Copy span) (Word word) = ⊥

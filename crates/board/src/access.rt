@@ -1,4 +1,4 @@
-//! An access to the board: who made which request in which round, and the board's reply.
+//! Defines an access to the board: who made which request in which round, and the board's reply.
 ghost use Rattle.std.specs.Prelude.{◌≡◌, ◌↔◌, IfOk, IsTrue};
 ghost use Rattle.semantics.specs.Replies.{words_in};
 ghost use Rattle.board.specs.Requests.{IsReplyTo};
@@ -8,8 +8,7 @@ use semantics::{Copied, Reply, Request};
 use std::alloc::{AllocError, Global};
 use std::marker::Model;
 
-/// One access to the board: the general, the round, his request, and the board's reply. The reply has the form that the
-/// request asks for.
+/// One access to the board: the general, the round, his request, and the board's reply to it.
 #[derive(Drop)]
 pub struct Access {
     /// The general's number.
@@ -18,7 +17,7 @@ pub struct Access {
     pub round: u32,
     /// The general's request.
     pub request: Request,
-    /// The board's reply: as many words as were requested for a copy, else one word.
+    /// The board's reply: the copied words for a copy request, and one word for any other request.
     pub reply: Reply,
 }
 
@@ -52,7 +51,7 @@ impl Access {
     ///
     /// # Errors
     ///
-    /// Returns `AllocError` if the memory for the words of a copy request cannot be allocated.
+    /// Fails with `AllocError` if there is no memory for the words of a copy request's reply.
     pub fn copy(&self, alloc: Global) -> Result<Access, AllocError>
         ensures { IfOk result (λ access. access ≡ self.now) }
     {
@@ -64,7 +63,7 @@ impl Access {
         })
     }
 
-    /// Checks whether two accesses are equal.
+    /// Checks whether two accesses are equal: the same general, round, request and words of the reply.
     pub fn same(&self, other: &Access) -> bool
         ensures { IsTrue result ↔ (self.now ≡ other.now) }
     {

@@ -1,4 +1,4 @@
-//! The board that traitors share, and how it serves a request.
+//! Defines the board that traitors share, and how it replies to a request.
 ghost use Rattle.std.specs.Prelude.{◌≡◌, ◌++◌, ◌∷◌, [], true, List, IfOk, OnOk, OnErr};
 ghost use Rattle.semantics.specs.Call.{fits};
 ghost use Rattle.semantics.specs.Replies.{words_in};
@@ -12,7 +12,7 @@ use semantics::{Reply, Request};
 use std::alloc::{AllocError, Global};
 use std::marker::Model;
 
-/// A board of 64 words of 64 bits, with the ledger of all its accesses.
+/// A board: 64 words of 64 bits, with the ledger, which lists all its accesses.
 #[derive(Drop)]
 pub struct Board {
     opening: [u64; 64],
@@ -32,7 +32,7 @@ impl Model for Board {
 }
 
 impl Board {
-    /// Creates a board that opens with these words and has had no access.
+    /// Creates a board with the given words at the start and without accesses.
     pub fn new(alloc: Global, words: [u64; 64]) -> Board
         ensures opening { result.opening ≡ words }
         ensures words { result.words ≡ words }
@@ -47,8 +47,8 @@ impl Board {
         }
     }
 
-    /// Serves a general's request in a round, and appends the access to the ledger. Fails with `AllocError` if memory
-    /// runs out, and then leaves the board as it was.
+    /// Replies to a general's request in a round, changes the words as the request asks, and appends the access to
+    /// the ledger. Fails with `AllocError` if memory runs out, and then changes nothing.
     pub fn apply(&mut self, general: u32, round: u32, request: Request) -> Result<Reply, AllocError>
         ensures answer { IfOk result (λ r. words_in r ≡ reply self.old.words request) }
         ensures fits { IfOk result (λ r. fits request (words_in r) ≡ true) }
@@ -78,7 +78,7 @@ impl Board {
         Ok(reply)
     }
 
-    /// Returns the accesses so far, in the order in which they were served.
+    /// Returns all accesses to the board, in the order in which it replied to them.
     pub fn ledger(&self) -> &[Access]
         ensures same { result.now ≡ self.now.ledger }
         ensures legal { IsLegal self.now.opening self.now.ledger }
@@ -86,14 +86,14 @@ impl Board {
         self.ledger.as_slice()
     }
 
-    /// Returns the words with which the board opened.
+    /// Returns the words that the board had before its first access.
     pub fn opening(&self) -> &[u64; 64]
         ensures { result.now ≡ self.now.opening }
     {
         &self.opening
     }
 
-    /// Returns the board's words now.
+    /// Returns the words that the board has now.
     pub fn words(&self) -> &[u64; 64]
         ensures same { result.now ≡ self.now.words }
         ensures left { self.now.words ≡ words_after self.now.opening self.now.ledger }
@@ -102,7 +102,7 @@ impl Board {
         words
     }
 
-    /// Consumes the board and returns its accesses, in the order in which they were served.
+    /// Consumes the board and returns all its accesses, in the order in which it replied to them.
     pub fn into_ledger(self) -> Vec<Access>
         ensures same { result.items ≡ self.ledger }
         ensures legal { IsLegal self.opening self.ledger }

@@ -4,7 +4,7 @@ ghost use Rattle.semantics.specs.Replies.{words_in};
 
 use semantics::Reply;
 
-/// Checks whether two replies have the same words.
+/// Checks whether two replies have the same words. A reply of one word can equal a copy of one word.
 pub(crate) fn same_reply(reply: &Reply, other: &Reply) -> bool
     ensures { IsTrue result ↔ (words_in reply.now ≡ words_in other.now) }
 {

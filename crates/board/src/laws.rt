@@ -1,8 +1,8 @@
-//! Laws of the board. Each function does nothing, and its contract is the law.
+//! States laws of the board. Each function does nothing, and its contract is the law.
 ghost use Rattle.board.specs.Laws.{BoardsServe};
 
-/// Does nothing. Its contract says that a board answers any request of a program with a reply that fits, and stays a
-/// board.
+/// States that the board replies to any request of a program with the number of words that the request asks for.
+/// After that, its words are again the words of a board.
 pub fn boards_serve()
     ensures { BoardsServe }
 {}

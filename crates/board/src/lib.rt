@@ -1,5 +1,5 @@
-//! The board: 64 words that traitors share, the ledger of their accesses, and the words by which texts and pictures
-//! describe a request.
+//! Implements the board, 64 words that traitors share, with the ledger of all its accesses. It also defines the words
+//! by which texts and pictures describe a request.
 #![tactic(auto)]
 
 mod access;

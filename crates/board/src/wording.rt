@@ -1,28 +1,30 @@
-//! The table that describes each kind of request in words, and the parts of a request for it.
+//! Defines how texts describe each kind of request in words, and returns the numbers in a request.
 ghost use Rattle.std.specs.Prelude.{◌≡◌, ◌+◌, ◌≤◌, map, take};
 ghost use Rattle.semantics.specs.Call.{words_of};
 ghost use Rattle.board.specs.Wording.{numbers_asked, row_asked, row_of, rows, span_asked};
 
 use semantics::Request;
 
-/// How requests of one kind are described in chronicles, answers and sentences.
+/// How chronicles, answers and sentences describe the requests of one kind.
 #[derive(Clone, Copy)]
 pub struct Wording {
-    /// The request's word in a chronicle.
+    /// The word that names the kind of request in a chronicle, such as `swap`.
     pub word: &'static str,
-    /// The line of an access, with `N` for each number. The line is complete if one word is the answer. Otherwise it
-    /// ends before the number that says how many words the answer has.
+    /// The line of an access in a chronicle, with `N` for each number, such as `access N get N = N`. If `copies` is
+    /// true, the line ends before the number of words to copy.
     pub shape: &'static str,
-    /// The words of that line with their names, or a dash for a word that is not reported. `N` means a number, `*`
-    /// means all words of the answer, and any other word means itself.
+    /// The words of the access line, each with its name in an answer. A dash means that the word is left out. `N` is
+    /// a number, `*` is all words of the answer, and any other text is the word itself.
     pub parts: &'static [(&'static str, &'static str)],
-    /// A sentence in pieces. Each piece is followed by the request's number with this index.
+    /// The pieces of a sentence that describes the request, such as `writes 5 into word 2`. After each piece comes
+    /// the number of the request with this index.
     pub sentence: &'static [(&'static str, usize)],
-    /// Whether the answer has as many words as the request's last number says. If not, it has one word.
+    /// Whether the request copies words, so that its answer has as many words as its last number says. Otherwise the
+    /// answer has one word.
     pub copies: bool,
 }
 
-/// One entry for each kind of request, in the order of the kinds.
+/// The descriptions of all kinds of requests, in the order of the kinds.
 const WORDINGS: &[Wording] = &[
     Wording {
         word: "get",
@@ -101,14 +103,14 @@ const WORDINGS: &[Wording] = &[
     },
 ];
 
-/// Returns the table: one entry for each kind of request.
+/// Returns the descriptions of all kinds of requests, one for each kind.
 pub fn wordings() -> &'static [Wording]
     ensures { map row_of result.now ≡ rows }
 {
     WORDINGS
 }
 
-/// Returns the table's entry for a request.
+/// Returns the words that describe requests of this request's kind.
 pub fn worded(request: &Request) -> &'static Wording
     ensures { row_of result.now ≡ row_asked request.now }
 {
@@ -121,7 +123,7 @@ pub fn worded(request: &Request) -> &'static Wording
     }
 }
 
-/// Returns the request's numbers, at most 3, and how many there are.
+/// Returns the numbers in the request, and how many there are, at most 3. Further elements of the array are 0.
 pub fn numbers(request: &Request) -> ([u64; 3], usize)
     ensures are { take result.1 result.0 ≡ numbers_asked request.now }
     ensures few { result.1 ≤ 3 }
@@ -139,8 +141,8 @@ pub fn numbers(request: &Request) -> ([u64; 3], usize)
     }
 }
 
-/// Returns the words of the board that a request names: the index of the first, and how many. The answer has as many
-/// words as the request names.
+/// Returns which words of the board a request names: the index of the first, and their number. The answer has the
+/// same number of words.
 pub fn span(request: &Request) -> (usize, usize)
     ensures are { result ≡ span_asked request.now }
     ensures there { result.0 + result.1 ≤ 64 }

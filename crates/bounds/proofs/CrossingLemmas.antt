@@ -1,4 +1,5 @@
--- The crossings of a label, counted from its beginning, and the message of a story, computed from them.
+-- The crossings between the copies of the groups along a label, and the message of a story that follows from their
+-- number.
 use Rattle.std.proofs.Common.{ℕ, zero, suc, ◌+◌, ◌-◌, ◌%◌, ◌<◌, ◌≤◌, ◌≡◌, ◌≢◌, ◌∙◌, Bool, true, false, cond, List, [], ◌∷◌, ◌++◌, take, get_or, length, refl, sym, ap, arith, Some}
 use Rattle.std.specs.Prelude.{◌==◌}
 use Rattle.std.proofs.lemmas.Bool.{cond-true, cond-false, eq-eqb, ne_eqb}
@@ -7,7 +8,7 @@ use Rattle.bounds.specs.declared.story.Story.{Story}
 use Rattle.bounds.specs.Stories.{group_of, is_crossing, crossings, lying_group, is_traitor_in, copy_in, held_order, last_general, story_messages}
 use Rattle.bounds.proofs.StoryLemmas.{Ends, ends, story_messages-push, crossings-push, last_general-push}
 
--- one general more
+-- Proves how one more general changes the number of crossings.
 pub crossings-take : (c k : ℕ) (gs : List ℕ) → suc k < length gs → crossings c (take (suc (suc k)) gs) ≡ crossings c (take (suc k) gs) + cond (is_crossing (group_of c (get_or gs k 0)) (group_of c (get_or gs (suc k) 0))) 1 0
 unfolding crossings
 crossings-take c k [] l = absurd (omega arith)
@@ -49,7 +50,7 @@ last_general_is : (w : List ℕ) → 0 < length w → last_general w ≡ get_or 
 last_general_is [] l = absurd (omega arith)
 last_general_is (x ∷ xs) l = let e : suc (length xs) - 1 ≡ length xs = omega arith in rw e (last_general-at x xs)
 
--- the message, from the groups of the last general and of the receiver
+-- Proves which message is sent, from the groups of the last general and of the receiver.
 pub sent_by_traitor : (s : Story) (c : ℕ) (w : List ℕ) (p g h t more : ℕ) → 0 < length w → g ≡ group_of c (get_or w (length w - 1) 0) → h ≡ group_of c p → t ≡ crossings c w → more ≡ cond (is_crossing g h) 1 0 → g ≡ lying_group s
     → Some ((copy_in s h + t + more) % 2) ≡ story_messages s c w p
 sent_by_traitor s c w p g h t more l eg eh et em lies =

@@ -1,4 +1,4 @@
--- Traitors who deny the commander's order: proof of the law of specs/Denial.
+-- Traitors who deny the commander's order: the proof of the law in specs/Denial.
 use Rattle.std.proofs.Common.{ℕ, zero, suc, ◌+◌, ◌*◌, ◌<◌, ◌≤◌, ◌≡◌, ◌≢◌, Bool, true, false, not, cond, ◌||◌, List, [], ◌∷◌, ◌++◌, map, length, refl, sym, ap, ◌∙◌, arith, inl, inr, Some}
 use Rattle.std.specs.Prelude.{count_by, ◌==◌}
 use Rattle.std.specs.List.{list_any}
@@ -26,7 +26,7 @@ any-push t (x ∷ xs) g = rw (any-push t xs g) (or_assoc (t x) (list_any t xs) (
     or_assoc true b d = refl
     or_assoc false b d = refl
 
--- a loyal general at the end of a label adds no traitor to it
+-- Proves that a loyal general at the end of a label adds no traitor to it.
 any-loyal : (t : ℕ → Bool) (u : List ℕ) (g : ℕ) → t g ≡ false → list_any t (u ++ g ∷ []) ≡ list_any t u
 any-loyal t u g e = any-push t u g ∙ (rw e (last (list_any t u)))
   where
@@ -58,7 +58,7 @@ om-last : (t : ℕ → Bool) (n : ℕ) (w : List ℕ) (p : ℕ) → om majority 
 unfolding om
 om-last t n w p = refl
 
--- after a traitor all orders are 0
+-- Proves that after a traitor on the label all decisions are 0.
 lost : (t : ℕ → Bool) (n k : ℕ) (w : List ℕ) (p : ℕ) → list_any t w ≡ true → om majority n (denial t) k w p ≡ 0
 lost t n zero w p e = om-last t n w p ∙ taken-lost t w p e
 lost t n (suc k) w p e =
@@ -73,7 +73,7 @@ lost t n (suc k) w p e =
     let all : length (others n w) ≡ count_by (λ (x : ℕ). true) (others n w) = length-sum (others n w) in
     rw length-map (omega arith))
 
--- what is known of a label without a traitor, with k relays left
+-- States what is known of a label without a traitor that k further generals can extend.
 record Denied (t : ℕ → Bool) (n k : ℕ) (w : List ℕ) (p : ℕ) : Type 0 where
   clean : list_any t w ≡ false
   within : p < n
@@ -82,7 +82,7 @@ record Denied (t : ℕ → Bool) (n k : ℕ) (w : List ℕ) (p : ℕ) : Type 0 w
   some : 1 ≤ count_by t (others n w)
   many : length (others n w) < 2 * count_by t (others n w) + k
 
--- a traitor's entry is 0
+-- Proves that a traitor contributes 0 to the list.
 bad_entry : (t : ℕ → Bool) (n k : ℕ) (w : List ℕ) (p j : ℕ) → t p ≡ false → t j ≡ true → entry t n k w p j ≡ 0
 bad_entry t n k w p j loyal bad =
     let ne : j ≢ p = λ e. true≢false (sym bad ∙ ap t e ∙ loyal) in
@@ -104,7 +104,7 @@ denied-push t n k w p j d good i ne =
       many = omega arith;
     }
 
--- p himself and a traitor are among the others
+-- Proves that p himself and a traitor are among the generals who are not on the label.
 two_others : (t : ℕ → Bool) (n k : ℕ) (w : List ℕ) (p : ℕ) → Denied t n k w p → 2 ≤ length (others n w)
 two_others t n k w p d =
     let fewer : count_by t (others n w) ≡ cond (t p) 1 0 + count_by t (others n (w ++ p ∷ [])) = others-split (λ y. cond (t y) 1 0) n w p d.within d.off in

@@ -1,4 +1,4 @@
--- A chain of traitors who divide the loyal generals: proof of the law of specs/Division.
+-- A chain of traitors who divide the loyal generals: the proof of the law in specs/Division.
 use Rattle.std.proofs.Common.{ℕ, zero, suc, ◌+◌, ◌*◌, ◌/◌, ◌<◌, ◌≤◌, ◌≡◌, ◌≢◌, Bool, true, false, not, cond, List, [], ◌∷◌, ◌++◌, map, length, take, refl, sym, ap, ◌∙◌, arith, inl, inr, Some, length-append}
 use Rattle.std.specs.Prelude.{count_by, ◌==◌}
 use Rattle.std.proofs.lemmas.Bool.Decides.{eqb_tells}
@@ -16,7 +16,7 @@ use Rattle.bounds.proofs.VoteLemmas.{majority_zero, zeros}
 use Rattle.bounds.proofs.ListParts.{others_rest, on-take, distinct-take, distinct-join, below-join, distinct-first, below-first, off-first, Member, member, both_sides}
 use Rattle.bounds.specs.Division.{split_order, chain_order, division, IsTraitorChain, DivisionBreaks}
 
--- a general off the chain relays the order that he took
+-- Proves that a general who is not on the chain relays the order that he took.
 chain_order-push : (loyal chain u : List ℕ) (g p : ℕ) → on chain g ≡ false → chain_order loyal chain (u ++ g ∷ []) p ≡ chain_order loyal chain u g
 unfolding chain_order
 chain_order-push loyal [] [] g p o = refl
@@ -36,19 +36,19 @@ unfolding division
 faithful n c rounds order g chain bad good [] p label short within off = let e : g ≡ c = label.first in absurd (true≢false (sym bad ∙ ap (on chain) (sym e) ∙ good))
 faithful n c rounds order g chain bad good (x ∷ xs) p label short within off = ap Some (chain_order-push (others n chain) chain (x ∷ xs) g p good ∙ heard-division n order chain x xs g)
 
--- the order on a label that follows the chain
+-- Proves which order is sent for a label that follows the chain.
 chain_order-along : (loyal later w : List ℕ) (p : ℕ) → chain_order loyal (w ++ later) w p ≡ split_order loyal later p
 unfolding chain_order
 chain_order-along loyal later [] p = refl
 chain_order-along loyal later (x ∷ xs) p = rw (eq-eqb x x refl) (chain_order-along loyal later xs p)
 
--- the order on a label that leaves the chain
+-- Proves which order is sent for a label that leaves the chain.
 chain_order-off : (loyal later w : List ℕ) (t j : ℕ) (u : List ℕ) (p : ℕ) → j ≢ t → chain_order loyal (w ++ t ∷ later) (w ++ j ∷ u) p ≡ split_order loyal (t ∷ later) j
 unfolding chain_order
 chain_order-off loyal later [] t j u p ne = rw (ne_eqb j t ne) refl
 chain_order-off loyal later (x ∷ xs) t j u p ne = rw (eq-eqb x x refl) (chain_order-off loyal later xs t j u p ne)
 
--- if every order about the labels that begin with w is v, so is the decision about w
+-- Proves that if every order for the labels that begin with w is v, the decision about w is v.
 steady : (M : Messages) (n k : ℕ) (w : List ℕ) (p v : ℕ) → ((u : List ℕ) (q : ℕ) → taken M (w ++ u) q ≡ v) → p < n → on w p ≡ false → om majority n M k w p ≡ v
 unfolding om
 steady M n zero w p v says l o = ap (λ y. taken M y p) (sym (append-nil w)) ∙ says [] p
@@ -72,7 +72,7 @@ steady M n (suc k) w p v says l o =
     nobody [] = refl
     nobody (x ∷ xs) = omega (arith, sum_by-cons (λ (y : ℕ). 0) x xs, nobody xs)
 
--- a place on the chain: the generals of w have relayed, and the later ones have not
+-- States that the label w is the first part of the chain, and `later` the remaining part.
 record Along (n m : ℕ) (chain w later : List ℕ) (p : ℕ) : Type 0 where
   whole : chain ≡ w ++ later
   distinct : is_distinct chain ≡ true
@@ -115,11 +115,11 @@ along-push n m chain w later t p a = record {
   off = a.off;
 }
 
--- p is neither among those who have relayed nor among the later ones
+-- Proves that p is on neither part of the chain.
 off-along : (n m : ℕ) (chain w later : List ℕ) (p : ℕ) → Along n m chain w later p → (on w p ≡ false) × (on later p ≡ false)
 off-along n m chain w later p a = off-first w later p (ap (λ y. on y p) (sym a.whole) ∙ a.off)
 
--- what p combines for each of the others
+-- Proves what p combines for each general who is not on the label.
 entry_is : (n m : ℕ) (chain w later : List ℕ) (t p j : ℕ) → Along n m chain w (t ∷ later) p
     → om majority n (division n chain) (length later) (w ++ t ∷ []) p ≡ split_order (others n chain) [] p
     → (j < n) × (on w j ≡ false)
@@ -142,7 +142,7 @@ entry_is n m chain w later t p j a ih i =
           ]
     ]
 
--- the loyal generals who are sent 1
+-- Returns the loyal generals to whom the traitor sends 1.
 abbrev favoured : ℕ → List ℕ → List ℕ → List ℕ
 favoured n chain later = take ((length (others n chain) + length later) / 2) (others n chain)
 
@@ -154,7 +154,7 @@ split_none : (n : ℕ) (chain later : List ℕ) (j : ℕ) → on (favoured n cha
 unfolding split_order
 split_none n chain later j e = rw e refl
 
--- how many these are
+-- States how many generals there are of each kind.
 record Sizes (n m : ℕ) (chain w later : List ℕ) : Type 0 where
   others_of : length (others n w) ≡ length (others n chain) + length later
   chosen : length (favoured n chain later) ≡ (length (others n chain) + length later) / 2
@@ -179,7 +179,7 @@ sizes n m chain w later p a =
 favoured-on : (n : ℕ) (chain later : List ℕ) (j : ℕ) → on (favoured n chain later) j ≡ true → (j < n) × (on chain j ≡ false)
 favoured-on n chain later j e = others-on n chain j (on-take ((length (others n chain) + length later) / 2) (others n chain) j e)
 
--- how many generals are neither in v nor sent 1
+-- Proves how many generals are neither in v nor sent 1.
 left_of : (n : ℕ) (chain v later : List ℕ) → is_distinct v ≡ true → AllBelow n v → ((j : ℕ) → on chain j ≡ false → on v j ≡ false) → length (others n (v ++ favoured n chain later)) + length (v ++ favoured n chain later) ≡ n
 left_of n chain v later dv bv off =
     let s : List ℕ = favoured n chain later in
@@ -239,7 +239,7 @@ step_none n m chain w later t p a is =
     same_cond x true = refl
     same_cond x false = refl
 
--- p decides on the order that the last of the chain sends him
+-- Proves that p decides on the order that the last general of the chain sends him.
 down : (n m : ℕ) (chain w later : List ℕ) (p : ℕ) → Along n m chain w later p → om majority n (division n chain) (length later) w p ≡ split_order (others n chain) [] p
 down n m chain w [] p a = om-last n chain w p ∙ taken-along n chain w [] p a.whole
 down n m chain w (t ∷ later) p a =
@@ -254,7 +254,7 @@ down n m chain w (t ∷ later) p a =
           step_none n m chain w later t p a (λ j i. entry_is n m chain w later t p j a ih i ∙ ap (λ y. cond (j == t) y (split_order (others n chain) (t ∷ later) j)) d) ∙ sym d
     ]
 
--- the place after the commander
+-- Proves the claim for the label of only the commander.
 begun : (n c m : ℕ) (chain later : List ℕ) (p : ℕ) → IsTraitorChain n c m chain → chain ≡ c ∷ later → p < n → on chain p ≡ false → Along n m chain (c ∷ []) later p
 begun n c m chain later p is e l o = record {
   whole = e;
@@ -272,7 +272,7 @@ decided n c m chain later p is e l o =
     let k : length later ≡ m = let long = is.long in omega (arith, ap length e) in
     ap (λ y. om majority n (division n chain) y (c ∷ []) p) (sym k) ∙ down n m chain (c ∷ []) later p (begun n c m chain later p is e l o)
 
--- the last of the chain sends 1 to one loyal general, and 0 to another
+-- Proves that the last general of the chain sends 1 to one loyal general and 0 to another.
 split : (n c m order : ℕ) (chain later : List ℕ) → IsTraitorChain n c m chain → chain ≡ c ∷ later → Agree n c order (on chain) (om majority n (division n chain) m (c ∷ [])) → ⊥
 split n c m order chain later is e agree =
     let all : length (others n chain) + length chain ≡ n = others-count n chain is.label.distinct is.label.below in

@@ -1,4 +1,4 @@
--- The tolerance of OM(m) by the majority is exact.
+-- The tolerance of OM(m) with the majority rule is exact.
 use Rattle.std.proofs.Common.{ℕ, suc, ◌+◌, ◌-◌, ◌*◌, ◌<◌, ◌≤◌, ◌≡◌, true, false, List, [], ◌∷◌, ◌++◌, length, take, refl, sym, arith, inl, inr, length-append}
 use Rattle.std.specs.Prelude.{count_by, ◌==◌}
 use Rattle.std.proofs.lemmas.Bool.{cases_eq, cases_lt, or_left, eq-eqb, false_from_ne_true, true≢false, eqb-false, or_parts}
@@ -18,7 +18,7 @@ use Rattle.bounds.specs.Denial.{denial}
 use Rattle.bounds.specs.Division.{division}
 use Rattle.bounds.specs.Tolerance.{Tolerates, ToleranceIsExact}
 
--- k lieutenants of the commander 0, and one more
+-- A list of k lieutenants of the commander 0, with at least one more lieutenant.
 record Deniers (n k : ℕ) : Type 0 where
   list : List ℕ
   count : count_by (on list) (generals n) ≡ k
@@ -50,7 +50,7 @@ deniers n k room =
       is = record { general = p'.0; lieutenant = λ e. eqb-false 0 p.it (or_parts (0 == p.it) false p''.0).0 (sym e); loyal = p''.1 };
     }
 
--- too few generals: k lieutenants deny the order
+-- Proves that too few generals do not tolerate k traitors: k lieutenants can deny the order.
 outvoted : (n m k : ℕ) → 1 ≤ k → k + 2 ≤ n → 1 ≤ m → n ≤ 2 * k + m → Tolerates majority n m k → ⊥
 outvoted n m k some room relays many keeps =
     let d : Deniers n k = deniers n k room in
@@ -64,7 +64,7 @@ outvoted n m k some room relays many keeps =
     in
     omega arith
 
--- too many traitors: m + 1 of them divide the loyal generals
+-- Proves that too many traitors are not tolerated: m + 1 of them can divide the loyal generals.
 divides : (n m k : ℕ) → m < k → k + 2 ≤ n → 2 * m ≤ n → Tolerates majority n m k → ⊥
 divides n m k more room half keeps =
     let inside : 0 < n = omega arith in
@@ -93,11 +93,11 @@ bounded n m k some room keeps =
       ],
     )
 
--- where k traitors are tolerated, so are fewer
+-- Proves that if k traitors are tolerated, fewer are tolerated, too.
 fewer : (n m j k : ℕ) → j ≤ k → Tolerates majority n m k → Tolerates majority n m j
 fewer n m j k less keeps c order traitor M inside few faithful = keeps c order traitor M inside (omega arith) faithful
 
--- with at most one loyal general this follows from the case of n - 2 traitors, who are not tolerated
+-- Proves the claim for at most one loyal general from the case of n - 2 traitors, who are not tolerated.
 bounded_any : (n m k : ℕ) → 1 ≤ k → 3 ≤ n → Tolerates majority n m k → (k ≤ m) × (2 * k + m < n)
 bounded_any n m k some three keeps = elim (cases_lt n (k + 2)) [
   | inl many ↦

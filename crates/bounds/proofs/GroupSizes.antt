@@ -1,4 +1,4 @@
--- How many generals are in a group.
+-- The number of generals in a group.
 use Rattle.std.proofs.Common.{ℕ, zero, suc, ◌+◌, ◌*◌, ◌/◌, ◌<◌, ◌≤◌, ◌≡◌, cond, arith}
 use Rattle.std.specs.Prelude.{◌==◌, nat_lt, if◌then◌else◌, count_by}
 use Rattle.std.specs.List.{range_with_len}
@@ -10,7 +10,7 @@ use Rattle.bounds.specs.declared.story.Story.TheVariants.{First, Second, Third}
 use Rattle.bounds.specs.Stories.{group_of, lying_group, is_traitor_in}
 use Rattle.bounds.specs.Tightness.{IsTooFew}
 
--- how many generals below x are in the group g
+-- Returns how many generals below x are in the group g.
 size : ℕ → ℕ → ℕ → ℕ
 size c zero x = if nat_lt c x then (x + 2) / 3 else x / 3
 size c (suc zero) x = if nat_lt c x then (x + 1) / 3 else (x + 2) / 3
@@ -41,7 +41,7 @@ lying-below First = omega arith
 lying-below Second = omega arith
 lying-below Third = omega arith
 
--- at least one, and no more than m
+-- Proves that a story has at least one traitor and at most m.
 pub liars : (s : Story) (n c m : ℕ) → IsTooFew n c m → (1 ≤ count_by (is_traitor_in s c) (generals n)) × (count_by (is_traitor_in s c) (generals n) ≤ m)
 unfolding is_traitor_in
 liars s n c m few =

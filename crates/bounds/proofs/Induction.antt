@@ -1,4 +1,5 @@
--- The tolerance of OM(m), by induction over a label u.g: g has just relayed u, and k relays are left (TOPLAS 1982, Lemma 1 and Theorem 1).
+-- The tolerance of OM(m), by induction over a label u.g: general g has just relayed u, and up to k further generals
+-- can extend the label (TOPLAS 1982, Lemma 1 and Theorem 1).
 use Rattle.std.proofs.Common.{ℕ, zero, suc, ◌+◌, ◌*◌, ◌<◌, ◌≤◌, ◌≡◌, ◌≢◌, Bool, true, false, cond, List, [], ◌∷◌, ◌++◌, map, length, refl, sym, ap, ◌∙◌, arith, inl, inr, length-append}
 use Rattle.std.specs.Prelude.{count_by, ◌==◌, ◌⊎◌}
 use Rattle.std.proofs.lemmas.Bool.Decides.{nat_tests, eqb_tells}
@@ -13,7 +14,7 @@ use Rattle.label.proofs.Pushes.{IsLabel-push, heard-push}
 use Rattle.label.proofs.Counting.{on-push, others-on, others-split, others-length, majority_counts, map_agree}
 use Rattle.label.proofs.Ranks.{all_kept}
 
--- the setting of a whole campaign
+-- A campaign with all that the induction assumes of it.
 pub record Campaign : Type 0 where
   pub rule : List ℕ → ℕ
   pub law : IsMajorityRule rule
@@ -25,19 +26,19 @@ pub record Campaign : Type 0 where
   pub M : Messages
   pub faithful : (g : ℕ) → g < n → traitor g ≡ false → IsFaithful n c m order M g
 
--- p is a loyal receiver of w
+-- States that p is a loyal receiver of the label w.
 pub record Receives (x : Campaign) (w : List ℕ) (p : ℕ) : Type 0 where
   pub within : p < x.n
   pub loyal : x.traitor p ≡ false
   pub off : on w p ≡ false
 
--- g relays u, and k relays are left after his
+-- States that g relays u, and up to k further generals can extend the label after him.
 pub record Reached (x : Campaign) (u : List ℕ) (g k : ℕ) : Type 0 where
   pub label : IsLabel x.n x.c (u ++ g ∷ [])
   pub time : length u + k ≤ x.m
   pub within : g < x.n
 
--- and g is loyal
+-- States that g, who relays u, is loyal.
 pub record Relayed (x : Campaign) (u : List ℕ) (g k : ℕ) : Type 0 where
   pub reached : Reached x u g k
   pub loyal : x.traitor g ≡ false
@@ -67,11 +68,12 @@ om-last : (x : Campaign) (w : List ℕ) (p : ℕ) → om x.rule x.n x.M zero w p
 unfolding om
 om-last x w p = refl
 
--- what a loyal general relays is received
+-- Proves that a loyal receiver receives what a loyal general relays.
 received : (x : Campaign) (u : List ℕ) (g k p : ℕ) → Relayed x u g k → Receives x (u ++ g ∷ []) p → taken x.M (u ++ g ∷ []) p ≡ heard x.M x.order u g
 received x u g k p r q = ap order_of (x.faithful g r.reached.within r.loyal u p r.reached.label (let t = r.reached.time in omega arith) q.within q.off)
 
--- a traitors among the others are few enough for k more relays: there is none, or more than twice as many others
+-- States that `a` traitors among `all` other generals are few enough for k further relays: there are none, or there
+-- are at least 2a + k other generals.
 abbrev IsEnough : ℕ → ℕ → ℕ → Type 0
 IsEnough a k all = (a ≡ 0) ⊎ (2 * a + k ≤ all)
 
@@ -98,8 +100,9 @@ valid_entry x k a u g p j r few many q i loyal ih =
           ∙ (heard-push x.M x.order u g j ∙ received x u g (suc k) j r rj))
     ]
 
--- Lemma 1 of TOPLAS 1982 (for every k and a, OM(k) meets IC2 where there are more than 2a + k generals and at most a traitors):
--- the last of the label is loyal, so all loyal receivers decide on what he took, whatever up to a traitors among the others do
+-- Proves Lemma 1 of TOPLAS 1982: for every k and a, OM(k) meets IC2 if there are more than 2a + k generals and at
+-- most a traitors. The last general of the label is loyal, so all loyal receivers decide on the order that he took,
+-- whatever up to a traitors among the others send.
 pub valid : (x : Campaign) (k a : ℕ) (u : List ℕ) (g p : ℕ) → Relayed x u g k → count_by x.traitor (others x.n (u ++ g ∷ [])) ≤ a → IsEnough a k (length (others x.n (u ++ g ∷ []))) → Receives x (u ++ g ∷ []) p → om x.rule x.n x.M k (u ++ g ∷ []) p ≡ heard x.M x.order u g
 valid x zero a u g p r few many q = om-last x (u ++ g ∷ []) p ∙ received x u g zero p r q
 valid x (suc k) a u g p r few many q =
@@ -113,7 +116,8 @@ valid x (suc k) a u g p r few many q =
     let most : length (map (entry x k (u ++ g ∷ []) p) (others x.n (u ++ g ∷ []))) < 2 * count_by (λ y. y == heard x.M x.order u g) (map (entry x k (u ++ g ∷ []) p) (others x.n (u ++ g ∷ []))) = rw length-map (omega arith) in
     om-step x k (u ++ g ∷ []) p ∙ x.law (map (entry x k (u ++ g ∷ []) p) (others x.n (u ++ g ∷ []))) (heard x.M x.order u g) most
 
--- with k relays left there are at most k traitors, and more than twice them and k generals
+-- States that with k further relays at most k of the generals are traitors, and the number of other generals is at
+-- least twice the number of traitors plus k.
 record Fits (x : Campaign) (u : List ℕ) (g k : ℕ) : Type 0 where
   few : cond (x.traitor g) 1 0 + count_by x.traitor (others x.n (u ++ g ∷ [])) ≤ k
   many : 2 * (cond (x.traitor g) 1 0 + count_by x.traitor (others x.n (u ++ g ∷ []))) + k ≤ length (others x.n (u ++ g ∷ []))
@@ -128,7 +132,7 @@ alike_loyal x k u g p q r good fits rp rq =
     let t : ℕ = count_by x.traitor (others x.n (u ++ g ∷ [])) in
     valid x k t u g p rel (omega arith) (inr many) rp ∙ sym (valid x k t u g q rel (omega arith) (inr many) rq)
 
--- after a traitor one traitor fewer is left
+-- States that after a traitor on the label there is one traitor fewer among the others.
 record Betrayed (x : Campaign) (u : List ℕ) (g k : ℕ) : Type 0 where
   few : count_by x.traitor (others x.n (u ++ g ∷ [])) ≤ k
   many : 2 * count_by x.traitor (others x.n (u ++ g ∷ [])) + k + 3 ≤ length (others x.n (u ++ g ∷ []))
@@ -147,7 +151,7 @@ fits-push x k u g j b l o =
     let many = b.many in
     record { few = omega arith; many = omega arith }
 
--- p's own order for the label is what another loyal general decides about p's relay of it
+-- Proves that p's own order for the label is what another loyal general decides about p's relay of it.
 own_entry : (x : Campaign) (k : ℕ) (u : List ℕ) (g p q : ℕ) → Reached x u g (suc k) → Betrayed x u g k → Receives x (u ++ g ∷ []) p → Receives x (u ++ g ∷ []) q → p ≢ q → om x.rule x.n x.M k ((u ++ g ∷ []) ++ p ∷ []) q ≡ taken x.M (u ++ g ∷ []) p
 own_entry x k u g p q r b rp rq ne =
     let many : 2 * count_by x.traitor (others x.n ((u ++ g ∷ []) ++ p ∷ [])) + k ≤ length (others x.n ((u ++ g ∷ []) ++ p ∷ [])) = good_many x k (u ++ g ∷ []) p rp.loyal (fits-push x k u g p b rp.within rp.off) in
@@ -174,8 +178,8 @@ same_entry x k u g p q j r b rp rq i ih =
       ]
     ]
 
--- IC1: the loyal receivers decide alike. If the last of the label is loyal, this is Lemma 1. Otherwise one traitor fewer
--- is among the others, who relay next
+-- Proves IC1: the loyal receivers decide alike. If the last general of the label is loyal, this is Lemma 1. Otherwise
+-- one traitor fewer is among the others, who relay next.
 alike : (x : Campaign) (k : ℕ) (u : List ℕ) (g p q : ℕ) → Reached x u g k → Fits x u g k → Receives x (u ++ g ∷ []) p → Receives x (u ++ g ∷ []) q → om x.rule x.n x.M k (u ++ g ∷ []) p ≡ om x.rule x.n x.M k (u ++ g ∷ []) q
 alike x zero u g p q r fits rp rq = elim (cases_Bool (x.traitor g)) [ inl bad ↦ absurd (let few : cond true 1 0 + count_by x.traitor (others x.n (u ++ g ∷ [])) ≤ zero = rw bad at fits.few in omega arith) | inr good ↦ alike_loyal x zero u g p q r good fits rp rq ]
 alike x (suc k) u g p q r fits rp rq =
@@ -189,7 +193,7 @@ alike x (suc k) u g p q r fits rp rq =
       | inr good ↦ alike_loyal x (suc k) u g p q r good fits rp rq
     ]
 
--- the whole campaign: the label of the commander alone
+-- Proves the claim for a whole campaign, at the label of only the commander.
 start : (x : Campaign) (k : ℕ) → x.c < x.n → k ≤ x.m → Reached x [] x.c k
 start x k inside le = record { label = record { first = refl; below = (inside, tt); distinct = refl }; time = omega arith; within = inside }
 
@@ -205,7 +209,7 @@ fits-start x inside few enough =
     let size : x.n ≡ 1 + length (others x.n (x.c ∷ [])) = sym (length-range_with_len 0 x.n) ∙ (ap length (sym (all_kept (generals x.n))) ∙ others-length x.n [] x.c inside refl) in
     record { few = omega arith; many = omega arith }
 
--- without a traitor all lieutenants decide on the commander's order
+-- Proves that without traitors all lieutenants decide on the commander's order.
 all_loyal : (f : List ℕ → ℕ) → IsMajorityRule f → (n c m order : ℕ) (traitor : ℕ → Bool) (M : Messages) → c < n → count_by traitor (generals n) ≤ 0
     → ((g : ℕ) → g < n → traitor g ≡ false → IsFaithful n c m order M g) → Agree n c order traitor (om f n M m (c ∷ []))
 all_loyal f law n c m order traitor M inside none faithful =
@@ -220,7 +224,7 @@ all_loyal f law n c m order traitor M inside none faithful =
     λ p lp. valid x m 0 [] c p (record { reached = start x m inside (omega arith); loyal = good }) (omega arith) (inl refl) (receiver x p lp) in
     record { alike = λ p q lp lq. obeyed p lp ∙ sym (obeyed q lq); obeyed = λ loyal p lp. obeyed p lp }
 
--- few enough traitors: IC1 by `alike`, IC2 by Lemma 1
+-- Proves the claim for few enough traitors: IC1 by `alike`, and IC2 by Lemma 1.
 few_traitors : (f : List ℕ → ℕ) → IsMajorityRule f → (n c m order : ℕ) (traitor : ℕ → Bool) (M : Messages) → c < n → count_by traitor (generals n) ≤ m → 2 * count_by traitor (generals n) + m < n
     → ((g : ℕ) → g < n → traitor g ≡ false → IsFaithful n c m order M g) → Agree n c order traitor (om f n M m (c ∷ []))
 few_traitors f law n c m order traitor M inside few enough faithful =
@@ -240,6 +244,6 @@ proved_tolerance f law n m k tolerable c order traitor M inside count faithful =
       few_traitors f law n c m order traitor M inside (omega arith) (omega arith) faithful
 ]
 
--- the bound of the agreement theorem
+-- Proves that the bound of the agreement theorem is within the tolerance.
 pub proved_bound_is_tolerable : BoundIsTolerable
 proved_bound_is_tolerable n m enough = inr (omega arith, omega arith)

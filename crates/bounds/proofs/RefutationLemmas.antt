@@ -1,4 +1,4 @@
--- The first story that breaks a rule, found lieutenant by lieutenant.
+-- The first story that breaks a rule, found by checking lieutenant after lieutenant.
 use Rattle.std.proofs.Common.{ℕ, ◌+◌, ◌*◌, ◌<◌, ◌≤◌, ◌≡◌, ◌≢◌, ◌⊎◌, Bool, true, false, cond, [], ◌∷◌, sym, ap, subst, ◌∙◌, arith, inl, inr, Option, None, Some, Ok, Err, refl}
 use Rattle.std.specs.Prelude.{nat_lt}
 use Rattle.std.proofs.lemmas.Bool.{cases_Bool, cases_lt, cond-true, ltb-false}
@@ -17,7 +17,8 @@ use Rattle.bounds.specs.declared.story.Story.{Story}
 use Rattle.bounds.specs.declared.story.Story.TheVariants.{First, Second, Third}
 use Rattle.bounds.proofs.TightnessLaws.{proved_om_is_decision_rule, proved_stories_break}
 
--- the loyal lieutenants below g agree, and on the order of a loyal commander; `expected` is what they agree on
+-- States that the loyal lieutenants below g agree, and obey a loyal commander. `expected` is the order on which they
+-- agree.
 pub record AreAlikeSoFar (n c order : ℕ) (traitor : ℕ → Bool) (decision : ℕ → ℕ) (expected : Option ℕ) (g : ℕ) : Type 0 where
   pub each : (p : ℕ) → p < g → IsLoyalLieutenant n c traitor p → expected ≡ Some (decision p)
   pub obeyed : traitor c ≡ false → expected ≡ Some order
@@ -26,7 +27,7 @@ pub record AreAlikeSoFar (n c order : ℕ) (traitor : ℕ → Bool) (decision : 
 some_same : (u v : ℕ) → Some u ≡ Some v → u ≡ v
 some_same u v e = cc
 
--- none so far
+-- Proves the claim before the first lieutenant.
 pub none_below : (n c order : ℕ) (traitor : ℕ → Bool) (decision : ℕ → ℕ) (expected : Option ℕ) → (traitor c ≡ true → expected ≡ None) → (traitor c ≡ false → expected ≡ Some order) → AreAlikeSoFar n c order traitor decision expected 0
 none_below n c order traitor decision expected lies loyal = record {
   each = λ p l is. absurd (omega arith);
@@ -40,7 +41,7 @@ none_below n c order traitor decision expected lies loyal = record {
     differ : (v : ℕ) → Some v ≡ None → ⊥
     differ v e = cc
 
--- one more who is loyal
+-- Proves the claim after one more loyal lieutenant.
 pub one_more : (n c order : ℕ) (traitor : ℕ → Bool) (decision : ℕ → ℕ) (expected : Option ℕ) (g v : ℕ) → AreAlikeSoFar n c order traitor decision expected g → IsLoyalLieutenant n c traitor g → v ≡ decision g
     → ((u : ℕ) → expected ≡ Some u → u ≡ v) → AreAlikeSoFar n c order traitor decision (Some v) (g + 1)
 one_more n c order traitor decision expected g v so is e same = record {
@@ -52,7 +53,7 @@ one_more n c order traitor decision expected g v so is e same = record {
   source = λ u eq. inr (g, is, some_same u v (sym eq) ∙ e);
 }
 
--- one more who is not
+-- Proves the claim after one more general who is not a loyal lieutenant.
 pub one_skipped : (n c order : ℕ) (traitor : ℕ → Bool) (decision : ℕ → ℕ) (expected : Option ℕ) (g : ℕ) → AreAlikeSoFar n c order traitor decision expected g → (IsLoyalLieutenant n c traitor g → ⊥) → AreAlikeSoFar n c order traitor decision expected (g + 1)
 one_skipped n c order traitor decision expected g so other = record {
   each = λ p l own. elim (cases_lt p g) [
@@ -63,21 +64,21 @@ one_skipped n c order traitor decision expected g so other = record {
   source = so.source;
 }
 
--- all agree
+-- Proves that all loyal lieutenants agree after the last general.
 pub all_agree : (n c order : ℕ) (traitor : ℕ → Bool) (decision : ℕ → ℕ) (expected : Option ℕ) (g : ℕ) → AreAlikeSoFar n c order traitor decision expected g → n ≤ g → Agree n c order traitor decision
 all_agree n c order traitor decision expected g so all = record {
   alike = λ p q a b. let lp = a.general in let lq = b.general in some_same (decision p) (decision q) (sym (so.each p (omega arith) a) ∙ so.each q (omega arith) b);
   obeyed = λ loyal p a. let lp = a.general in some_same (decision p) order (sym (so.each p (omega arith) a) ∙ so.obeyed loyal);
 }
 
--- one decides otherwise
+-- Proves that the rule is broken if a loyal lieutenant decides on another order.
 pub one_differs : (n c order : ℕ) (traitor : ℕ → Bool) (decision : ℕ → ℕ) (expected : Option ℕ) (g v u : ℕ) → AreAlikeSoFar n c order traitor decision expected g → IsLoyalLieutenant n c traitor g → v ≡ decision g → expected ≡ Some u → u ≢ v → ¬ Agree n c order traitor decision
 one_differs n c order traitor decision expected g v u so is e it ne agree = elim (so.source u it) [
   | inl own ↦ ne (own.1 ∙ (sym (agree.obeyed own.0 g is) ∙ sym e))
   | inr other ↦ ne (other.2 ∙ (agree.alike other.0 g other.1 is ∙ sym e))
 ]
 
--- numbers that are not refused are within the limits of a message table, and at most 3m generals
+-- Proves that numbers without a refusal are within the limits of a message table, with at most 3m generals.
 given_parts : (n m c : ℕ) → refusal_of n m c ≡ None → (is_within n m c ≡ true) × (nat_lt (3 * m) n ≡ false)
 given_parts n m c e = parts (is_within n m c) (nat_lt (3 * m) n) refl refl e
   where
@@ -90,7 +91,7 @@ given_parts n m c e = parts (is_within n m c) (nat_lt (3 * m) n) refl refl e
     parts true false ei em e = (ei, em)
     parts false more ei em e = cc
 
--- the numbers of a refutation are too few generals
+-- Proves that these numbers have too few generals.
 pub few_from : (n m c : ℕ) → refusal_of n m c ≡ None → IsTooFew n c m
 few_from n m c e =
     let parts = given_parts n m c e in
@@ -99,11 +100,11 @@ few_from n m c e =
     let few : n ≤ 3 * m = ltb-false (3 * m) n parts.1 in
     record { commander = limit.present; three = omega arith; few = few }
 
--- and within the limits of a message table
+-- Proves that these numbers are within the limits of a message table.
 pub within_from : (n m c : ℕ) → refusal_of n m c ≡ None → is_within n m c ≡ true
 within_from n m c e = (given_parts n m c e).0
 
--- if the first two stories do not break the rule, the third does
+-- Proves that the third story breaks the rule if the first two do not.
 pub third_breaks : (rule : Rule) (n c m : ℕ) → IsTooFew n c m → AgreesIn rule n c m First → AgreesIn rule n c m Second → IsFirstBroken rule n c m Third
 third_breaks rule n c m few first second = record {
   broken = λ third.

@@ -1,4 +1,4 @@
--- The messages of a story: its loyal generals are faithful, and two stories are alike for some of them.
+-- The messages of the stories: loyal generals are faithful, and some lieutenants cannot distinguish two stories.
 use Rattle.std.proofs.Common.{ℕ, ◌+◌, ◌%◌, ◌<◌, ◌≡◌, ◌≢◌, false, cond, List, [], ◌∷◌, ◌++◌, refl, sym, ap, ◌∙◌, arith, inl, inr, Some}
 use Rattle.std.proofs.lemmas.Bool.Decides.{nat_tests}
 use Rattle.std.proofs.lemmas.Bool.{cases_Bool, cond-true, cond-false, eqb-false, ne_eqb}
@@ -29,7 +29,7 @@ last_general-push [] g = refl
 last_general-push (x ∷ []) g = refl
 last_general-push (x ∷ y ∷ rest) g = last_general-push (y ∷ rest) g
 
--- loyal neighbours are in adjacent copies
+-- Proves that two loyal groups are in adjacent copies of the ring.
 neighbours : (s : Story) (g h t : ℕ) → g < 3 → h < 3 → g ≢ lying_group s → h ≢ lying_group s → (copy_in s h + (t + cond (is_crossing g h) 1 0)) % 2 ≡ (copy_in s g + t) % 2
 neighbours First g h t lg lh g' h' = grind (arith, nat_tests)
 neighbours Second g h t lg lh g' h' = grind (arith, nat_tests)
@@ -39,7 +39,7 @@ loyal_group : (s : Story) (c g : ℕ) → is_traitor_in s c g ≡ false → grou
 unfolding is_traitor_in
 loyal_group s c g e = eqb-false (group_of c g) (lying_group s) e
 
--- so a loyal general holds the order that a loyal general before him holds
+-- Proves that a loyal general holds the order that the loyal general before him holds.
 held_order-push : (s : Story) (c : ℕ) (u : List ℕ) (g p : ℕ) → is_traitor_in s c g ≡ false → is_traitor_in s c p ≡ false → held_order s c p ((u ++ g ∷ []) ++ p ∷ []) ≡ held_order s c g (u ++ g ∷ [])
 unfolding held_order
 held_order-push s c u g p lg lp =
@@ -49,18 +49,18 @@ pub story_messages-push : (s : Story) (c : ℕ) (u : List ℕ) (g p : ℕ) → s
 unfolding story_messages
 story_messages-push s c u g p = rw (last_general-push u g) refl
 
--- a loyal general sends what he holds
+-- Proves that a loyal general sends the order that he holds.
 sent_by_loyal : (s : Story) (c : ℕ) (u : List ℕ) (g p : ℕ) → is_traitor_in s c g ≡ false → story_messages s c (u ++ g ∷ []) p ≡ Some (held_order s c g (u ++ g ∷ []))
 sent_by_loyal s c u g p loyal = story_messages-push s c u g p ∙ ap Some (cond-false (is_traitor_in s c g) (held_order s c p ((u ++ g ∷ []) ++ p ∷ [])) (held_order s c g (u ++ g ∷ [])) loyal)
 
--- and receives what he then holds
+-- Proves that a loyal general receives the order that he then holds.
 sent_to_loyal : (s : Story) (c : ℕ) (u : List ℕ) (g p : ℕ) → is_traitor_in s c p ≡ false → story_messages s c (u ++ g ∷ []) p ≡ Some (held_order s c p ((u ++ g ∷ []) ++ p ∷ []))
 sent_to_loyal s c u g p loyal = elim (cases_Bool (is_traitor_in s c g)) [
   | inl bad ↦ story_messages-push s c u g p ∙ ap Some (cond-true (is_traitor_in s c g) (held_order s c p ((u ++ g ∷ []) ++ p ∷ [])) (held_order s c g (u ++ g ∷ [])) bad)
   | inr good ↦ sent_by_loyal s c u g p good ∙ ap Some (sym (held_order-push s c u g p good loyal))
 ]
 
--- a list and its last number
+-- A list, split into its last number and the numbers before it.
 pub record Ends (w : List ℕ) : Type 0 where
   pub before : List ℕ
   pub end : ℕ
@@ -83,11 +83,11 @@ holds_heard : (s : Story) (n c g : ℕ) (u : List ℕ) → is_traitor_in s c g �
 holds_heard s n c g [] loyal label = let e : g ≡ c = label.first in rw e (held_order-first s c)
 holds_heard s n c g (x ∷ xs) loyal label = let e : Ends (x ∷ xs) = ends x xs in held_order-heard s c g (x ∷ xs) e.before e.end loyal e.is
 
--- loyal generals are faithful
+-- Proves that loyal generals are faithful.
 pub faithful : (s : Story) (n c rounds g : ℕ) → is_traitor_in s c g ≡ false → IsFaithful n c rounds (story_order s) (story_messages s c) g
 faithful s n c rounds g loyal u p label short within off = sent_by_loyal s c u g p loyal ∙ ap Some (holds_heard s n c g u loyal label)
 
--- a general who is loyal and in the same copy in two stories receives the same in both
+-- Proves that a general who is loyal and plays the same copy in two stories receives the same in both.
 same_sent : (s t : Story) (c : ℕ) (w u : List ℕ) (g p : ℕ) → is_traitor_in s c p ≡ false → is_traitor_in t c p ≡ false → copy_in s (group_of c p) ≡ copy_in t (group_of c p) → w ≡ u ++ g ∷ [] → story_messages s c w p ≡ story_messages t c w p
 unfolding held_order
 same_sent s t c w u g p ls lt same e =
@@ -97,7 +97,7 @@ pub indistinguishable : (s t : Story) (n c p : ℕ) → is_traitor_in s c p ≡ 
 indistinguishable s t n c p ls lt same [] label off = absurd label.first
 indistinguishable s t n c p ls lt same (x ∷ xs) label off = let e : Ends (x ∷ xs) = ends x xs in same_sent s t c (x ∷ xs) e.before e.end p ls lt same e.is
 
--- a general whose group does not lie is loyal
+-- Proves that a general whose group does not lie is loyal.
 pub loyal_in : (s : Story) (c p g : ℕ) → group_of c p ≡ g → g ≢ lying_group s → is_traitor_in s c p ≡ false
 unfolding is_traitor_in
 loyal_in s c p g e ne = ne_eqb (group_of c p) (lying_group s) (λ same. ne (sym e ∙ same))

@@ -27,7 +27,7 @@ use Rattle.bounds.specs.declared.story.Story.{Story}
 use Rattle.bounds.proofs.RefutationLemmas.{few_from, within_from}
 use Rattle.bounds.proofs.TightnessLaws.{proved_stories_are_admissible}
 
--- the tree of a lieutenant among those of all
+-- Proves which tree is found for a lieutenant.
 find_tree : (n m c p : ℕ) (M : Messages) (ps : List ℕ) → on ps p ≡ true → find (λ (t : LieutenantTree). t.general == p) (map (tree_of n m c M) ps) ≡ Some (tree_of n m c M p)
 find_tree n m c p M [] i = absurd (true≢false (sym i))
 find_tree n m c p M (q ∷ ps) i = elim (cases_Bool (q == p)) [
@@ -39,7 +39,7 @@ find_tree n m c p M (q ∷ ps) i = elim (cases_Bool (q == p)) [
       ∙ find_tree n m c p M ps (elim (or_cases (q == p) (on ps p) i) [ inl it ↦ absurd (true≢false (sym it ∙ apart)) | inr there ↦ there ])
 ]
 
--- what the trees have at a place is what they were filled with
+-- Proves that the trees contain the messages that they were filled with.
 heard_at_place : (n m c : ℕ) (M : Messages) → AreNumbersWithin n m c → (w : List ℕ) (p : ℕ) → is_place_of n m c w p ≡ true → heard (map (tree_of n m c M) (lieutenants n c)) w p ≡ M w p
 unfolding heard
 heard_at_place n m c M inside w p place =
@@ -50,7 +50,7 @@ heard_at_place n m c M inside w p place =
     ap (λ (o : Option LieutenantTree). value_of o w) (find_tree n m c p M (lieutenants n c) (among n (c ∷ []) p own.1 (apart_first c p own.2)))
     ∙ value_told (tree_of n m c M p) M w campaign refl own.0
 
--- the orders of a story are 0 and 1
+-- Proves that the orders of a story are small enough for the table.
 held_small : (s : Story) (c g : ℕ) (w : List ℕ) → held_order s c g w < 2 ^ 32
 unfolding held_order
 held_small s c g w = omega arith
@@ -65,7 +65,7 @@ story_orders s c w p order e =
     either_small (is_traitor_in s c (last_general w)) (held_order s c p (w ++ p ∷ [])) (held_order s c (last_general w) w) order
     (held_small s c p (w ++ p ∷ [])) (held_small s c (last_general w) w) e
 
--- a label without its last general
+-- Proves what is known of a label without its last general.
 below_front : (n g : ℕ) (u : List ℕ) → AllBelow n (u ++ g ∷ []) → AllBelow n u × (g < n)
 below_front n g [] b = (tt, b.0)
 below_front n g (x ∷ xs) b = let rest = below_front n g xs b.1 in ((b.0, rest.0), rest.1)
@@ -79,7 +79,8 @@ distinct_front g (x ∷ xs) d =
     let other : (x == g) ≡ false = ne_eqb x g (λ e. true≢false (sym (eq-eqb g x (sym e)) ∙ apart.1)) in
     (and_from (not (on xs x)) (is_distinct xs) (rw apart.0 refl) rest.0, or_from (x == g) (on xs g) other rest.1)
 
--- loyal generals are faithful in messages that are the same at all places
+-- Proves that generals who are faithful in one message function are faithful in one that has the same messages at all
+-- places.
 faithful_same : (n m c order g : ℕ) (M N : Messages) → ((w : List ℕ) (p : ℕ) → is_place_of n m c w p ≡ true → N w p ≡ M w p) → IsFaithful n c m order M g → IsFaithful n c m order N g
 faithful_same n m c order g M N same is [] p label short within off =
     same (g ∷ []) p (place_from n m c (g ∷ []) p label within off (omega arith)) ∙ is [] p label short within off
@@ -91,7 +92,7 @@ faithful_same n m c order g M N same is (x ∷ xs) p label short within off =
     ∙ (is (x ∷ xs) p label short within off
     ∙ ap (λ o. Some (order_of o)) (sym (same (x ∷ xs) g (place_from n m c (x ∷ xs) g front ends.1 once.1 (omega arith)))))
 
--- the table that is written from the trees of a story
+-- Proves that the table written from a story's trees is the story's message table.
 pub table_is : (rule : Rule) (n c m : ℕ) (s : Story) (trees : List LieutenantTree) (text : List ℕ) → refusal_of n m c ≡ None → trees ≡ map (tree_of n m c (story_messages s c)) (lieutenants n c) → text ≡ table_text (heard trees) n m c rule → IsStoryTable rule n c m s text
 table_is rule n c m s trees text given are written =
     let inside = within_from n m c given in

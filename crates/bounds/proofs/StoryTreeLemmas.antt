@@ -15,7 +15,7 @@ use Rattle.bounds.specs.Stories.{story_messages}
 use Rattle.bounds.specs.StoryTrees.{HoldsBelow}
 use Rattle.bounds.specs.declared.story.Story.{Story}
 
--- the tree also has the messages about the first labels of this length
+-- States that the tree also contains the messages for the first labels of this length.
 pub record HoldsUpTo (s : Story) (size rank n m c p : ℕ) (t : LieutenantTree) : Type 0 where
   pub messages : Messages
   pub filled : t ≡ tree_of n m c messages p
@@ -25,7 +25,7 @@ pub record HoldsUpTo (s : Story) (size rank n m c p : ℕ) (t : LieutenantTree) 
 pub none_yet : (s : Story) (size n m c p : ℕ) (t : LieutenantTree) → HoldsBelow s size n m c p t → HoldsUpTo s size 0 n m c p t
 none_yet s size n m c p t h = record { messages = h.messages; filled = h.filled; shorter = h.told; ranked = λ i w l at. absurd (omega arith) }
 
--- a message of the story more
+-- Proves that one more message of the story is in the tree.
 also : (M N : Messages) (w : List ℕ) (v : Option ℕ) (u : List ℕ) (p : ℕ) → v ≡ N w p → M u p ≡ N u p → told_also M w v u p ≡ N u p
 unfolding told_also
 also M N w v u p e same = elim (cases_Bool (bytes_eq u w)) [
@@ -70,12 +70,12 @@ level_full s size rank n m c p old t h e lc lp ne = record {
   ];
 }
 
--- maps that agree at each place of a list
+-- Proves that functions which agree at each element of a list give equal lists.
 map_at : {A B : Type 0} (f g : A → B) (xs : List A) → ((i : ℕ) (x : A) → slice_get xs i ≡ Some x → f x ≡ g x) → map f xs ≡ map g xs
 map_at f g [] same = refl
 map_at f g (x ∷ xs) same = rw (same 0 x refl, map_at f g xs (λ i y at. same (suc i) y at)) refl
 
--- levels have no more of the messages than what their labels tell
+-- Proves that levels depend only on the messages for their own labels.
 levels_agree : (n c p : ℕ) (M N : Messages) (k l : ℕ) → c < n → p < n → p ≢ c → ((w : List ℕ) → IsLabel n c w → on w p ≡ false → length w < k + l → M w p ≡ N w p) → levels_from n c p M k l ≡ levels_from n c p N k l
 unfolding levels_from
 levels_agree n c p M N k zero lc lp ne same = refl
@@ -85,13 +85,13 @@ levels_agree n c p M N k (suc l) lc lp ne same =
       levels_agree n c p M N (suc k) l lc lp ne (λ w label off short. same w label off (omega arith)),
     ) refl
 
--- a tree that has the messages of a story about all of its labels is filled with them
+-- Proves that a tree which contains a story's messages for all its labels is filled with the story's messages.
 pub story_full : (s : Story) (size n m c p : ℕ) (t : LieutenantTree) → HoldsBelow s size n m c p t → m + 2 ≤ size → c < n → p < n → p ≢ c → t ≡ tree_of n m c (story_messages s c) p
 story_full s size n m c p t h long lc lp ne =
     let T : List (List (Option ℕ)) → LieutenantTree = λ ls. record { generals = n; bound = m; commander = c; general = p; levels = ls } in
     h.filled ∙ ap T (levels_agree n c p h.messages (story_messages s c) 1 (m + 1) lc lp ne (λ w label off short. h.told w label off (omega arith)))
 
--- what such a tree decides
+-- Proves what the lieutenant of such a tree decides.
 pub story_decides : (f : List ℕ → ℕ) (s : Story) (n m c p order : ℕ) (t : LieutenantTree) → t ≡ tree_of n m c (story_messages s c) p → Decides f t order → order ≡ om f n (story_messages s c) m (c ∷ []) p
 story_decides f s n m c p order t e decides =
     decides (story_messages s c) (rw e refl)

@@ -1,4 +1,4 @@
--- No rule is enough: proofs of the laws of specs/Tightness and specs/Stories.
+-- No decision rule suffices: the proofs of the laws in specs/Tightness and specs/Stories.
 use Rattle.std.proofs.Common.{ℕ, zero, suc, ◌+◌, ◌<◌, ◌≤◌, ◌≡◌, ◌≢◌, false, [], ◌∷◌, refl, sym, ap, arith, inl, inr}
 use Rattle.std.specs.Prelude.{◌==◌}
 use Rattle.std.proofs.lemmas.Bool.Decides.{nat_tests}
@@ -18,7 +18,7 @@ admissible s n c m few = record { few = (liars s n c m few).1; faithful = λ rou
 pub proved_stories_are_admissible : StoriesAreAdmissible
 proved_stories_are_admissible = record { admissible = admissible; some = λ s n c m few. (liars s n c m few).0; first_two = first_two; last_two = last_two }
 
--- a lieutenant of each group
+-- A lieutenant of the group g, whose number is below 3.
 record Has (c g : ℕ) : Type 0 where
   at : ℕ
   below : at < 3

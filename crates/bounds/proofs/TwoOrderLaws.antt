@@ -1,4 +1,4 @@
--- A rule that is right on lists of two orders is extended to a majority rule, which decides the same.
+-- A rule that is right on lists of two orders, extended to a majority rule that decides the same on them.
 use Rattle.std.proofs.Common.{ℕ, zero, suc, ◌+◌, ◌-◌, ◌<◌, ◌≤◌, ◌≡◌, Bool, true, false, cond, ◌&&◌, List, [], ◌∷◌, ◌++◌, map, length, refl, sym, ap, ◌∙◌, arith, inl, inr}
 use Rattle.std.specs.Prelude.{◌==◌, nat_lt, nat_le}
 use Rattle.std.specs.List.{list_all}
@@ -14,7 +14,7 @@ use Rattle.label.proofs.Ranks.{others-count}
 use Rattle.bounds.proofs.Induction.{proved_tolerance}
 use Rattle.bounds.specs.TwoOrders.{IsTwoOrderRule, TwoOrderRulesAgree}
 
--- whether the rule is right on the list
+-- Returns whether the rule is known to be right on the list.
 abbrev is_asked : ℕ → List ℕ → Bool
 is_asked most xs = nat_le (length xs) most && list_all (λ x. nat_lt x 2) xs
 
@@ -45,7 +45,7 @@ below-map F (x ∷ xs) says = (says x (or_left (x == x) (on xs x) (eq-eqb x x re
 abbrev entry : (List ℕ → ℕ) → ℕ → Messages → ℕ → List ℕ → ℕ → ℕ → ℕ
 entry f n M k w p j = cond (j == p) (taken M w p) (om f n M k (w ++ j ∷ []) p)
 
--- both rules decide alike, and on 0 or 1
+-- States that both rules lead to the same decision, which is 0 or 1.
 record Same (f : List ℕ → ℕ) (n most : ℕ) (M : Messages) (k : ℕ) (w : List ℕ) (p : ℕ) : Type 0 where
   two : om f n M k w p < 2
   same : om (extended f most) n M k w p ≡ om f n M k w p

@@ -11,7 +11,7 @@ use Rattle.bounds.specs.Tightness.{IsTooFew, IsAdmissible, IsIndistinguishable, 
 use Rattle.bounds.specs.declared.story.Story.{Story}
 use Rattle.bounds.specs.declared.story.Story.TheVariants.{First, Second, Third}
 
--- Returns the story with this number, 1 to 3.
+-- Returns the story with the number `1`, `2` or `3`, or None for any other word.
 abbrev pub story_numbered : List ℕ → Option Story
 story_numbered word =
     if bytes_eq word (codes "1") then Some First
@@ -24,17 +24,18 @@ story_numbered word =
 unfoldable pub group_of : ℕ → ℕ → ℕ
 group_of c g = if g == c then 0 else if nat_lt g c then (g + 1) % 3 else g % 3
 
--- Returns whether a message between two groups crosses from one copy to the other: exactly if they are 0 and 2.
+-- Returns whether a message from group g to group h crosses from one copy of the ring to the other. It does exactly
+-- if the groups are 0 and 2.
 abbrev pub is_crossing : ℕ → ℕ → Bool
 is_crossing g h = (g == 0 && h == 2) || (g == 2 && h == 0)
 
--- Returns how often an order crosses while it is relayed along the generals of a list.
+-- Returns how often an order crosses between the two copies while the generals of a list relay it.
 unfoldable pub crossings : ℕ → List ℕ → ℕ
 crossings c [] = 0
 crossings c (x ∷ []) = 0
 crossings c (x ∷ y ∷ more) = (if is_crossing (group_of c x) (group_of c y) then 1 else 0) + crossings c (y ∷ more)
 
--- Returns the group that lies in a story. In the second story it is the commander's.
+-- Returns the group that lies in a story. In the second story it is the commander's group.
 abbrev pub lying_group : Story → ℕ
 lying_group First = 2
 lying_group Second = 0
@@ -44,19 +45,19 @@ lying_group Third = 1
 unfoldable pub is_traitor_in : Story → ℕ → ℕ → Bool
 is_traitor_in s c g = group_of c g == lying_group s
 
--- Returns the copy as which a loyal group acts in a story: 0 for a, and 1 for b.
+-- Returns which copy of itself in the ring a loyal group plays in a story: 0 for a, and 1 for b.
 abbrev pub copy_in : Story → ℕ → ℕ
 copy_in First g = 0
 copy_in Second g = 0
 copy_in Third g = if g == 0 then 1 else 0
 
--- Returns the commander's order in a story: the number of his copy.
+-- Returns the commander's order in a story, which is the number of the copy that his group plays.
 abbrev pub story_order : Story → ℕ
 story_order s = copy_in s 0
 
--- Returns the order that general g holds in the ring after it was relayed along the generals of a list, of whom he is
--- the last. The way back along the list leads to the commander of the copy of g, or after an odd number of crossings to
--- the other one.
+-- Returns the order that general g holds in the ring after the generals of a list have relayed it, where g is the
+-- last. The order comes from the commander in the copy of g, or from the other commander if it crossed an odd number
+-- of times.
 unfoldable pub held_order : Story → ℕ → ℕ → List ℕ → ℕ
 held_order s c g way = (copy_in s (group_of c g) + crossings c way) % 2
 
@@ -67,15 +68,15 @@ last_general (x ∷ []) = x
 last_general (x ∷ y ∷ more) = last_general (y ∷ more)
 
 -- Returns the messages of a story. A loyal general sends the order that he holds. A traitor sends each receiver the
--- order that this receiver would then hold in the ring.
+-- order that the receiver would then hold in the ring.
 unfoldable pub story_messages : Story → ℕ → Messages
 story_messages s c w p =
     let g : ℕ = last_general w in
     Some (if is_traitor_in s c g then held_order s c p (w ++ p ∷ []) else held_order s c g w)
 
--- States that the messages of each story are admissible, that at least one general lies, and that a lieutenant of group
--- 1 cannot distinguish the first two stories, nor one of group 2 the last two. The statement is the contract of a
--- function of this crate.
+-- States that in each story at most m generals are traitors, at least one lies, and all others are faithful. A
+-- lieutenant of group 1 cannot distinguish the first two stories, and one of group 2 not the last two. The statement
+-- is the contract of a function of this crate.
 pub record StoriesAreAdmissible : Type 0 where
   pub admissible : (s : Story) (n c m : ℕ) → IsTooFew n c m →
       IsAdmissible n c m (story_order s) (is_traitor_in s c) (story_messages s c)
@@ -85,8 +86,8 @@ pub record StoriesAreAdmissible : Type 0 where
   pub last_two : (n c p : ℕ) → group_of c p ≡ 2 →
       IsIndistinguishable n c p (story_messages Second c) (story_messages Third c)
 
--- States that each decision rule breaks IC1 or IC2 in one of the stories, if there are too few generals. The statement
--- is the contract of a function of this crate.
+-- States that every decision rule breaks IC1 or IC2 in one of the stories, if there are too few generals. The
+-- statement is the contract of a function of this crate.
 abbrev pub StoriesBreak : Type 0
 StoriesBreak = (n c m : ℕ) (decide : ℕ → Messages → ℕ) → IsTooFew n c m → IsDecisionRule n c decide →
     (s : Story) × ¬ Agree n c (story_order s) (is_traitor_in s c) (λ p. decide p (story_messages s c))

@@ -1,4 +1,4 @@
--- The tree of a lieutenant who receives the messages of a story, while it is filled.
+-- A lieutenant's tree while it is filled with the messages of a story.
 use Rattle.std.specs.Prelude.{ℕ, ◌<◌, ◌≡◌, false, List, length}
 use Rattle.label.specs.Labels.{on}
 use Rattle.label.specs.Oral.{Messages, IsLabel}
@@ -7,7 +7,7 @@ use Rattle.book.specs.Trees.{tree_of}
 use Rattle.bounds.specs.Stories.{story_messages}
 use Rattle.bounds.specs.declared.story.Story.{Story}
 
--- States that a tree of general p has the messages of a story about all labels of fewer than `size` generals.
+-- States that the tree of general p contains the messages of a story for all labels of fewer than `size` generals.
 pub record HoldsBelow (s : Story) (size n m c p : ℕ) (t : LieutenantTree) : Type 0 where
   pub messages : Messages
   pub filled : t ≡ tree_of n m c messages p

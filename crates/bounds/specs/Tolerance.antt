@@ -5,7 +5,7 @@ use Rattle.combine.specs.Rule.{majority, IsMajorityRule}
 use Rattle.label.specs.Labels.{generals}
 use Rattle.label.specs.Oral.{Messages, om, IsFaithful, Agree}
 
--- States that OM(m) with the rule f tolerates k traitors among n generals: the loyal lieutenants agree if at most k
+-- States that OM(m) with the rule f tolerates k traitors among n generals. The loyal lieutenants agree if at most k
 -- generals are traitors and all others are faithful, whatever the traitors send or leave out.
 abbrev pub Tolerates : (List ℕ → ℕ) → ℕ → ℕ → ℕ → Type 0
 Tolerates f n m k =
@@ -13,21 +13,21 @@ Tolerates f n m k =
     ((g : ℕ) → g < n → traitor g ≡ false → IsFaithful n c m order M g) →
     Agree n c order traitor (om f n M m (c ∷ []))
 
--- States that k traitors are few enough for OM(m) among n generals: there is none, or there are at most m of them and
--- more than 2k + m generals.
+-- States that k traitors are few enough for OM(m) among n generals: k is 0, or k is at most m and n is more than 2k +
+-- m.
 abbrev pub IsTolerable : ℕ → ℕ → ℕ → Type 0
 IsTolerable n m k = (k ≡ 0) ⊎ ((k ≤ m) × (2 * k + m < n))
 
--- States that few enough traitors are tolerated, if the rule returns the order of a majority.
+-- States that OM(m) tolerates k traitors if they are few enough, for every rule that returns the order of a majority.
 abbrev pub ToleranceHolds : Type 0
 ToleranceHolds = (f : List ℕ → ℕ) → IsMajorityRule f → (n m k : ℕ) → IsTolerable n m k → Tolerates f n m k
 
--- States that m traitors among more than 3m generals are few enough. So the agreement theorem follows from the
+-- States that m traitors among more than 3m generals are few enough, so that the agreement theorem follows from the
 -- tolerance.
 abbrev pub BoundIsTolerable : Type 0
 BoundIsTolerable = (n m : ℕ) → 3 * m < n → IsTolerable n m m
 
--- States that by the majority, among at least three generals, OM(m) tolerates k traitors exactly if they are few
+-- States that OM(m) with the majority rule tolerates k traitors among at least three generals exactly if they are few
 -- enough.
 abbrev pub ToleranceIsExact : Type 0
 ToleranceIsExact = (n m k : ℕ) → 3 ≤ n → Tolerates majority n m k ↔ IsTolerable n m k

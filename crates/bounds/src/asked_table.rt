@@ -1,4 +1,4 @@
-//! Writes the message table that breaks a rule, for the numbers of a campaign that are given as words.
+//! Writes a message table that breaks a decision rule, for numbers of a campaign that are given as text.
 ghost use Rattle.std.specs.Prelude.{◌≡◌, ◌≢◌, IfOk, IfErr, Err, Some, string_bytes};
 ghost use Rattle.combine.specs.Names.{default_rule};
 ghost use Rattle.book.specs.Grammar.{opened};
@@ -15,13 +15,15 @@ use combine::Rule;
 use std::alloc::Global;
 use text::decimal;
 
-/// Returns the message table of the first story that breaks the rule, or of the story that is asked for. The words are
-/// the numbers of the campaign: how many generals there are, the bound m, and the commander.
+/// Returns the message table of a story. The stories are three campaigns with too few generals, and every decision
+/// rule breaks IC1 or IC2 in at least one of them. The result is for the story `asked` or, if that is `None`, for the
+/// first in which `rule` breaks IC1 or IC2. The texts `generals`, `bound` and `commander` are decimal numbers, and
+/// `bound` is m.
 ///
 /// # Errors
 ///
-/// Fails with `Table` for the fault that the first line of a table with these numbers has, or if there is no memory.
-/// Fails with `Enough` if there are more than 3m generals.
+/// Fails with `Table` and the fault that the first line of a message table with these numbers has, or if memory runs
+/// out. Fails with `Enough` if there are more than 3m generals.
 pub fn refuted(
     alloc: Global,
     generals: &str,
@@ -43,12 +45,13 @@ pub fn refuted(
     story_table(alloc, story, generals, bound, commander, rule)
 }
 
-/// Returns the numbers of a campaign, checked like those of the first line of a table.
+/// Parses the numbers of a campaign, and checks them as the first line of a message table is checked.
 ///
 /// # Errors
 ///
-/// Fails with `Line` if a word is not a decimal number, and with `Range` if the numbers are out of their limits. Both
-/// are at line 1.
+/// Fails with `Line` if a text is not a decimal number, and with `Range` if the numbers are out of their limits.
+/// There are at most 13 generals, the bound is at most 4 and at most 2 less than their number, and the commander is
+/// one of them. Both faults are at line 1.
 #[tactic(auto, unfolding(book::specs::Numbers::numbers_in))]
 fn numbers(generals: &str, bound: &str, commander: &str) -> Result<(u8, u8, u8), TableError>
     ensures told { IfOk result

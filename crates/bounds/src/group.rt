@@ -1,4 +1,5 @@
-//! The groups into which the stories divide the generals, and the crossings between them.
+//! Divides the generals into three groups. The stories are cut out of a ring that has two copies of each group, and
+//! some messages cross from one copy to the other.
 ghost use Rattle.std.specs.Prelude.{◌≡◌, ◌<◌, ◌≤◌, length};
 ghost use Rattle.label.specs.Oral.{AllBelow};
 ghost use Rattle.bounds.specs.Stories.{crossings, group_of, is_crossing};
@@ -18,14 +19,16 @@ pub fn group_of(commander: u8, general: u8) -> u8
     }
 }
 
-/// Returns whether a message between two groups crosses from one copy of the ring to the other.
+/// Checks whether a message from group `from` to group `to` crosses from one copy of the groups to the other, in the
+/// ring of two copies. This is so between the groups 0 and 2.
 pub(crate) fn is_crossing(from: u8, to: u8) -> bool
     ensures { result ≡ is_crossing from to }
 {
     from == 0 && to == 2 || from == 2 && to == 0
 }
 
-/// Returns how often an order crosses while it is relayed along a list of at most 13 generals, each below 13.
+/// Returns how often an order crosses between the two copies of the groups while these generals relay it. There are
+/// at most 13 of them, and each is below 13.
 pub(crate) fn crossings(commander: u8, generals: &[u8]) -> u32
     requires below { AllBelow 13 generals.now }
     requires short { length generals.now ≤ 13 }

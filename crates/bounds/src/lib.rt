@@ -1,5 +1,5 @@
-//! How many traitors can be tolerated: the bound of the agreement theorem is tight for every rule, and the tolerance of
-//! OM(m) by the majority is exact. The files in specs/ define both.
+//! Proves how many traitors can be tolerated. The bound of the agreement theorem is tight for every rule, and the
+//! tolerance of OM(m) with the majority rule is exact. The files in specs/ define both.
 #![tactic(auto)]
 
 mod asked_table;

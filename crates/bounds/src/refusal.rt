@@ -1,15 +1,15 @@
-//! Why no story is given for the numbers of a campaign.
+//! Defines why there is no message table that breaks a rule, for the numbers of a campaign.
 use book::TableError;
 use std::alloc::AllocError;
 use std::error::Error;
 use std::fmt;
 
-/// The reason why no story is given.
+/// Why there is no message table that breaks a rule.
 #[derive(Clone, Copy, Debug, PartialEq, Eq, Drop)]
 pub enum RefutationError {
-    /// There is no message table with these numbers, or no memory for it.
+    /// No message table can have these numbers, or memory ran out.
     Table(TableError),
-    /// There are more than 3m generals, who tolerate m traitors. So no message table breaks the rule.
+    /// There are more than 3m generals, who tolerate m traitors, so no message table breaks the rule.
     Enough,
 }
 

@@ -1,4 +1,4 @@
-//! Finds the first story that breaks a rule.
+//! Finds the first of three stories (campaigns with too few generals) in which a rule breaks IC1 or IC2.
 ghost use Rattle.std.specs.Prelude.{◌≡◌, ◌≢◌, ◌<◌, ◌*◌, IfOk, IfErr, None, Some, true, false};
 ghost use Rattle.book.specs.Grammar.{is_within};
 ghost use Rattle.book.specs.Table.{AreNumbersWithin};
@@ -12,8 +12,8 @@ use combine::Rule;
 use resolve::resolve;
 use std::alloc::{AllocError, Global};
 
-/// Returns the first story that breaks the rule: the decisions of OM(m) from its messages break IC1 or IC2. `bound` is
-/// m. One of the stories breaks it, by the law `stories_break`.
+/// Returns the first story in which the decisions of OM(m) with this rule break IC1 or IC2. `bound` is m. By the law
+/// `stories_break`, there is such a story.
 ///
 /// # Errors
 ///
@@ -40,7 +40,8 @@ pub fn first_broken(
     Ok(Story::Third)
 }
 
-/// Checks that the numbers are those of a message table, and that there are at most 3m generals.
+/// Checks that the numbers are within the limits of a message table, and that there are at most 3m generals. Fails
+/// with `Table` if they are out of the limits, and with `Enough` if there are more generals.
 pub(crate) fn check_numbers(generals: u8, bound: u8, commander: u8) -> Result<(), RefutationError>
     ensures given { IfOk result (λ _. refusal_of generals bound commander ≡ None) }
     ensures refused { IfErr result (λ e. (e ≢ no_memory) × (refusal_of generals bound commander ≡ Some e)) }
@@ -54,14 +55,15 @@ pub(crate) fn check_numbers(generals: u8, bound: u8, commander: u8) -> Result<()
     Ok(())
 }
 
-/// Returns whether the numbers are within the limits of a message table.
+/// Checks whether the numbers are within the limits of a message table: at most 13 generals, a bound of at most 4 and
+/// at most 2 less than their number, and one of them as the commander.
 fn is_within(generals: u8, bound: u8, commander: u8) -> bool
     ensures { result ≡ is_within generals bound commander }
 {
     generals <= 13 && bound <= 4 && bound + 2 <= generals && commander < generals
 }
 
-/// Returns whether the decisions of OM(m) from the messages of the story break IC1 or IC2.
+/// Checks whether the decisions of OM(m) with this rule break IC1 or IC2 in the story. `bound` is m.
 fn is_broken(
     alloc: Global,
     story: Story,

@@ -1,11 +1,12 @@
-//! The three stories, of which each decision rule breaks one.
+//! Defines three stories: campaigns with too few generals. Every decision rule breaks IC1 or IC2 in at least one of
+//! them.
 ghost use Rattle.std.specs.Prelude.{◌≡◌, ◌<◌, ◌≤◌, true, false, None, Some};
 ghost use Rattle.bounds.specs.Stories.{copy_in, is_traitor_in, lying_group, story_messages, story_numbered, story_order};
 
 use crate::group::{crossings, group_of, is_crossing};
 use label::Label;
 
-/// One of three campaigns with too few generals, cut out of a ring of two copies of each group.
+/// One of three campaigns with too few generals, cut out of a ring that has two copies of each of three groups.
 #[derive(Clone, Copy)]
 pub enum Story {
     /// Group 2 lies. The commander is loyal and orders 0.
@@ -17,7 +18,7 @@ pub enum Story {
 }
 
 impl Story {
-    /// Returns the story with this number, 1 to 3, or `None` for any other word.
+    /// Returns the story with the number `1`, `2` or `3`. Returns `None` for any other word.
     pub fn numbered(word: &[u8]) -> Option<Story>
         ensures { result ≡ story_numbered word.now }
     {
@@ -32,7 +33,7 @@ impl Story {
         }
     }
 
-    /// Returns whether the general, who must be below 13, is a traitor in the story.
+    /// Checks whether the general, who must be below 13, is a traitor in the story.
     pub fn is_traitor(self, commander: u8, general: u8) -> bool
         requires { general < 13 }
         ensures { result ≡ is_traitor_in self commander general }
@@ -40,7 +41,7 @@ impl Story {
         group_of(commander, general) == self.lying_group()
     }
 
-    /// Returns the order that the last general of the label sends to the receiver, who must be below 13.
+    /// Returns the order, 0 or 1, that the label's last general sends to the receiver. The receiver must be below 13.
     pub fn sent(self, commander: u8, label: &Label, receiver: u8) -> u32
         requires { receiver < 13 }
         ensures { Some result ≡ story_messages self commander label.now receiver }
@@ -58,7 +59,8 @@ impl Story {
         }
     }
 
-    /// Returns the order that IC2 requires the loyal lieutenants to decide on: that of the commander if he is loyal.
+    /// Returns the order on which the loyal lieutenants must decide by IC2: the order of the commander. Returns
+    /// `None` if he is a traitor.
     pub(crate) fn obeyed_order(self, commander: u8) -> Option<u32>
         requires { commander < 13 }
         ensures traitor { is_traitor_in self commander commander ≡ true → result ≡ None }
@@ -71,7 +73,7 @@ impl Story {
         }
     }
 
-    /// Returns the group that lies.
+    /// Returns the number of the group that lies in the story.
     fn lying_group(self) -> u8
         ensures { result ≡ lying_group self }
     {
@@ -82,7 +84,7 @@ impl Story {
         }
     }
 
-    /// Returns the copy of the ring as which a loyal group acts: 0 for a, and 1 for b.
+    /// Returns which copy of itself in the ring a loyal group plays in the story: 0 or 1.
     fn copy(self, group: u8) -> u32
         ensures value { result ≡ copy_in self group }
         ensures small { result ≤ 1 }

@@ -1,4 +1,4 @@
-//! Fills lieutenants' trees with the messages of a story.
+//! Fills the trees of lieutenants with the messages of a story.
 ghost use Rattle.std.specs.Prelude.{◌≡◌, ◌≢◌, ◌<◌, ◌+◌, ℕ, IfOk, map};
 ghost use Rattle.label.specs.Lieutenants.{lieutenants};
 ghost use Rattle.book.specs.Table.{AreNumbersWithin};
@@ -11,7 +11,7 @@ use label::{count, unrank};
 use std::alloc::{AllocError, Global};
 use tree::Tree;
 
-/// Returns the trees of all lieutenants, ascending, filled with the messages of the story.
+/// Returns the trees of all lieutenants in ascending order, filled with the messages of the story.
 pub(crate) fn story_trees(
     alloc: Global,
     story: Story,
@@ -32,7 +32,7 @@ pub(crate) fn story_trees(
     Ok(trees)
 }
 
-/// Returns the tree of a lieutenant, filled with the messages of the story.
+/// Returns the tree of the lieutenant `general`, filled with the messages of the story.
 pub(crate) fn story_tree(
     alloc: Global,
     story: Story,
@@ -54,7 +54,7 @@ pub(crate) fn story_tree(
     Ok(tree)
 }
 
-/// Fills in the messages of the story about all labels of this length.
+/// Fills in the messages of the story for all labels of `size` generals.
 fn fill_level(tree: &mut Tree, story: Story, size: u8)
     ensures { (n m c p : ℕ) → HoldsBelow story size n m c p tree.old → HoldsBelow story (size + 1) n m c p tree.new }
 {

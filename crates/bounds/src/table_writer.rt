@@ -10,8 +10,8 @@ use book::table_of;
 use combine::Rule;
 use std::alloc::Global;
 
-/// Returns the message table of a story, with this rule. `bound` is m. At most m generals are traitors in it, and all
-/// others are faithful.
+/// Returns the message table of a story, with `rule` as its decision rule. `bound` is m. In the story at most m
+/// generals are traitors, and all others are faithful.
 ///
 /// # Errors
 ///

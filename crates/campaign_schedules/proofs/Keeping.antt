@@ -1,4 +1,4 @@
--- The schedules that are kept of an exploration give its outcomes.
+-- The schedules that an exploration keeps lead to its outcomes.
 use Rattle.std.proofs.Common.{◌≡◌, ◌∙◌, ℕ, zero, suc, List, [], ◌∷◌, All, map, refl, sym, ap, subst, arith}
 use Rattle.std.specs.List.{AllZip}
 use Rattle.std.proofs.lemmas.List.Elements.{All-weaker}
@@ -22,7 +22,7 @@ use Rattle.campaign_schedules.proofs.Retracing.{read_of}
 use Rattle.campaign_schedules.proofs.Within.{AreShort}
 use Rattle.campaign_schedules.specs.Keeping.{GivesOutcome, KeptSchedulesPlay}
 
--- every finding is real
+-- States that a finding is real: some run of the campaign has it.
 abbrev Real : Scenario → Finding → Type 0
 Real s f = IsReal oral_kind oral_outcome s f
 

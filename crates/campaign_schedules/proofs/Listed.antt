@@ -1,4 +1,4 @@
--- What a text lists, its fault apart from its accesses.
+-- What a text of accesses lists. The fault is found first, and the accesses are collected separately.
 use Rattle.std.proofs.Common.{◌≡◌, ◌∙◌, ◌+◌, ℕ, suc, List, [], ◌∷◌, ◌++◌, length, length-append, Option, Some, None, Result, Ok, Err, Bool, true, false, cond, nat_lt, refl, sym, ap, subst, arith}
 use Rattle.std.proofs.lemmas.Bool.{ltb-false}
 use Rattle.std.specs.Prelude.{◌≤◌}
@@ -23,7 +23,7 @@ row_err round before ((c ∷ cs) ∷ parts) = go (general_of (c ∷ cs)) (λ g. 
     go None later = refl
     go (Some g) later = later g ∙ ap (λ (n : ℕ). row_fault round (suc n) parts) (one_more before g)
 
--- the first fault of the rounds from this one on
+-- Returns the first fault of the rounds from this one on.
 abbrev pub first_of : Option AccessFault → Option AccessFault → Option AccessFault
 first_of None later = later
 first_of (Some fault) later = Some fault
@@ -52,7 +52,7 @@ pub told_fault : (text : List ℕ) → fault_in 1 (pieces slash text) ≡ result
 unfolding accesses_told
 told_fault text = sym (rows_err [] 1 (pieces slash text))
 
--- ---- the accesses of a text that has no fault
+-- ---- the accesses of a text without a fault
 
 no_number : general_of [] ≡ None
 unfolding general_of decimal_of
@@ -68,7 +68,7 @@ passed_by round before (c ∷ cs) told parts is h =
     let e : Err (Text round (suc (length before))) ≡ Ok told = subst (λ (o : Option ℕ). with_general round before o (λ general. row_told round (before ++ general ∷ []) parts) ≡ Ok told) (sym is) h in
     cc
 
--- a round is as it was read, whatever is made of it
+-- Proves that a round's generals are those that were collected.
 pub row_taken : (before : List (List ℕ)) (round : ℕ) (part row : List ℕ) (parts told : List (List ℕ)) → ((r : ℕ) (own : List ℕ) → row_told r [] (pieces space part) ≡ Ok own → own ≡ row)
     → rows_told before round (part ∷ parts) ≡ Ok told → rows_told (before ++ row ∷ []) (suc round) parts ≡ Ok told
 row_taken before round part row parts told read h = go (row_told round [] (pieces space part)) (read round) h
@@ -81,7 +81,7 @@ row_taken before round part row parts told read h = go (row_told round [] (piece
     go (Ok own) read e = by own (nat_lt 5 round) (read own refl) e
     go (Err fault) read e = cc
 
--- there are no more rounds than five
+-- Proves that there are at most five rounds.
 few_rounds : (before : List (List ℕ)) (round : ℕ) (parts told : List (List ℕ)) → length before + 1 ≡ round → length before ≤ 5 → rows_told before round parts ≡ Ok told → length told ≤ 5
 few_rounds before round [] told count few h = (let same : before ≡ told = cc in subst (λ (l : List (List ℕ)). length l ≤ 5) same few)
 few_rounds before round (part ∷ parts) told count few h =
@@ -97,7 +97,7 @@ few_rounds before round (part ∷ parts) told count few h =
     go (Ok row) later h = by row (nat_lt 5 round) refl (later row) h
     go (Err fault) later h = cc
 
--- a text that has no fault lists what is read of it
+-- Proves that a text without a fault lists what was collected from it.
 pub listed : (text : List ℕ) (rows : List (List ℕ)) → None ≡ result_err (accesses_told text) → ((told : List (List ℕ)) → accesses_told text ≡ Ok told → told ≡ rows) → (accesses_told text ≡ Ok rows) × (length rows ≤ 5)
 unfolding accesses_told
 listed text rows none read = go (rows_told [] 1 (pieces slash text)) none read (λ told h. few_rounds [] 1 (pieces slash text) told refl (omega arith) h)
@@ -106,7 +106,7 @@ listed text rows none read = go (rows_told [] 1 (pieces slash text)) none read (
     go (Ok told) none read few = (ap Ok (read told refl), subst (λ (l : List (List ℕ)). length l ≤ 5) (read told refl) (few told refl))
     go (Err fault) none read few = (let c : None ≡ Some fault = none in cc)
 
--- a fault that is found is the text's, and no other is
+-- Proves that the fault that was found is the fault of the text.
 pub faulty : (text : List ℕ) (fault : AccessFault) → Some fault ≡ result_err (accesses_told text) → accesses_told text ≡ Err fault
 faulty text fault = go (accesses_told text)
   where

@@ -1,4 +1,4 @@
--- The text of a schedule is read again.
+-- Parsing the text of a schedule gives this schedule again.
 use Rattle.std.proofs.Common.{ℕ, suc, ◌+◌, ◌^◌, ◌<◌, ◌≤◌, ◌≡◌, true, false, not, ◌&&◌, List, [], ◌∷◌, ◌++◌, map, length, refl, sym, ap, subst, ◌∙◌, arith, append_assoc, append-nil, Some, Ok}
 use Rattle.std.specs.Prelude.{nat_lt, nat_le, codes, decimal}
 use Rattle.std.specs.List.{flat_map, AllByRecursion}
@@ -18,7 +18,7 @@ use Rattle.campaign_schedules.specs.Reading.{IsEntry, SchedulesAreRead}
 no_star : (c : ℕ) → is_within 48 57 c ≡ true → not (is_stop star c) ≡ true
 no_star c h = grind (arith, nat_tests)
 
--- an entry's text, and a line's without its LF
+-- The text of an entry, and the text of a line without its line feed.
 abbrev pair : Repeat → List ℕ
 pair r = decimal r.general ++ codes "*" ++ decimal r.times
 

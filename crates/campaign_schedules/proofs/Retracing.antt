@@ -1,4 +1,4 @@
--- The schedule of a chronicle's accesses.
+-- The schedule that repeats a chronicle's accesses.
 use Rattle.std.proofs.Common.{◌≡◌, ◌<◌, ◌≤◌, ℕ, zero, suc, List, length, refl, sym, ap, ◌∙◌, subst, arith}
 use Rattle.std.specs.Prelude.{All}
 use Rattle.board.specs.Board.{Access}
@@ -22,7 +22,7 @@ use Rattle.campaign_schedules.proofs.Reading.{proved_schedules_are_read}
 use Rattle.campaign_schedules.proofs.Within.{AreShort, schedule_read}
 use Rattle.campaign_schedules.specs.Retraced.{ComesAgain, IsLedgerOfRun, IsRetraced}
 
--- what an audit replays is a complete run
+-- Proves that an audit replays a complete run.
 ledger_told : (s : Scenario) (t : List ℕ) → IsScenario s → IsLedgerOfRun s (chronicle_told s t).accesses
 unfolding chronicle_told
 ledger_told s t is = (replayed s (names_of t), replayed_complete oral_kind s (oral_campaigns s is) (names_of t), refl)
@@ -47,11 +47,11 @@ retraced_by s t accesses schedule is e comes entries read written = record {
   again = ap chronicle_of (comes (replayed s (names_of t)) (replayed_complete oral_kind s (oral_campaigns s is) (names_of t)) (sym e));
 }
 
--- the schedule of some names is read again
+-- Proves that parsing the text of a schedule for given generals gives it again.
 pub read_of : (s : Scenario) (names : List (List ℕ)) (schedule : List (List Repeat)) → IsScenario s → AreShort s → length names ≤ 5 → IsScheduleOf oral_kind (opening_of oral_kind s) names (By schedule) → IsReadAs (schedule_text schedule) schedule
 read_of s names schedule is short five made = schedule_read oral_kind s short (oral_campaigns s is) proved_schedules_are_read is.few names schedule five made.0 made.1
 
--- a list of names for each round
+-- Proves that there is a list of generals for each round.
 pub names_count : (round : ℕ) (ledger : List Access) (k : ℕ) → length (names_in round ledger k) ≡ k
 names_count round ledger zero = refl
 names_count round ledger (suc k) = ap suc (names_count (suc round) ledger k)

@@ -1,4 +1,4 @@
--- Words of the generator one by one, and the text that they come to.
+-- The words of the random generator one by one, and the text of their schedule.
 use Rattle.std.proofs.Common.{ℕ, zero, suc, ◌+◌, ◌*◌, ◌<◌, ◌≤◌, ◌≡◌, List, [], ◌∷◌, ◌++◌, Bool, true, false, ◌==◌, ◌/◌, ◌%◌, map, length, refl, sym, ap, ◌∙◌, arith, append_assoc, append-nil, length-append, Ok}
 use Rattle.std.specs.Prelude.{decimal}
 use Rattle.std.specs.List.{AllByRecursion, flat_map}
@@ -11,7 +11,7 @@ use Rattle.campaign_schedules.specs.Reading.{IsEntry, SchedulesAreRead}
 use Rattle.trace.specs.Schedules.{schedule_told}
 use Rattle.campaign_schedules.specs.Seeded.{after, entry_of, lines_from, more_times, seeded, words}
 
--- so many entries of a line are made, and what is left of it
+-- States that n entries of a line have been made, and which entries remain.
 pub record IsOnLine (start g : ChaCha) (n : ℕ) (made : List Repeat) : Type 0 where
   pub left : ℕ
   pub count : n + left ≡ 128
@@ -48,7 +48,7 @@ line_ends start g n made on all = go on.left on.count on.entries on.after
     go zero count entries later = (sym (append-nil made) ∙ entries, later)
     go (suc left) count entries later = absurd (omega (arith, count, all))
 
--- so it is with lines
+-- States that n lines have been made, and which lines remain.
 pub record IsOnLines (start g : ChaCha) (n : ℕ) (made : List (List Repeat)) : Type 0 where
   pub left : ℕ
   pub count : n + left ≡ 5
@@ -81,7 +81,7 @@ pub seeded_by : (seed : ℕ) (start : ChaCha) (made : List (List Repeat)) → st
 unfolding seeded
 seeded_by seed start made is lines = lines ∙ ap (lines_from 5) is
 
--- ---- each entry is one, and the text is short
+-- ---- each entry is valid, and the text is short enough
 
 more_few : (long : Bool) (x : ℕ) → more_times long x ≤ 255
 more_few true x = omega arith

@@ -1,4 +1,4 @@
--- The first access that cannot come.
+-- The first listed access that cannot be made.
 use Rattle.std.proofs.Common.{arith, length, length-append, ◌+◌, ◌<◌, ◌≡◌, ℕ, zero, suc, List, [], ◌∷◌, ◌++◌, true, false, Bool, cond, refl, sym, ap, subst, ◌∙◌, Option, Some, None, Result, Ok, Err, nat_lt, take}
 use Rattle.std.specs.Prelude.{slice_get}
 use Rattle.text.specs.Parts.{pieces}
@@ -30,7 +30,7 @@ use Rattle.campaign_schedules.specs.declared.fault.AccessesError.TheVariants.{At
 use Rattle.campaign_schedules.specs.declared.fault.AccessFault.TheVariants.{Text, Never}
 
 module _ (K : Kind) where
-  -- who comes before the one who is stuck walks
+  -- Proves that the accesses before it can be made.
   line_before : (w : World) (names : List ℕ) (place : ℕ) → IsStuckAt K w names place → IsWalk K w (take place names)
   line_before w [] place s = absurd s
   line_before w (g ∷ names) zero s = tt
@@ -41,7 +41,7 @@ module _ (K : Kind) where
   before_stuck w (names ∷ rows) zero place s = (line_before w names place s, tt)
   before_stuck w (names ∷ rows) (suc round) place s = (s.0, before_stuck (behind K w names) rows round place s.1)
 
-  -- and with him no round begins
+  -- Proves that no round begins with the accesses up to this one.
   line_stuck : (w : World) (names rest : List ℕ) (place : ℕ) → IsStuckAt K w names place → IsRoundFrom K w (take (suc place) names ++ rest) → ⊥
   line_stuck w [] rest place s h = s
   line_stuck w (g ∷ names) rest zero s h = (let f = sym s ∙ h.0 in let c : false ≡ true = f in cc)
@@ -68,7 +68,7 @@ module _ (K : Kind) where
       never_from s sound k closed' (words_after words c.piece) (ledger ++ c.piece) rows order round place (subst A c.is done.due)
       (let l = length-append closed (c.letters ∷ []) in omega arith) (subst B (same ∙ c.is) h.1) (subst C c.is stuck.1) b.1
 
-  -- he is one of the list
+  -- Proves that its general is in the list.
   line_there : (w : World) (names : List ℕ) (place : ℕ) → IsStuckAt K w names place → (g : ℕ) × (slice_get names place ≡ Some g)
   line_there w [] place s = absurd s
   line_there w (g ∷ names) zero s = (g, refl)
@@ -96,7 +96,7 @@ pub unarranged_by : (s : Scenario) (text : List ℕ) (rows : List (List ℕ)) (r
 unarranged_by s text rows round place (Text r p) is told stuck never = absurd never
 unarranged_by s text rows round place (Never r p general) is told stuck never = (rows, told, (round, (place, never, first_that_cannot s rows round place is stuck)))
 
--- ---- a text that lists no accesses has the fault of a text
+-- ---- a text that is not a list of accesses has a fault in its text
 
 module _ (r p g : ℕ) where
   row_never : (round : ℕ) (before : List ℕ) (parts : List (List ℕ)) → row_told round before parts ≡ Err (Never r p g) → ⊥

@@ -1,4 +1,4 @@
--- The entries of a schedule that is made of accesses are those that the text of a schedule may have.
+-- The entries of a schedule made for accesses are valid in the text of a schedule.
 use Rattle.std.proofs.Common.{◌≡◌, ◌≢◌, ℕ, zero, suc, ◌<◌, ◌≤◌, List, [], ◌∷◌, ◌++◌, length, Bool, true, false, cond, refl, sym, ap, subst, ◌∙◌, ⊎_elim, Option, Some, None, arith}
 use Rattle.std.specs.Prelude.{slice_get, slice_set, replicate, ◌&&◌}
 use Rattle.std.specs.List.{AllByRecursion, list_all}
@@ -27,7 +27,7 @@ use Rattle.campaign_orders.proofs.Spending.{text_short}
 use Rattle.world.specs.Campaigns.{IsCampaign}
 use Rattle.campaign_schedules.specs.Reading.{IsEntry, IsReadAs, SchedulesAreRead}
 
--- ---- how many steps an access takes
+-- ---- the number of steps up to an access
 
 asks_some : (k : ℕ) (o : Turn) → asks_or (asks_within k) o ≡ true → 1 ≤ further_turns (until_access k) o
 asks_some k (Goes b) will = omega arith
@@ -51,7 +51,7 @@ ticks_many : (n g : ℕ) → length (replicate n (Tick g)) ≡ n
 ticks_many zero g = refl
 ticks_many (suc n) g = ap suc (ticks_many n g)
 
--- ---- a turn keeps the program
+-- ---- a turn does not change the program
 
 abbrev KeepsProgram : Activation → Turn → Type 0
 KeepsProgram a (Goes b) = b.program ≡ a.program
@@ -71,7 +71,7 @@ turn_keeps a = by (has_ended a)
     by true = tt
     by false = turned_keeps a (step a.program a.context a.relay a.state)
 
--- ---- who acts is one of the generals, and his program has 4,096 instructions at most
+-- ---- each general of an entry exists, and his program has at most 4,096 instructions
 
 abbrev pub AreShort : Scenario → Type 0
 AreShort s = (g : ℕ) (program : List Insn) → program_of s g ≡ Some program → length program ≤ 4096
@@ -152,7 +152,7 @@ module _ (K : Kind) (s : Scenario) (short : AreShort s) where
   small_run [] w small = small
   small_run (e ∷ es) w small = small_run es (happen K w e) (small_happen w e small)
 
-  -- ---- so an entry is one, and so are all
+  -- ---- each entry is valid
 
   entry_is : s.generals ≤ 13 → (w : World) (g : ℕ) → IsSmall s w → (o : Option Progress) → slice_get w.parts g ≡ o → will_ask o ≡ true → IsEntry (record { general = g; times = length (ticks_named g o) })
   entry_is few w g small None at will = absurd (let f : false ≡ true = will in cc)
@@ -181,7 +181,7 @@ module _ (K : Kind) (s : Scenario) (short : AreShort s) where
   lines_count [] w = refl
   lines_count (line ∷ names) w = ap suc (lines_count names (behind K w line))
 
-  -- the text of the schedule of some names is read again
+  -- Proves that parsing the text of a schedule for given generals gives it again.
   pub schedule_read : IsCampaign K s → SchedulesAreRead → s.generals ≤ 13 → (names : List (List ℕ)) (schedule : List (List Repeat)) → length names ≤ 5 → AreWalks K (opening K s) names → schedule ≡ schedule_from K (opening K s) names
       → IsReadAs (schedule_text schedule) schedule
   schedule_read sound read few names schedule five walks is =

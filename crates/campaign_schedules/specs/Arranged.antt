@@ -1,4 +1,4 @@
--- Schedules by which a campaign has listed accesses (own).
+-- Schedules by which a campaign has the accesses that a list names, in this order (own).
 use Rattle.std.specs.Prelude.{ℕ, zero, suc, ◌≡◌, List, [], ◌∷◌, ◌++◌, Option, Some, Ok, Err, option_and_then, slice_get, take}
 use Rattle.round.specs.Scenario.{Scenario}
 use Rattle.world.specs.declared.schedule.Repeat.{Repeat}
@@ -17,35 +17,37 @@ use Rattle.campaign_schedules.specs.declared.fault.AccessesError.{AccessesError}
 use Rattle.campaign_schedules.specs.declared.fault.AccessesError.TheVariants.{At, Memory}
 use Rattle.campaign_schedules.specs.Accesses.{accesses_told}
 
--- Returns the rounds before a round, and that round's accesses before a place. Both are counted from 0.
+-- Returns the rounds of a list up to `round`, where this last round has only its first `place` accesses. Both are
+-- counted from 0.
 abbrev pub until : List (List ℕ) → ℕ → ℕ → List (List ℕ)
 until [] round place = []
 until (names ∷ rows) zero place = take place names ∷ []
 until (names ∷ rows) (suc round) place = names ∷ until rows round place
 
--- Returns the general who is listed at a round and place, if there is one.
+-- Returns the general who is listed at this round and place, both counted from 0, or None if there is none.
 abbrev pub listed_at : List (List ℕ) → ℕ → ℕ → Option ℕ
 listed_at rows round place = option_and_then (λ row. slice_get row place) (slice_get rows round)
 
--- States that the order has, in each round before this one, the listed accesses and then those of others in ascending
--- order. In this round it begins with the listed accesses up to and including this place.
+-- States how an order of accesses begins. In each round before `round`, it has the listed accesses, and then the
+-- accesses of others in ascending order. In this round it begins with the listed accesses up to and including
+-- `place`.
 abbrev pub BeginsSo : List (List ℕ) → ℕ → ℕ → List (List ℕ) → Type 0
 BeginsSo (names ∷ rows) zero place (row ∷ order) = (rest : List ℕ) × (row ≡ take (suc place) names ++ rest)
 BeginsSo (names ∷ rows) (suc round) place (row ∷ order) = Continues names row × BeginsSo rows round place order
 BeginsSo _ _ _ _ = ⊥
 
--- States that the access at this round and place is the first that cannot come. The accesses before it can come, and
--- after them, with those of others in ascending order in each earlier round, its general makes no further access. So no
--- complete run has these accesses and then this one.
+-- States that the access at this round and place is the first that cannot be made. The listed accesses before it can
+-- be made. After them, with the accesses of others in ascending order in each earlier round, its general makes no
+-- further access. So no complete run has these accesses and then this one.
 pub record IsFirstThatCannot (s : Scenario) (rows : List (List ℕ)) (round place : ℕ) : Type 0 where
   pub stuck : IsStuckIn oral_kind (opening oral_kind s) rows round place
   pub before : IsCompletion (until rows round place)
       (order_of oral_kind s (replayed oral_kind s (until rows round place)))
   pub never : (order : List (List ℕ)) → IsOrder oral_kind s order → BeginsSo rows round place order → ⊥
 
--- States that the listed accesses can come, and that the lines are the text of a schedule by which they do. In each
--- round they come in this order, and then those of others in ascending order. The schedule has one entry for each
--- listed access.
+-- States that the listed accesses can be made, and that `lines` is the text of a schedule by which they are made. In
+-- each round they come in the listed order, and then the accesses of others in ascending order. The schedule has one
+-- entry for each listed access.
 pub record IsArrangement (s : Scenario) (rows : List (List ℕ)) (lines : List ℕ) : Type 0 where
   pub walks : AreWalks oral_kind (opening oral_kind s) rows
   pub schedule : List (List Repeat)
@@ -54,7 +56,7 @@ pub record IsArrangement (s : Scenario) (rows : List (List ℕ)) (lines : List �
   pub read : IsReadAs lines schedule
   pub comes : IsCompletion rows (order_of oral_kind s (listed s (lines_by schedule)))
 
--- States that the text lists accesses, and that the lines are the text of a schedule by which they come.
+-- States that `text` lists accesses, and that `lines` is the text of a schedule by which they are made.
 abbrev pub IsArranged : Scenario → List ℕ → List ℕ → Type 0
 IsArranged s text lines = (rows : List (List ℕ)) × (accesses_told text ≡ Ok rows) × IsArrangement s rows lines
 
@@ -62,18 +64,20 @@ IsArranged s text lines = (rows : List (List ℕ)) × (accesses_told text ≡ Ok
 abbrev pub IsListedAt : List (List ℕ) → ℕ → ℕ → Type 0
 IsListedAt rows round place = (general : ℕ) × (listed_at rows round place ≡ Some general)
 
--- States that this is the fault of the access at this round and place, which are counted from 0.
+-- States that the fault says that the access at this round and place cannot be made. Both are counted from 0 here,
+-- and from 1 in the fault.
 abbrev pub IsNever : List (List ℕ) → ℕ → ℕ → AccessFault → Type 0
 IsNever rows r p (Text round place) = ⊥
 IsNever rows r p (Never round place general) = (round ≡ suc r) × (place ≡ suc p) × (listed_at rows r p ≡ Some general)
 
--- States that this is the first fault of the list, or that it is the fault of the first access that cannot come.
+-- States that this is the first fault of the list's text or, if it has none, the fault of the first access that
+-- cannot be made.
 abbrev pub IsUnarranged : Scenario → List ℕ → AccessFault → Type 0
 IsUnarranged s text (Text round place) = accesses_told text ≡ Err (Text round place)
 IsUnarranged s text (Never round place general) = (rows : List (List ℕ)) × (accesses_told text ≡ Ok rows)
     × ((r : ℕ) × ((p : ℕ) × IsNever rows r p (Never round place general) × IsFirstThatCannot s rows r p))
 
--- States that, if the error has a fault, `P` holds of the fault.
+-- States that P holds of the error's fault, if the error is not that memory ran out.
 abbrev pub IfFault : AccessesError → (AccessFault → Type 0) → Type 0
 IfFault (At fault) P = P fault
 IfFault Memory P = Unit {0}

@@ -13,18 +13,18 @@ use Rattle.campaign_orders.specs.Text.{schedule_text}
 use Rattle.trace.specs.Names.{chronicle_told}
 use Rattle.campaign_schedules.specs.Reading.{IsReadAs}
 
--- States that these are the accesses of a complete run.
+-- States that some complete run of the scenario has exactly these accesses.
 abbrev pub IsLedgerOfRun : Scenario → List Access → Type 0
 IsLedgerOfRun s accesses = (events : List Event) × IsComplete s events × ((run (opening s) events).ledger ≡ accesses)
 
--- States that a campaign played by the schedule is each complete run with these accesses.
+-- States that a campaign played by the schedule is the same run as every complete run with these accesses.
 abbrev pub ComesAgain : Scenario → List Access → List (List Repeat) → Type 0
 ComesAgain s accesses schedule =
     (events : List Event) → IsComplete s events → (run (opening s) events).ledger ≡ accesses →
     run (opening s) (listed s (lines_by schedule)) ≡ run (opening s) events
 
--- States that the lines are the text of a schedule by which the campaign has the chronicle that the text contains. The
--- schedule has one entry for each access, in their order.
+-- States that `lines` is the text of a schedule by which the scenario's campaign has the chronicle `text` again. The
+-- schedule has one entry for each access, in the order of the accesses.
 pub record IsRetraced (s : Scenario) (text lines : List ℕ) : Type 0 where
   pub schedule : List (List Repeat)
   pub entries : schedule ≡ schedule_from oral_kind (opening s)

@@ -1,5 +1,5 @@
-//! Parses a list of accesses: for each round the generals who make them. Whether the text is valid is decided without
-//! memory.
+//! Parses a list of accesses, such as `1 2 1/2`: for each round the generals who access the board, in this order.
+//! Slashes separate the rounds. Rejecting another text needs no memory.
 ghost use Rattle.std.specs.Prelude.{◌≡◌, ◌+◌, ◌∷◌, ◌<◌, ◌≤◌, ◌^◌, ℕ, List, [], Err, Ok, Some, IfErr, IfOk, OnOk, MatchResult, vec_len};
 ghost use Rattle.std.specs.Result.{result_err};
 ghost use Rattle.campaign_schedules.specs.Accesses.{accesses_told, general_of, row_fault, row_told, slash};
@@ -18,10 +18,10 @@ const SLASH: Stop = Stop::Byte(b'/');
 
 const SPACE: Stop = Stop::Byte(b' ');
 
-/// The largest number of rounds in a schedule.
+/// The largest number of rounds in a list of accesses.
 const MOST_ROUNDS: u64 = 5;
 
-/// Parses the decimal number of a general, 0 to 12. Returns `None` if `part` is not such a number.
+/// Parses the decimal number of a general, from 0 to 12. Returns `None` if `part` is not such a number.
 #[tactic(auto, unfolding(crate::specs::Accesses::general_of))]
 fn general_of(part: &[u8]) -> Option<u8>
     ensures { result ≡ general_of part.now }
@@ -34,12 +34,12 @@ fn general_of(part: &[u8]) -> Option<u8>
     }
 }
 
-/// Returns the place after a part of a round's text. The result is `place` if the part is empty, and `place` + 1 if it
-/// is the number of a general.
+/// Returns the place of the next general in a round's list. `part` is the text between two spaces. The result is
+/// `place` if it is empty, and `place + 1` if it is the number of a general.
 ///
 /// # Errors
 ///
-/// Returns the fault `Text` if the part is not the number of a general.
+/// Fails with `Text` if `part` is neither empty nor the number of a general.
 fn place_behind(round: u64, place: u64, part: &[u8]) -> Result<u64, AccessFault>
     requires { place + 1 < 2 ^ 64 }
     ensures behind { (parts : List (List ℕ)) → MatchResult result
@@ -56,7 +56,7 @@ fn place_behind(round: u64, place: u64, part: &[u8]) -> Result<u64, AccessFault>
     }
 }
 
-/// Returns the fault of the first part in this round that is not the number of a general, if there is one.
+/// Returns the fault of the first word in a round's text that is not the number of a general, or `None` if all are.
 fn row_fault(round: u64, text: &[u8]) -> Option<AccessFault>
     ensures { result ≡ row_fault round 1 (pieces space text.now) }
 {
@@ -73,8 +73,8 @@ fn row_fault(round: u64, text: &[u8]) -> Option<AccessFault>
     None
 }
 
-/// Returns why the text is not a list of accesses, if it is not: the first part that is not the number of a general, or
-/// a sixth round.
+/// Returns the first fault of a text that should be a list of accesses: a word that is not the number of a general,
+/// or a sixth round. Returns `None` if the text has no fault.
 #[tactic(auto, unfolding(crate::specs::Accesses::accesses_told), using(crate::proofs::Listed::told_fault))]
 fn fault_of(text: &str) -> Option<AccessFault>
     ensures { result ≡ result_err (accesses_told text.now) }
@@ -95,7 +95,7 @@ fn fault_of(text: &str) -> Option<AccessFault>
     None
 }
 
-/// Appends the general whom a part names, if it names one.
+/// Appends the general whose number `part` is. Appends nothing if it is not the number of a general.
 #[tactic(auto, using(crate::proofs::Listed::taken_in, crate::proofs::Listed::passed_by))]
 fn take_in(row: &mut Vec<u8>, part: &[u8]) -> Result<(), AllocError>
     ensures { OnOk result ((round : ℕ) (told : List ℕ) (parts : List (List ℕ)) →
@@ -108,7 +108,7 @@ fn take_in(row: &mut Vec<u8>, part: &[u8]) -> Result<(), AllocError>
     Ok(())
 }
 
-/// Returns the generals whom the text of one round names.
+/// Returns the generals whom the text of a round lists. Words that are not numbers of generals are skipped.
 fn row_of(alloc: Global, text: &[u8]) -> Result<Vec<u8>, AllocError>
     ensures { IfOk result (λ row. (round : ℕ) (told : List ℕ) →
         row_told round [] (pieces space text.now) ≡ Ok told → told ≡ row.items) }
@@ -123,7 +123,7 @@ fn row_of(alloc: Global, text: &[u8]) -> Result<Vec<u8>, AllocError>
     Ok(row)
 }
 
-/// Returns the generals whom each round of the text names.
+/// Returns for each round of the text the generals whom it lists. Slashes separate the rounds.
 #[tactic(auto, unfolding(crate::specs::Accesses::accesses_told), using(crate::proofs::Listed::row_taken))]
 fn rows_of(alloc: Global, text: &str) -> Result<Vec<Vec<u8>>, AllocError>
     ensures { IfOk result (λ rows. (told : List (List ℕ)) →
@@ -139,12 +139,12 @@ fn rows_of(alloc: Global, text: &str) -> Result<Vec<Vec<u8>>, AllocError>
     Ok(rows)
 }
 
-/// Returns the generals whom each round of the text names, in at most 5 rounds.
+/// Returns for each round of the text, at most 5, the generals whom it lists.
 ///
 /// # Errors
 ///
-/// Returns the first fault if the text is not a list of accesses, without needing memory. Otherwise it fails only with
-/// `Memory`, if it runs out of memory.
+/// Fails with the first fault of the text if it has one, which needs no memory. Otherwise fails only with `Memory`,
+/// if memory runs out.
 #[tactic(auto, using(crate::proofs::Listed::listed, crate::proofs::Listed::faulty))]
 pub(crate) fn accesses_of(alloc: Global, text: &str) -> Result<Vec<Vec<u8>>, AccessesError>
     ensures told { IfOk result (λ rows. accesses_told text.now ≡ Ok (lists_in rows.items)) }

@@ -1,4 +1,4 @@
-//! Makes the schedule by which generals access the board in a listed order.
+//! Makes a schedule by which the generals access the board in a given order.
 ghost use Rattle.std.specs.Prelude.{◌≡◌, Err, IfErr, IfOk, string_bytes};
 ghost use Rattle.campaign_schedules.specs.Accesses.{accesses_told};
 ghost use Rattle.campaign_schedules.specs.Arranged.{IfFault, IsArranged, IsListedAt, IsNever, IsUnarranged};
@@ -12,8 +12,8 @@ use campaign_orders::{Scheduled, recall_short, schedule_names, schedule_text};
 use round::Scenario;
 use std::alloc::Global;
 
-/// Returns the fault that the access at this round and index cannot come. Both arguments are counted from 0, and the
-/// numbers of the fault from 1.
+/// Returns the fault of a listed access that cannot be made. The arguments `round` and `place` are counted from 0,
+/// but the numbers in the fault from 1.
 fn never(rows: &[Vec<u8>], round: usize, place: usize) -> AccessFault
     requires { IsListedAt (lists_in rows.now) round place }
     ensures { IsNever (lists_in rows.now) round place result }
@@ -27,15 +27,16 @@ fn never(rows: &[Vec<u8>], round: usize, place: usize) -> AccessFault
     }
 }
 
-/// Returns the text of a schedule by which the generals access the board in the order that `text` lists. In each round
-/// the listed generals make their accesses first, and then all generals go to their ends. The schedule has one entry
-/// for each listed access. In `text`, slashes separate the rounds, and spaces separate the generals of a round. The
-/// returned text is read as the same schedule.
+/// Returns the text of a schedule by which the generals access the board in the order that `text` lists, such as `1 2
+/// 1/2`. Slashes separate the rounds, and spaces separate the generals of a round. In each round the listed generals
+/// make their accesses first, and then all programs run to their ends. The schedule has one entry for each listed
+/// access. Parsing the returned text gives this schedule again.
 ///
 /// # Errors
 ///
-/// Returns the fault of the first part that is not the number of a general, or of a sixth round, without needing
-/// memory. Otherwise it returns the fault of the first access that cannot come, or `Memory` if it runs out of memory.
+/// Fails with the fault of the first word that is not the number of a general, or of a sixth round, which needs no
+/// memory. Otherwise fails with the fault of the first access that cannot be made, or with `Memory` if memory runs
+/// out.
 pub fn arranged(alloc: Global, scenario: &Scenario, text: &str) -> Result<String, AccessesError>
     ensures arranged { IfOk result (λ lines. IsArranged scenario.now text.now (string_bytes lines)) }
     ensures unarranged { IfErr result (λ e. IfFault e (IsUnarranged scenario.now text.now)) }

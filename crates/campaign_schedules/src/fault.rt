@@ -1,4 +1,4 @@
-//! Errors of listed accesses: what is wrong with the list, and why there is no schedule.
+//! Defines the errors of a list of accesses: what is wrong with it, and why no schedule makes these accesses.
 ghost use Rattle.std.specs.Prelude.{◌≡◌};
 ghost use Rattle.campaign_schedules.specs.declared.fault.AccessesError.TheVariants.{Memory};
 
@@ -9,11 +9,11 @@ use std::fmt;
 /// What is wrong with a list of accesses.
 #[derive(Clone, Copy, Debug, PartialEq, Eq, Drop)]
 pub enum AccessFault {
-    /// The part at this round and place is not the number of a general, 0 to 12, or the round is a sixth one. Round and
+    /// The word at this round and place is not the number of a general, 0 to 12, or the round is the sixth. Round and
     /// place are counted from 1.
     Text(u64, u64),
-    /// The access at this round and place, by this general, is the first that cannot come. Round and place are counted
-    /// from 1.
+    /// The access at this round and place, by the general in the last field, is the first that cannot be made. Round
+    /// and place are counted from 1.
     Never(u64, u64, u8),
 }
 
@@ -35,10 +35,10 @@ impl fmt::Display for AccessFault {
 
 impl Error for AccessFault {}
 
-/// Why there is no schedule of listed accesses.
+/// Why there is no schedule for a list of accesses.
 #[derive(Clone, Copy, Debug, PartialEq, Eq, Drop)]
 pub enum AccessesError {
-    /// The first fault.
+    /// The list has this fault, which is its first.
     At(AccessFault),
     Memory,
 }

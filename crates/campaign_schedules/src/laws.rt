@@ -5,13 +5,13 @@ ghost use Rattle.campaign_schedules.specs.Reading.{SchedulesAreRead};
 use campaign_orders::recall_short;
 use round::Scenario;
 
-/// Does nothing. Its contract says that the text of a schedule is read as that schedule.
+/// States that parsing the text of a schedule gives this schedule again.
 pub fn schedules_are_read()
     ensures { SchedulesAreRead }
 {}
 
-/// Does nothing. Its contract says that each schedule that an exploration of this scenario gives for an outcome leads
-/// to that outcome when it is played.
+/// States that every schedule which an exploration of the scenario keeps for an outcome leads to this outcome when it
+/// is played.
 pub fn kept_schedules_play(scenario: &Scenario)
     ensures { KeptSchedulesPlay scenario.now }
 {

@@ -1,4 +1,4 @@
-//! Makes schedules: from a chronicle, from listed accesses, or from a seed.
+//! Makes schedules: from a chronicle, from a list of accesses, or from a seed.
 #![tactic(auto)]
 
 mod access_list;

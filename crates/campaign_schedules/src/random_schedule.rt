@@ -1,4 +1,4 @@
-//! Makes the random schedule of a seed.
+//! Makes a random schedule from a seed.
 ghost use Rattle.std.specs.Prelude.{◌≡◌, ◌<◌, IfOk, Ok, map, string_bytes};
 ghost use Rattle.campaign_schedules.specs.Seeded.{after, entry_of, more_times, seeded, words};
 ghost use Rattle.campaign_orders.specs.Text.{schedule_text};
@@ -12,13 +12,14 @@ use rand_core::utils::NextWord;
 use std::alloc::{AllocError, Global};
 use world::{Repeat, Schedule, ScheduleLine};
 
-/// The number of lines, which is the largest that a schedule may have: one for each round.
+/// The number of lines of a random schedule, one for each round. A schedule can have no more.
 const LINES: u8 = 5;
 
-/// The number of entries in each line.
+/// The number of entries in each line of a random schedule.
 const ENTRIES: u8 = 128;
 
-/// Returns how many further turns an entry gives a general: 0 to 3, or 0 to 255 if the entry is long.
+/// Returns how many turns after the first an entry gives a general: `number` modulo 256 if the entry is long, else
+/// modulo 4.
 fn more_times(is_long: bool, number: u32) -> u16
     ensures times { result ≡ more_times is_long number }
     ensures few { result < 256 }
@@ -30,7 +31,7 @@ fn more_times(is_long: bool, number: u32) -> u16
     }
 }
 
-/// Returns the schedule entry for a word of the generator: one of 13 generals, with 1 to 256 turns.
+/// Returns the schedule entry that a word of the random generator means: a general from 0 to 12, with 1 to 256 turns.
 fn entry_of(word: u32) -> Repeat
     ensures { result ≡ entry_of word }
 {
@@ -40,7 +41,7 @@ fn entry_of(word: u32) -> Repeat
     }
 }
 
-/// Returns the 128 entries for the next words of the generator.
+/// Returns a schedule line with an entry for each of the next 128 words of the random generator.
 fn line(alloc: Global, generator: &mut ChaCha8Rng) -> Result<ScheduleLine, AllocError>
     ensures entries { IfOk result (λ line. line ≡ map entry_of (words 128 generator.old)) }
     ensures after { IfOk result (λ _. generator.new ≡ after 128 generator.old) }
@@ -54,7 +55,7 @@ fn line(alloc: Global, generator: &mut ChaCha8Rng) -> Result<ScheduleLine, Alloc
     Ok(ScheduleLine { repeats })
 }
 
-/// Returns the random schedule of a seed.
+/// Returns the random schedule that a seed gives: 5 lines of 128 entries.
 fn seeded_schedule(alloc: Global, seed: u64) -> Result<Schedule, AllocError>
     ensures { IfOk result (λ schedule. schedule ≡ seeded seed) }
 {
@@ -68,8 +69,8 @@ fn seeded_schedule(alloc: Global, seed: u64) -> Result<Schedule, AllocError>
     Ok(Schedule { lines })
 }
 
-/// Returns the text of the random schedule of a seed: five lines of 128 entries each, drawn from the words of ChaCha
-/// with 8 rounds.
+/// Returns the text of the random schedule that a seed gives: 5 lines of 128 entries, made from the words of the
+/// random generator ChaCha8.
 ///
 /// # Errors
 ///

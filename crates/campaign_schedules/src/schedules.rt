@@ -1,4 +1,4 @@
-//! Makes the schedule that repeats a campaign, from its chronicle or from its accesses.
+//! Makes a schedule that repeats a campaign, from its chronicle or from its accesses.
 ghost use Rattle.std.specs.Prelude.{◌≡◌, ◌≢◌, suc, IfOk, IfErr, string_bytes};
 ghost use Rattle.campaign_orders.specs.Schedules.{schedule_from};
 ghost use Rattle.campaign_orders.specs.Text.{schedule_text};
@@ -18,13 +18,13 @@ use std::alloc::{AllocError, Global};
 use trace::{TraceError, sound_chronicle};
 use world::Schedule;
 
-/// Returns the text of a schedule by which the scenario's campaign has the chronicle that `text` contains. The schedule
-/// has one entry for each access. In each round the generals make their accesses in the order of the chronicle, and
-/// then all activations run to their ends. The returned text is read as the same schedule.
+/// Returns the text of a schedule by which the scenario's campaign has the chronicle `text` again. The schedule has
+/// one entry for each access. In each round the generals make their accesses in the order of the chronicle, and then
+/// all programs run to their ends. Parsing the returned text gives this schedule again.
 ///
 /// # Errors
 ///
-/// Fails as `trace::sound_chronicle` does: if the text is not a chronicle of the scenario, or if it runs out of memory.
+/// Fails as `trace::sound_chronicle` does, if the text is not a chronicle of the scenario or memory runs out.
 pub fn retraced(alloc: Global, scenario: &Scenario, text: &str) -> Result<String, TraceError>
     ensures sound { IfOk result (λ _. IsSoundText scenario.now text.now) }
     ensures retraced { IfOk result (λ lines. IsRetraced scenario.now text.now (string_bytes lines)) }
@@ -37,7 +37,7 @@ pub fn retraced(alloc: Global, scenario: &Scenario, text: &str) -> Result<String
     Ok(schedule_text(alloc, &schedule)?)
 }
 
-/// Returns the schedule, with one entry for each access, by which the scenario's campaign has these accesses again.
+/// Returns a schedule by which the scenario's campaign has the same accesses again. It has one entry for each access.
 ///
 /// # Errors
 ///
@@ -58,7 +58,7 @@ pub fn schedule_of(
     let order = order_in(alloc, accesses, scenario.bound() as u8 + 1)?;
     match schedule_names(alloc, scenario.copy(alloc)?, order.as_slice())? {
         Scheduled::By(schedule) => Ok(schedule),
-        // The accesses of a complete run can come in its order.
+        // All accesses of a run can be made in the order of that run.
         Scheduled::Never(_, _) => unreachable!(),
     }
 }

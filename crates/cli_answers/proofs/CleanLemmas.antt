@@ -1,4 +1,4 @@
--- No line tells a float.
+-- The JSON objects of printed lines have no floats.
 use Rattle.std.proofs.Common.{◌≡◌, ℕ, Bool, true, false, List, [], ◌∷◌, Option, None, Some, Ordering, Less, Equal, Greater, option_map, option_and_then, bytes_eq, codes, refl}
 use Rattle.std.specs.Prelude.{if◌then◌else◌, ◌||◌, ◌==◌, is_some, length, slice_get}
 use Rattle.std.specs.Str.Lossy.{utf8_lossy}
@@ -170,7 +170,7 @@ or_clean : (o : Option Members) (ms : Members) → HaveClean o → NoFloat ms �
 or_clean None ms a b = b
 or_clean (Some found) ms a b = a
 
--- no object of a line has a float
+-- Proves that no object of a line has a float.
 pub line_clean : (h : Held) (line : List ℕ) → members_have_float (line_object h line) ≡ false
 unfolding line_object
 line_clean h line =
@@ -178,7 +178,7 @@ line_clean h line =
     or_clean (first_by (first_shaped h accesses words) (first_shaped h shapes words)) (unshaped line)
     (by_clean (first_shaped h accesses words) (first_shaped h shapes words) (first_shaped_clean h accesses words) (first_shaped_clean h shapes words)) (put_clean (codes "text") (string (utf8_lossy line)) (called (codes "text")) refl refl)
 
--- nor does a refusal
+-- Proves that no object that says why a task was not done has a float.
 text_clean : (name t : List ℕ) (ms : Members) → NoFloat ms → NoFloat (with_text name t ms)
 text_clean name t ms b = put_clean name (string (utf8_lossy t)) ms refl b
 
@@ -224,6 +224,6 @@ refusal_clean text =
     either NoFloat (bytes_eq word (codes "refused")) (refused_object told lines) (if bytes_eq word (codes "fault") then fault_object told lines else unshaped line) (refused_clean told lines)
     (either NoFloat (bytes_eq word (codes "fault")) (fault_object told lines) (unshaped line) (fault_clean told lines) (unshaped_clean line))
 
--- nor does the name of a file
+-- Proves that the name of a file adds no float.
 pub file_clean : (file : List ℕ) (ms : Members) → members_have_float ms ≡ false → members_have_float (with_file file ms) ≡ false
 file_clean file ms b = put_clean (codes "file") (string file) ms refl b

@@ -1,4 +1,4 @@
--- Items, one word after the other.
+-- The elements of a JSON array, one word after another.
 use Rattle.std.proofs.Common.{◌≡◌, ℕ, zero, suc, ◌+◌, ◌<◌, ◌≤◌, arith, length, drop, get_or, List, [], ◌∷◌, ◌++◌, Option, None, Some, Bor, Vec, Global, option_map, refl, sym, ap, ◌∙◌}
 use Rattle.std.proofs.lemmas.List.{drop_more}
 use Rattle.serde_json.specs.Data.{Data, array, number, unsigned, Items, no_items, item}
@@ -10,12 +10,12 @@ use Rattle.text.specs.Parts.{GivesPieces, left, pieces}
 use Rattle.cli_answers.specs.Labels.{numbers}
 use Rattle.cli_answers.specs.Values.{Word, all}
 
--- the items of both lists
+-- Returns the elements of both lists.
 abbrev pub join : Items → Items → Items
 join no_items es = es
 join (item d ds) es = item d (join ds es)
 
--- these items before the others, where there are others
+-- Returns these elements followed by the others, or None if there are no others.
 abbrev pub onto : Items → Option Items → Option Items
 onto ds None = None
 onto ds (Some es) = Some (join ds es)
@@ -24,7 +24,7 @@ pub join_none : (ds : Items) → join ds no_items ≡ ds
 join_none no_items = refl
 join_none (item d ds) = ap (item d) (join_none ds)
 
--- one value more
+-- Proves that one more value is one more element.
 pub join_last : (vs : List Value) (v : Value) (es : Items) → join (items_view (vs ++ v ∷ [])) es ≡ join (items_view vs) (item (view v) es)
 join_last [] v es = refl
 join_last (w ∷ vs) v es = ap (item (view w)) (join_last vs v es)
@@ -33,31 +33,31 @@ onto_last : (vs : List Value) (v : Value) (o : Option Items) → onto (items_vie
 onto_last vs v None = refl
 onto_last vs v (Some es) = ap Some (join_last vs v es)
 
--- a text as its first piece and those that are left
+-- Proves that a text is its first piece followed by the remaining ones.
 given_left : (stop : Stop) (front : Word) (rest : Option (Bor (List ℕ))) (pieces : List Word) → GivesPieces stop front rest pieces → pieces ≡ front ∷ left stop rest
 given_left stop front None all h = h
 given_left stop front (Some r) all h = h
 
 module _ (tells : Word → Option Data) (stop : Stop) where
-  -- a word more is told
+  -- Proves that one more word has a value.
   pub more_told : (old new : List Value) (v : Value) (bytes front : Word) (rest : Option (Bor (List ℕ))) (total : Option Items) → GivesPieces stop front rest (pieces stop bytes)
       → new ≡ old ++ v ∷ [] → Some (view v) ≡ tells front → onto (items_view old) (all tells (pieces stop bytes)) ≡ total → onto (items_view new) (all tells (left stop rest)) ≡ total
   more_told old new v bytes front rest total given pushed told so_far =
       let first = rw (given_left stop front rest (pieces stop bytes) given) at so_far in
       rw (pushed, onto_last old v (all tells (left stop rest))) (rw (← told) at first)
 
-  -- a word tells nothing
+  -- Proves that a word without a value leaves the array without a value.
   pub none_told : (old : Items) (bytes front : Word) (rest : Option (Bor (List ℕ))) (total : Option Items) → GivesPieces stop front rest (pieces stop bytes)
       → None ≡ tells front → onto old (all tells (pieces stop bytes)) ≡ total → None ≡ option_map array total
   none_told old bytes front rest total given none so_far =
       let first = rw (given_left stop front rest (pieces stop bytes) given) at so_far in
       ap (option_map array) (rw (← none) at first)
 
--- all words are told
+-- Proves that the array is complete after the last word.
 pub all_told : (tells : Word → Option Data) (old : Vec Value Global) (total : Option Items) → onto (items_view old.items) (all tells []) ≡ total → Some (view (Array old)) ≡ option_map array total
 all_told tells old total so_far = ap (λ (d : Data). Some d) (view-Array old ∙ ap array (sym (join_none (items_view old.items)))) ∙ ap (option_map array) so_far
 
--- one general more
+-- Proves that one more general is one more element.
 pub numbers_further : (old new : List Value) (v : Value) (i : ℕ) (ns : List ℕ) (n d : ℕ) (total : Items) → i < length ns → n ≡ get_or ns i d → new ≡ old ++ v ∷ [] → view v ≡ number (unsigned n)
     → join (items_view old) (numbers (drop i ns)) ≡ total → join (items_view new) (numbers (drop (i + 1) ns)) ≡ total
 numbers_further old new v i ns n d total l e pushed seen so_far =

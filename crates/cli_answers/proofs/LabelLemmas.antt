@@ -1,4 +1,4 @@
--- The labels of a relay.
+-- The labels that a general relays, as lines need them.
 use Rattle.std.proofs.Common.{◌≡◌, ℕ, zero, suc, ◌-◌, Bool, true, false, List, [], ◌∷◌, None, Some, arith, refl}
 use Rattle.std.proofs.lemmas.Bool.Decides.{nat_tests}
 use Rattle.std.specs.Prelude.{◌==◌, ◌&&◌, if◌then◌else◌, slice_get}
@@ -14,10 +14,10 @@ at_own true (suc k) =
     rw other refl
 at_own false rank = refl
 
--- the commander's
+-- Proves which label the commander relays.
 pub own_relayed : (h : Held) (rank : ℕ) → (h.general == h.commander) ≡ true → slice_get (relay (shape_of h)) rank ≡ own_label h.round rank
 own_relayed h rank e = rw e (at_own (h.round == 1) rank)
 
--- a lieutenant's
+-- Proves which labels a lieutenant relays.
 pub relayed_by : (h : Held) → (h.general == h.commander) ≡ false → relay (shape_of h) ≡ labels h.generals h.commander h.general (h.round - 1)
 relayed_by h e = rw e refl

@@ -1,4 +1,4 @@
--- What is shown where neither JSON nor one line is asked for: the answer as it is.
+-- If a request asks for neither JSON nor one line, the answer is shown as it is.
 use Rattle.std.proofs.Common.{ℕ, ◌≡◌, Bool, true, false, List, ◌||◌, refl, subst, sym}
 use Rattle.std.specs.Prelude.{Option, Some, IfSome}
 use Rattle.std.specs.Io.KnownBytes.{Appends}

@@ -1,4 +1,4 @@
--- The words of a line, behind the last of a shape.
+-- The words of a line that come after the last word of a shape.
 use Rattle.std.proofs.Common.{◌≡◌, ℕ, zero, suc, ◌≤◌, arith, Bool, true, false, List, [], ◌∷◌, length, drop, map, Option, None, Some, Bor, refl, ◌∙◌}
 use Rattle.std.specs.Prelude.{is_some, not}
 use Rattle.serde_json.specs.Data.{Members}

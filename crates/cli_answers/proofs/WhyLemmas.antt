@@ -1,4 +1,4 @@
--- The line of an explanation that says why, as the lines are read one after the other.
+-- The line of the verifier's explanation that says why, found while the lines are read one after another.
 use Rattle.std.proofs.Common.{◌≡◌, ◌∙◌, ℕ, Bool, true, false, List, [], ◌∷◌, ◌++◌, reverse, Option, None, Some, ap, refl, sym}
 use Rattle.std.specs.Prelude.{cond, find}
 use Rattle.std.specs.Option.{option_or}
@@ -9,7 +9,7 @@ or_assoc : {T : Type 0} (a b c : Option T) → option_or (option_or a b) c ≡ o
 or_assoc None b c = refl
 or_assoc (Some x) b c = refl
 
--- the line, if it says why
+-- Returns the line if it says why, else None.
 abbrev own : Bool → List ℕ → Option (List ℕ)
 own says line = cond says (Some line) None
 
@@ -24,7 +24,7 @@ find_on (x ∷ xs) ys = ap (λ (o : Option (List ℕ)). cond (is_why x) (Some x)
 why_more : (line : List ℕ) (behind : List (List ℕ)) → why (line ∷ behind) ≡ option_or (why behind) (own (is_why line) line)
 why_more line behind = ap (λ (ls : List (List ℕ)). find is_why ls) (reverse-append (line ∷ []) behind) ∙ find_on (reverse behind) (line ∷ [])
 
--- behind a line that says why, and behind another
+-- Proves the result after one more line, which says why or does not.
 line_more : (line : List ℕ) (behind lines all : List (List ℕ)) (last : Option (List ℕ)) → lines ≡ line ∷ behind → option_or (why lines) last ≡ why all
     → option_or (why behind) (option_or (own (is_why line) line) last) ≡ why all
 line_more line behind lines all last e h =

@@ -1,4 +1,4 @@
--- Defines a text as JSON Lines: an object on each line (RFC 8259; jsonlines.org).
+-- A text as JSON Lines: one object for each line (RFC 8259; jsonlines.org).
 use Rattle.std.specs.Prelude.{ℕ, List, [], ◌∷◌, ◌++◌, Option, codes}
 use Rattle.label.specs.declared.shape.Shape.{Shape}
 use Rattle.serde_json.specs.Data.{Members, object, put, string}
@@ -10,25 +10,25 @@ use Rattle.cli_answers.specs.declared.position.Held.{Held}
 use Rattle.cli_answers.specs.Labels.{heard, held_by}
 use Rattle.cli_answers.specs.Objects.{line_object}
 
--- Returns an object as a line of JSON. Each control character in its strings is escaped, also those that JSON allows
+-- Returns an object as a line of JSON. All control characters in its strings are escaped, even those that JSON allows
 -- (U+007F to U+009F).
 abbrev pub object_line : Members → List ℕ
 object_line ms = escaped Nothing (compact_text (object ms)) ++ 10 ∷ []
 
--- Returns the objects of lines, one after the other.
+-- Returns the object of each line in order. `h` is what is known before the first of these lines.
 abbrev pub objects : Held → List (List ℕ) → List Members
 objects h [] = []
 objects h (line ∷ lines) = let ms = line_object h line in ms ∷ objects (heard h ms) lines
 
--- Returns objects as lines of JSON.
+-- Returns objects as JSON Lines.
 abbrev pub object_lines : List Members → List ℕ
 object_lines [] = []
 object_lines (ms ∷ more) = object_line ms ++ object_lines more
 
--- Returns a text as JSON Lines. If it is the answer of a trial, `place` is the relay in which the program was tried.
+-- Returns a text as JSON Lines. For the answer of a trial, `place` is the general's relay and round.
 abbrev pub json_text : Option Shape → List ℕ → List ℕ
 json_text place text = object_lines (objects (held_by place) (lines_of text))
 
--- Puts the name of its file into an object.
+-- Adds the name of a file to an object, as its member `file`.
 abbrev pub with_file : List ℕ → Members → Members
 with_file file ms = put (codes "file") (string file) ms

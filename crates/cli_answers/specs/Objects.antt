@@ -1,4 +1,4 @@
--- Defines a line as an object: its words by their names (RFC 8259; own).
+-- A line as a JSON object: its words, each with its name (RFC 8259; own).
 use Rattle.std.specs.Prelude.{ℕ, ◌==◌, Bool, true, false, if◌then◌else◌, List, [], ◌∷◌, length, Option, None, Some, option_and_then, option_map, bytes_eq, codes}
 use Rattle.std.specs.Str.Lossy.{utf8_lossy}
 use Rattle.serde_json.specs.Data.{Data, boolean, string, Members, no_members, put}
@@ -9,12 +9,12 @@ use Rattle.cli_answers.specs.Labels.{placed}
 use Rattle.cli_answers.specs.Shapes.{Row, accesses, shapes}
 use Rattle.cli_answers.specs.Values.{Word, places, told}
 
--- Puts a value into an object at its name, unless the name is a dash.
+-- Adds a value to an object as the member `name`, or nothing if the name is a dash.
 abbrev pub with_name : List ℕ → Data → Members → Members
 with_name name d ms = if bytes_eq name (codes "-") then ms else put name d ms
 
--- Adds the values of words to the members `ms`, by the words of a shape and their names. The result is `None` if a word
--- does not fit.
+-- Adds the values of a line's words to the members `ms`. The first argument is what each word may be, with its name.
+-- The result is None if a word does not fit.
 abbrev pub told_by : List (List ℕ × List ℕ) → List Word → Members → Option Members
 told_by [] [] ms = Some ms
 told_by [] (w ∷ ws) ms = None
@@ -23,44 +23,46 @@ told_by (p ∷ ps) (w ∷ ws) ms =
     if bytes_eq p.0 (codes "*") then option_map (λ d. with_name p.1 d ms) (places (w ∷ ws))
     else option_and_then (λ d. told_by ps ws (with_name p.1 d ms)) (told p.0 w)
 
--- Returns the members, if all words fit.
+-- Returns the members if all words of a line fit, else None.
 abbrev pub found : Bool → Members → Option Members
 found true ms = Some ms
 found false ms = None
 
--- Returns an object with only the kind of its line.
+-- Returns an object whose only member is `line`, the kind of line that it describes.
 abbrev pub called : List ℕ → Members
 called line = put (codes "line") (string line) no_members
 
--- Puts the mark of a shape into an object, if the shape has one.
+-- Adds the mark of a shape to an object, a member that is true or false for all lines of the shape. Adds nothing if
+-- the shape has no mark.
 abbrev pub with_mark : Row → Members → Members
 with_mark r ms = if length r.mark == 0 then ms else put r.mark (boolean r.holds) ms
 
--- Returns the members of a line of this shape, or `None` if the line does not fit.
+-- Returns the members of a line's object if the line fits this shape (a pattern of words), else None.
 unfoldable pub shaped : Row → List Word → Option Members
 shaped r words = told_by r.parts words (with_mark r (called r.line))
 
--- Returns the first object if there is one, and otherwise the second.
+-- Returns the first object if there is one, else the second.
 abbrev pub first_by : Option Members → Option Members → Option Members
 first_by None later = later
 first_by (Some ms) later = Some ms
 
--- Returns the members of a line by the first shape that fits, with the place of the line.
+-- Returns the members of a line's object by the first of these shapes that fits, and where the line belongs. Returns
+-- None if no shape fits.
 abbrev pub first_shaped : Held → List Row → List Word → Option Members
 first_shaped h [] words = None
 first_shaped h (r ∷ rs) words =
     first_by (option_map (λ ms. placed r.within h ms) (shaped r words)) (first_shaped h rs words)
 
--- Returns the object of a line that fits no shape, which has the line as a text.
+-- Returns the object of a line that fits no shape: its member `text` is the line.
 abbrev pub unshaped : List ℕ → Members
 unshaped line = put (codes "text") (string (utf8_lossy line)) (called (codes "text"))
 
--- Returns the object that was found, or `ms` if there is none.
+-- Returns the object that was found, or `ms` if none was found.
 abbrev pub or : Option Members → Members → Members
 or None ms = ms
 or (Some found) ms = found
 
--- Returns the object of a line.
+-- Returns the JSON object of a line: of an access or another shape that fits, or else of the line as text.
 unfoldable pub line_object : Held → List ℕ → Members
 line_object h line =
     let words = pieces space line in

@@ -1,4 +1,4 @@
--- Defines the shapes of the lines that are printed, and the names of their words (own).
+-- The shapes of the lines that are printed: patterns of words, and the names of these words in JSON (own).
 use Rattle.std.specs.Prelude.{ℕ, Bool, true, false, List, [], ◌∷◌, codes, map}
 use Rattle.text.specs.Parts.{pieces}
 use Rattle.text.specs.Stop.{space}
@@ -8,8 +8,8 @@ use Rattle.cli_answers.specs.declared.shape.Shape.{Shape}
 use Rattle.cli_answers.specs.declared.shape.Within.{Within}
 use Rattle.cli_answers.specs.declared.shape.Within.TheVariants.{Nothing, Round, Letter, Outbox}
 
--- A shape of lines: the kind of such a line, its words with their names, its mark, which is true of each such line or
--- false of each, and its place.
+-- A shape of lines: the kind of these lines, what each of their words may be with its name, and where the lines
+-- belong. Its mark is a member that is true, or false, for all of these lines.
 pub record Row : Type 0 where
   pub line : List ℕ
   pub parts : List (List ℕ × List ℕ)
@@ -17,7 +17,7 @@ pub record Row : Type 0 where
   pub holds : Bool
   pub within : Within
 
--- Returns the view of a shape in the code.
+-- Returns a shape of the code as contracts see it.
 abbrev pub row_of : Shape → Row
 row_of s = record {
   line = s.line.now;
@@ -27,12 +27,12 @@ row_of s = record {
   within = s.within;
 }
 
--- Returns each word with its name.
+-- Returns each word paired with its name.
 abbrev pub paired : List (List ℕ) → List (List ℕ) → List (List ℕ × List ℕ)
 paired (w ∷ ws) (n ∷ ns) = (w, n) ∷ paired ws ns
 paired _ _ = []
 
--- Returns the shape with these words and names and this mark.
+-- Returns the shape with these words and names, whose mark has the value `holds`.
 abbrev pub marked : List ℕ → List ℕ → List ℕ → List ℕ → Bool → Within → Row
 marked line words names mark holds within = record {
   line = line;
@@ -46,15 +46,15 @@ marked line words names mark holds within = record {
 abbrev pub plain : List ℕ → List ℕ → List ℕ → Within → Row
 plain line words names within = marked line words names [] false within
 
--- Returns the shape of an access with this wording.
+-- Returns the shape of lines that describe an access, where `r` gives the words of the request.
 abbrev pub access_row : asking.Row → Row
 access_row r = record { line = codes "access"; parts = r.parts; mark = []; holds = false; within = Round }
 
--- The shapes of accesses.
+-- The shapes of lines that describe an access, one for each kind of request.
 abbrev pub accesses : List Row
 accesses = map access_row rows
 
--- The shapes of all other lines. A line has the first shape that fits it.
+-- The shapes of all other lines. The first shape that fits a line describes it.
 unfoldable pub shapes : List Row
 shapes =
     plain (codes "version") (codes "chronicle N") (codes "- version") Nothing

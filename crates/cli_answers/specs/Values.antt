@@ -1,4 +1,4 @@
--- Defines the JSON value of a word in a line (RFC 8259).
+-- The JSON value of a word in a printed line (RFC 8259).
 use Rattle.std.specs.Prelude.{ℕ, ◌^◌, nat_lt, true, false, if◌then◌else◌, List, [], ◌∷◌, Option, None, Some, option_map, option_and_then, is_some, bytes_eq, codes}
 use Rattle.std.specs.Str.Lossy.{utf8_lossy}
 use Rattle.combine.specs.Names.{rule_named}
@@ -11,23 +11,24 @@ use Rattle.text.specs.Stop.{dot}
 abbrev pub Word : Type 0
 Word = List ℕ
 
--- Returns `n` if it is below 2^64, and otherwise nothing.
+-- Returns n if it is below 2^64, else None.
 abbrev pub within : ℕ → Option ℕ
 within n = if nat_lt n (2 ^ 64) then Some n else None
 
--- Returns the number that a word is, if it is in decimal without leading zeros and below 2^64.
+-- Returns the number that a word is: decimal, without leading zeros, and below 2^64. Returns None for any other word.
 abbrev pub small : Word → Option ℕ
 small word = option_and_then within (decimal_of word)
 
--- Returns the JSON number that a word is, if it is in decimal without leading zeros and below 2^64.
+-- Returns the JSON number that a word is: decimal, without leading zeros, and below 2^64. Returns None for any other
+-- word.
 abbrev pub number_of : Word → Option Data
 number_of word = option_map (λ n. number (unsigned n)) (small word)
 
--- Returns the JSON number that a word is, or null if the word is `-`.
+-- Returns the JSON number that a word is, or null if it is a dash. Returns None for any other word.
 abbrev pub place_of : Word → Option Data
 place_of word = if bytes_eq word (codes "-") then Some null else number_of word
 
--- Returns a boolean for `yes` or `no`, or null for a dash.
+-- Returns a JSON boolean for `yes` or `no`, or null for a dash. Returns None for any other word.
 abbrev pub yes_no_of : Word → Option Data
 yes_no_of word =
     if bytes_eq word (codes "-") then Some null
@@ -35,30 +36,29 @@ yes_no_of word =
     else if bytes_eq word (codes "no") then Some (boolean false)
     else None
 
--- Returns the values of all words, or `None` if a word has none.
+-- Returns the JSON values of all words, or None if one of them has no value.
 abbrev pub all : (Word → Option Data) → List Word → Option Items
 all tells [] = Some no_items
 all tells (w ∷ ws) = option_and_then (λ d. option_map (item d) (all tells ws)) (tells w)
 
--- Returns numbers joined by dots as an array.
+-- Returns numbers joined by dots, such as `0.2`, as a JSON array, or None for any other word.
 abbrev pub numbers_of : Word → Option Data
 numbers_of word = option_map array (all number_of (pieces dot word))
 
--- Returns numbers joined by dots as an array, which is empty for a dash.
+-- Returns numbers joined by dots, such as `0.2`, as a JSON array, or an empty array for a dash.
 abbrev pub joined : Word → Option Data
 joined word = if bytes_eq word (codes "-") then Some (array no_items) else numbers_of word
 
--- Returns words as an array of numbers, with null for a dash.
+-- Returns words as a JSON array of numbers, with null for each dash, or None if a word is neither.
 abbrev pub places : List Word → Option Data
 places words = option_map array (all place_of words)
 
--- Returns the word of a rule, as a text.
+-- Returns the word of a decision rule as a JSON text, or None for any other word.
 abbrev pub rule_of : Word → Option Data
 rule_of word = if is_some (rule_named word) then Some (string (utf8_lossy word)) else None
 
--- Returns the value of a word, given what the shape has in its place. It is a number for N, a number or null for P, a
--- boolean or null for A, an array of numbers for S, and the word of a rule for C. For anything else, the word must be
--- the same, and is the value.
+-- Returns the JSON value of a word, if it is what `kind` says. For N it is a number, for P a number or null, for A a
+-- boolean or null, for S an array of numbers, and for C the word of a rule. Any other `kind` is the word itself.
 unfoldable pub told : Word → Word → Option Data
 told kind word =
     if bytes_eq kind (codes "N") then number_of word

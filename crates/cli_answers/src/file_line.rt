@@ -1,4 +1,4 @@
-//! Prints the one line for a file as a JSON object with the file's name.
+//! Prints the one line that reports on a file, as a JSON object with the file's name.
 ghost use Rattle.std.specs.Prelude.{◌≡◌, false, IfOk};
 ghost use Rattle.serde_json.specs.View.{members_view};
 ghost use Rattle.serde_json.specs.Written.{members_have_float};
@@ -14,7 +14,7 @@ use crate::refusals::refusal_object;
 use serde_json::{Map, Value, put};
 use std::alloc::{AllocError, Global};
 
-/// Returns an object as a line of JSON, with the file's name in it.
+/// Returns a JSON object as a line of text, with the file's name as its member `file`.
 #[tactic(auto, using(crate::proofs::CleanLemmas::file_clean))]
 fn named(alloc: Global, file: &str, object: Map<String, Value>) -> Result<Vec<u8>, AllocError>
     requires { members_have_float (members_view object.entries) ≡ false }
@@ -32,7 +32,7 @@ fn named(alloc: Global, file: &str, object: Map<String, Value>) -> Result<Vec<u8
     Ok(out)
 }
 
-/// Returns a line of the answer on this file as a line of JSON.
+/// Returns one line of the answer on a file as a line of JSON: an object with the line's words and the file's name.
 ///
 /// # Errors
 ///
@@ -44,7 +44,7 @@ pub fn answer_of(alloc: Global, file: &str, line: &[u8]) -> Result<Vec<u8>, Allo
     named(alloc, file, object)
 }
 
-/// Returns as a line of JSON why a task is not done on this file.
+/// Returns, as a line of JSON with the file's name, why a task was not done on this file.
 ///
 /// # Errors
 ///

@@ -13,7 +13,8 @@ use std::alloc::{AllocError, Global};
 use streams::{Escaped, Kept};
 use text::line;
 
-/// Appends an object as a line of JSON. Each control character in its strings is escaped, also those that JSON allows.
+/// Appends an object as a line of JSON. All control characters in its strings are escaped, even those that JSON
+/// allows.
 pub(crate) fn push_object(
     alloc: Global,
     out: &mut Vec<u8>,
@@ -33,11 +34,11 @@ pub(crate) fn push_object(
     Ok(())
 }
 
-/// Returns a text as JSON Lines, with an object for each of its lines. The members of the object are the words of the
-/// line, each with its name. If the line has a place in a chronicle, the object also has that place, as the lines
-/// before it describe it.
+/// Returns a text as JSON Lines, with an object for each of its lines. The members of an object are the words of the
+/// line, each with its name. For a line of a chronicle, the object also has the round, general or label to which the
+/// line belongs, as earlier lines name it.
 ///
-/// If the text is the answer of a trial, `place` is the relay in which the program was tried.
+/// For the answer of a trial, `place` gives the number of generals, the commander, the general and the round.
 ///
 /// # Errors
 ///

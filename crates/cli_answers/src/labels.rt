@@ -1,4 +1,4 @@
-//! Puts the place of a line into its object: the round, the general, and the label of a rank.
+//! Adds to a line's JSON object where the line belongs: the round, the general, and the label with a given rank.
 ghost use Rattle.std.specs.Prelude.{◌≡◌, ◌==◌, false, true, IfOk, OnOk, option_and_then, slice_get};
 ghost use Rattle.label.specs.Relay.{IsShape, relay};
 ghost use Rattle.serde_json.specs.View.{items_view, members_view};
@@ -10,7 +10,8 @@ use label::{Label, Space, count, unrank};
 use serde_json::{Map, Value, put};
 use std::alloc::{AllocError, Global};
 
-/// Checks whether there is a relay with these numbers.
+/// Checks whether the numbers can occur in a campaign: at most 13 generals, among them the commander and the general,
+/// and a round from 1 to 5.
 fn is_possible(held: Held) -> bool
     ensures same { result ≡ is_possible held }
     ensures within { result ≡ true → IsShape (shape_of held) }
@@ -22,7 +23,7 @@ fn is_possible(held: Held) -> bool
         && held.round <= 5
 }
 
-/// Returns the label of this rank, among those that the lieutenant relays.
+/// Returns the label with this rank among those that the lieutenant relays in his round, or `None` if there is none.
 fn relayed(held: Held, rank: u64) -> Option<Label>
     requires shape { IsShape (shape_of held) }
     requires lieutenant { (held.general == held.commander) ≡ false }
@@ -40,7 +41,7 @@ fn relayed(held: Held, rank: u64) -> Option<Label>
     unrank(space, size, rank as u32).ok()
 }
 
-/// Returns generals as a list of JSON numbers.
+/// Returns the numbers of generals as JSON numbers.
 fn numbers(alloc: Global, generals: &[u8]) -> Result<Vec<Value>, AllocError>
     ensures { IfOk result (λ all. items_view all.items ≡ numbers generals.now) }
 {
@@ -51,7 +52,7 @@ fn numbers(alloc: Global, generals: &[u8]) -> Result<Vec<Value>, AllocError>
     Ok(all)
 }
 
-/// Puts a label into the object, if there is one.
+/// Adds a label to the object as its member `label`, or nothing for `None`.
 fn put_relayed(
     alloc: Global,
     object: &mut Map<String, Value>,
@@ -68,8 +69,8 @@ fn put_relayed(
     }
 }
 
-/// Puts the label that the commander relays into the object. It is the empty one, of rank 0 in round 1, and there is no
-/// other.
+/// Adds the label that a commander relays to the object. He relays only the empty label, which has rank 0, in round
+/// 1. Nothing is added for another round or rank.
 fn put_own(
     alloc: Global,
     object: &mut Map<String, Value>,
@@ -85,7 +86,8 @@ fn put_own(
     Ok(())
 }
 
-/// Puts the label of this rank into the object, if the general relays one of this rank.
+/// Adds the label with this rank to the object, if the general relays such a label. `held` has the general and the
+/// round.
 #[tactic(auto, unfolding(crate::specs::Labels::label_of), using(crate::proofs::LabelLemmas::own_relayed))]
 fn put_label(
     alloc: Global,
@@ -105,7 +107,8 @@ fn put_label(
     put_relayed(alloc, object, relayed(held, rank))
 }
 
-/// Puts the label of this rank into the object, if there is a rank and a label of it.
+/// Adds the label with this rank to the object. Nothing is added if `rank` is `None`, or if the general relays no
+/// such label.
 fn put_label_of(
     alloc: Global,
     object: &mut Map<String, Value>,
@@ -121,7 +124,8 @@ fn put_label_of(
     }
 }
 
-/// Puts the place of a line into its object, as far as the shape of the line has one.
+/// Adds to a line's object where the line belongs. `within` says what lines of this kind need, and `held` has the
+/// campaign, round and general that earlier lines name.
 pub(crate) fn put_place(
     alloc: Global,
     object: &mut Map<String, Value>,

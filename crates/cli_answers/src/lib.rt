@@ -1,5 +1,5 @@
-//! Serves a request, and prints its answer or its refusal in the form that is asked for: as text, as JSON Lines, or as
-//! one line.
+//! Does the task of a request, and prints the answer in the requested form: as text, as JSON Lines, or as one line.
+//! If the task cannot be done, prints the reason in that form.
 #![tactic(auto)]
 
 mod file_line;

@@ -1,4 +1,4 @@
-//! Turns a line of an answer into a JSON object, by the first shape that fits it.
+//! Turns a line of an answer into a JSON object, by the first shape (a pattern of words) that fits the line.
 ghost use Rattle.std.specs.Prelude.{◌≡◌, IfOk, IfErr, OnOk, map, option_map};
 ghost use Rattle.serde_json.specs.View.{members_view, view};
 ghost use Rattle.text.specs.Parts.{pieces};
@@ -16,7 +16,7 @@ use serde_json::{Map, Value, put};
 use std::alloc::{AllocError, Global};
 use text::{SPACE, piece};
 
-/// Puts a value into the object at its name, unless the name is a dash.
+/// Adds a value to the object as the member `name`. Nothing is added if the name is a dash.
 fn put_named(
     alloc: Global,
     object: &mut Map<String, Value>,
@@ -32,8 +32,8 @@ fn put_named(
     put(object, alloc, name, value)
 }
 
-/// Puts the values of a line's words into the object, by the words of a shape and their names. Returns whether all
-/// words fit.
+/// Adds the values of a line's words to the object. Each of `parts` is what a word may be, and its name in the
+/// object. Returns whether all words fit.
 fn put_told(
     alloc: Global,
     object: &mut Map<String, Value>,
@@ -65,7 +65,7 @@ fn put_told(
     Ok(rest.is_none())
 }
 
-/// Returns an object with only the kind of its line.
+/// Returns an object whose only member is `line`, the kind of line that it describes.
 pub(crate) fn called(alloc: Global, line: &str) -> Result<Map<String, Value>, AllocError>
     ensures { IfOk result (λ object. members_view object.entries ≡ called line.now) }
 {
@@ -79,7 +79,8 @@ pub(crate) fn called(alloc: Global, line: &str) -> Result<Map<String, Value>, Al
     Ok(object)
 }
 
-/// Puts the mark of a shape into the object, if the shape has one.
+/// Adds the mark of a shape to the object: a member that is true, or false, for all lines of this shape. Nothing is
+/// added if the shape has no mark.
 fn put_mark(alloc: Global, object: &mut Map<String, Value>, shape: &Shape) -> Result<(), AllocError>
     ensures { OnOk result (members_view object.new.entries
         ≡ with_mark (row_of shape.now) (members_view object.old.entries)) }
@@ -90,7 +91,7 @@ fn put_mark(alloc: Global, object: &mut Map<String, Value>, shape: &Shape) -> Re
     put(object, alloc, shape.mark, Value::Bool(shape.holds))
 }
 
-/// Returns the object of a line of this shape, or `None` if the line does not fit.
+/// Returns the JSON object of a line that fits this shape (a pattern of words), or `None` if the line does not fit.
 #[tactic(auto, unfolding(crate::specs::Objects::shaped))]
 fn shaped(
     alloc: Global,
@@ -109,8 +110,9 @@ fn shaped(
     }
 }
 
-/// Returns the JSON object of a printed line, by the first of these shapes that fits the line. If the shape says so, the
-/// object also has the round, general and label to which the line belongs. Returns `None` if no shape fits.
+/// Returns the JSON object of a printed line, by the first of these shapes (patterns of words) that fits it. If the
+/// shape says so, the object also has the round, general or label to which the line belongs. Returns `None` if no
+/// shape fits.
 fn first_shaped(
     alloc: Global,
     held: Held,
@@ -130,8 +132,8 @@ fn first_shaped(
     Ok(None)
 }
 
-/// Returns the object of a line that describes an access, with the place of the line. Its shape is that of the first of
-/// `wordings` that fits the line. Returns `None` if none fits.
+/// Returns the JSON object of a line that describes an access to the board, with its round. The first of `wordings`
+/// (one for each kind of request) that fits the line names the line's words. Returns `None` if none fits.
 fn access_object(
     alloc: Global,
     held: Held,
@@ -152,7 +154,7 @@ fn access_object(
     Ok(None)
 }
 
-/// Returns the object of a line that fits no shape, which has the line as a text.
+/// Returns the JSON object of a line that fits no shape (pattern of words). Its member `text` is the line.
 pub(crate) fn unshaped(alloc: Global, line: &[u8]) -> Result<Map<String, Value>, AllocError>
     ensures { IfOk result (λ object. members_view object.entries ≡ unshaped line.now) }
 {
@@ -161,7 +163,7 @@ pub(crate) fn unshaped(alloc: Global, line: &[u8]) -> Result<Map<String, Value>,
     Ok(object)
 }
 
-/// Returns the object of a line.
+/// Returns the JSON object of a line. `held` is what earlier lines say about where the line belongs.
 #[tactic(auto, unfolding(crate::specs::Objects::line_object))]
 pub(crate) fn line_object(
     alloc: Global,

@@ -1,4 +1,4 @@
-//! Finds the line of an answer that says how a task ended, and the name of the file that is judged.
+//! Finds the line of an answer that says how a task ended, and the name of the file that the task is about.
 ghost use Rattle.std.specs.Prelude.{◌≡◌, find, option_map};
 ghost use Rattle.text.specs.Parts.{before, lines_of};
 ghost use Rattle.text.specs.Stop.{feed};
@@ -7,8 +7,8 @@ ghost use Rattle.cli_answers.specs.Printing.{is_verdict, judged, outcome};
 use cli_words::Task;
 use text::{Stop, cut, line};
 
-/// Returns the name of the file that is judged: the chronicle for an audit, and otherwise the only file or the first
-/// one.
+/// Returns the name of the file that a task is about: the chronicle for an audit, and otherwise the only file or the
+/// first one. The name is empty if the task has no file.
 pub(crate) fn judged(task: &Task) -> &str
     ensures { result.now ≡ judged task.now }
 {
@@ -18,7 +18,7 @@ pub(crate) fn judged(task: &Task) -> &str
     }
 }
 
-/// Returns the text before its first line feed.
+/// Returns the text up to its first line feed, or all of it if it has none.
 pub(crate) fn first_line(text: &[u8]) -> &[u8]
     ensures { result.now ≡ before feed text.now }
 {
@@ -26,14 +26,14 @@ pub(crate) fn first_line(text: &[u8]) -> &[u8]
     line
 }
 
-/// Checks whether the line is a verdict on a campaign.
+/// Checks whether the line is a verdict on a campaign: it begins with `verdict `.
 fn is_verdict(line: &[u8]) -> bool
     ensures { result ≡ is_verdict line.now }
 {
     line.strip_prefix(b"verdict ").is_some()
 }
 
-/// Returns the first line that is a verdict, if there is one.
+/// Returns the first line of the text that is a verdict on a campaign, or `None` if there is none.
 fn verdict(text: &[u8]) -> Option<&[u8]>
     ensures { option_map (λ l. l.now) result ≡ find is_verdict (lines_of text.now) }
 {
@@ -47,7 +47,7 @@ fn verdict(text: &[u8]) -> Option<&[u8]>
     None
 }
 
-/// Returns the line that says how the task ended: the first verdict or, without one, the first line.
+/// Returns the line that says how a task ended: the first verdict or, if there is none, the first line.
 pub(crate) fn outcome(text: &[u8]) -> &[u8]
     ensures { result.now ≡ outcome text.now }
 {

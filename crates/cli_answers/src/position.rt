@@ -1,4 +1,4 @@
-//! Keeps the place of a line in a chronicle: its campaign, its round and its letter.
+//! Keeps track of where a line of a chronicle belongs: its campaign, its round and its letter.
 ghost use Rattle.std.specs.Prelude.{◌≡◌};
 ghost use Rattle.serde_json.specs.View.{members_view};
 ghost use Rattle.cli_answers.specs.Labels.{at_first, heard, held_by, number_at};
@@ -6,18 +6,18 @@ ghost use Rattle.cli_answers.specs.Labels.{at_first, heard, held_by, number_at};
 use label::Shape;
 use serde_json::{Map, Value};
 
-/// What the lines so far say of the campaign and the letter to which the next line belongs. Each number is 0 until a
-/// line contains it.
+/// What earlier lines of a text say about where the next line belongs. Each number is 0 until a line contains it.
 #[derive(Clone, Copy)]
 pub(crate) struct Held {
     pub generals: u64,
     pub commander: u64,
     pub round: u64,
-    /// The general whose letter it is.
+    /// The general whose letter the line is in.
     pub general: u64,
 }
 
-/// Returns the number that the object has at this name, if it has one.
+/// Returns the number that the object has as its member `name`. Returns `None` if it has no such member, or if the
+/// member is not a number from 0 to 2^64 - 1.
 pub(crate) fn number_at(object: &Map<String, Value>, name: &str) -> Option<u64>
     ensures { result ≡ number_at name.now (members_view object.now.entries) }
 {
@@ -28,7 +28,7 @@ pub(crate) fn number_at(object: &Map<String, Value>, name: &str) -> Option<u64>
 }
 
 impl Held {
-    /// Returns what is known before the first line, which is nothing.
+    /// Returns what is known before the first line of a text: nothing.
     pub(crate) fn at_first() -> Held
         ensures { result ≡ at_first }
     {
@@ -40,8 +40,8 @@ impl Held {
         }
     }
 
-    /// Returns what is known before the first line of a text. If the text is the answer of a trial, `place` is the
-    /// relay in which the program was tried.
+    /// Returns what is known before the first line of a text. For the answer of a trial, this is `place`: the number
+    /// of generals, the commander, the general and the round.
     pub(crate) fn by(place: Option<Shape>) -> Held
         ensures { result ≡ held_by place }
     {
@@ -56,7 +56,7 @@ impl Held {
         }
     }
 
-    /// Returns what is known after one more line. `object` describes this line, and replaces what it has of `self`.
+    /// Returns what is known after the line that `object` describes. The numbers in `object` replace those in `self`.
     pub(crate) fn behind(self, object: &Map<String, Value>) -> Held
         ensures { result ≡ heard self (members_view object.now.entries) }
     {

@@ -1,4 +1,5 @@
-//! Lays out an answer or a refusal in the form that is asked for: as text, as JSON, or as one line.
+//! Lays out an answer, or the reason why a task was not done, in the requested form: as text, as JSON, or as one
+//! line.
 ghost use Rattle.std.specs.Prelude.{◌≡◌, IfOk, IfSome};
 ghost use Rattle.cli_answers.specs.Printing.{answer_as, named_line, refusal_as};
 
@@ -8,7 +9,7 @@ use label::Shape;
 use std::alloc::{AllocError, Global};
 use streams::FileName;
 
-/// Returns a line with its file's name before it.
+/// Returns a line with its file's name before it, such as `a.toml: sound`.
 fn named_line(alloc: Global, name: &str, line: &[u8]) -> Result<Vec<u8>, AllocError>
     ensures { IfOk result (λ all. IfSome (named_line name.now line.now) (λ known. all.items ≡ known)) }
 {
@@ -19,8 +20,8 @@ fn named_line(alloc: Global, name: &str, line: &[u8]) -> Result<Vec<u8>, AllocEr
     Ok(lines)
 }
 
-/// Returns an answer's text in the form that is asked for. If it is the answer of a trial, `place` is the relay in
-/// which the program was tried.
+/// Returns the text of an answer in the requested form. For the answer of a trial, `place` gives the number of
+/// generals, the commander, the general and the round.
 pub(crate) fn answer_lines(
     alloc: Global,
     request: &TaskRequest,
@@ -38,7 +39,7 @@ pub(crate) fn answer_lines(
     }
 }
 
-/// Returns a refusal's text in the form that is asked for.
+/// Returns the text that says why a task was not done, in the requested form.
 pub(crate) fn refusal_lines(
     alloc: Global,
     request: &TaskRequest,

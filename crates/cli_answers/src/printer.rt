@@ -1,4 +1,4 @@
-//! Prints answers and refusals in the form that is asked for, and returns the exit status.
+//! Prints an answer, or the reason why a task was not done, in the requested form. Returns the exit status.
 ghost use Rattle.std.specs.Prelude.{◌≡◌, ◌⊎◌, IfSome, codes};
 ghost use Rattle.std.specs.Io.KnownBytes.{Appends};
 ghost use Rattle.cli_tasks.specs.Serving.{Tells};
@@ -11,7 +11,7 @@ use label::Shape;
 use std::alloc::Global;
 use streams::Output;
 
-/// Reports that memory ran out. Returns the exit status 3.
+/// Reports on `fault` that memory ran out, and returns the exit status 3.
 pub(crate) fn lacking<F: Output>(fault: &mut F) -> u8
     ensures status { result ≡ 3 }
     ensures memory { Tells (F.fails fault.old) (F.contents fault.old) (F.contents fault.new) (codes "out of memory") }
@@ -20,7 +20,7 @@ pub(crate) fn lacking<F: Output>(fault: &mut F) -> u8
     3
 }
 
-/// Reports that the output failed. Returns the exit status 1.
+/// Reports on `fault` that an output could not be written, and returns the exit status 1.
 fn unwritten<F: Output>(fault: &mut F) -> u8
     ensures status { result ≡ 1 }
     ensures told { Tells (F.fails fault.old) (F.contents fault.old) (F.contents fault.new) (codes "fault write") }
@@ -29,8 +29,9 @@ fn unwritten<F: Output>(fault: &mut F) -> u8
     1
 }
 
-/// Prints an answer. If it is the answer of a trial, `place` is the relay in which the program was tried. Returns the
-/// exit status: 0 if the answer was printed, 1 if the output failed, and 3 if there was not enough memory.
+/// Prints an answer on `out` in the requested form. For the answer of a trial, `place` gives the number of generals,
+/// the commander, the general and the round. Returns the exit status: 0 if the answer was printed, 1 if the output
+/// failed, and 3 if memory ran out.
 pub(crate) fn show_answer<O: Output, F: Output>(
     alloc: Global,
     request: &TaskRequest,
@@ -59,7 +60,8 @@ pub(crate) fn show_answer<O: Output, F: Output>(
     }
 }
 
-/// Prints a refusal. Returns the exit status: 1, or 3 if there was not enough memory.
+/// Prints on `out`, in the requested form, why a task was not done. Returns the exit status: 1, or 3 if memory ran
+/// out.
 pub(crate) fn show_refusal<O: Output, F: Output>(
     alloc: Global,
     request: &TaskRequest,

@@ -1,4 +1,4 @@
-//! Turns the text of a refusal, or of a file's fault, into a JSON object.
+//! Turns the text that says why a task was not done into a JSON object: a file was rejected, or it could not be read.
 ghost use Rattle.std.specs.Prelude.{◌≡◌, IfNone, IfOk, IfSome, OnOk, drop, false, option_and_then, option_map, slice_get, true};
 ghost use Rattle.serde_json.specs.View.{members_view};
 ghost use Rattle.text.specs.Parts.{before, lines_of};
@@ -12,7 +12,7 @@ use serde_json::{Map, Value, put};
 use std::alloc::{AllocError, Global};
 use text::{FEED, SPACE, Stop, cut, line};
 
-/// Returns the bytes before the first stop, and those after it.
+/// Cuts bytes at the first stop. The stop is in neither result, and the second result is empty if there is no stop.
 fn parted(stop: Stop, bytes: &[u8]) -> (&[u8], &[u8])
     ensures front { result.0.now ≡ before stop bytes.now }
     ensures back { result.1.now ≡ behind_stop stop bytes.now }
@@ -24,7 +24,8 @@ fn parted(stop: Stop, bytes: &[u8]) -> (&[u8], &[u8])
     }
 }
 
-/// Checks whether a code says that the verifier rejects a program, also if it is a traitor's.
+/// Checks whether an error code says that the verifier rejects a program: it begins with `V`, or is `S8`, the code
+/// for a traitor's program.
 fn is_unsafe(code: &[u8]) -> bool
     ensures { result ≡ is_unsafe code.now }
 {
@@ -34,7 +35,8 @@ fn is_unsafe(code: &[u8]) -> bool
     }
 }
 
-/// Returns the class of a refusal by its code: `unsafe` if the verifier rejects a program, and otherwise `malformed`.
+/// Returns the class of a rejected file by its error code: `unsafe` if the verifier rejects a program, else
+/// `malformed`.
 fn class_of(code: &[u8]) -> &'static str
     ensures { result.now ≡ class_of code.now }
 {
@@ -45,7 +47,7 @@ fn class_of(code: &[u8]) -> &'static str
     }
 }
 
-/// Returns the sentence after `error: `, or `None` if the line does not begin with that.
+/// Returns a line without its prefix `error: `, or `None` if the line does not begin with it.
 fn behind_mark(line: &[u8]) -> Option<&[u8]>
     ensures some { IfSome result (λ s. (is_reported line.now ≡ true) × (s.now ≡ drop 7 line.now)) }
     ensures none { IfNone result (is_reported line.now ≡ false) }
@@ -53,7 +55,7 @@ fn behind_mark(line: &[u8]) -> Option<&[u8]>
     line.strip_prefix(b"error: ")
 }
 
-/// Returns the sentence of the report in the lines, if there is one.
+/// Returns the first line that begins with `error: `, without this prefix, or `None` if no line begins with it.
 fn reported(lines: &[u8]) -> Option<&[u8]>
     ensures { option_map (λ s. s.now) result ≡ reported (lines_of lines.now) }
 {
@@ -67,14 +69,15 @@ fn reported(lines: &[u8]) -> Option<&[u8]>
     None
 }
 
-/// Checks whether the line of an explanation is neither a note nor a help message.
+/// Checks whether a line of the verifier's explanation is neither a note nor a help message.
 fn is_why(line: &[u8]) -> bool
     ensures { result ≡ is_why line.now }
 {
     line.strip_prefix(b"note: ").is_none() && line.strip_prefix(b"help: ").is_none()
 }
 
-/// Returns the line of an explanation that says why: the last one that is neither a note nor a help message.
+/// Returns the line of the verifier's explanation that says why a program is rejected: the last one that is neither a
+/// note nor a help message. Returns `None` if there is no such line.
 fn why(lines: &[u8]) -> Option<&[u8]>
     ensures { option_map (λ l. l.now) result ≡ why (lines_of lines.now) }
 {
@@ -89,7 +92,7 @@ fn why(lines: &[u8]) -> Option<&[u8]>
     last
 }
 
-/// Returns the first of the lines, if there is one.
+/// Returns the first of the lines, or `None` if there are none.
 fn first_of(lines: &[u8]) -> Option<&[u8]>
     ensures { option_map (λ l. l.now) result ≡ slice_get (lines_of lines.now) 0 }
 {
@@ -97,7 +100,8 @@ fn first_of(lines: &[u8]) -> Option<&[u8]>
     Some(first)
 }
 
-/// Returns what the lines say of a refusal with this code that has no report.
+/// Returns the line that says why a file is rejected with this code, if no line begins with `error: `. Returns `None`
+/// for codes other than the verifier's (`V`) and those of object files (`O`), or if there is no such line.
 fn said<'a>(code: &[u8], lines: &'a [u8]) -> Option<&'a [u8]>
     ensures { option_map (λ l. l.now) result ≡ said code.now (lines_of lines.now) }
 {
@@ -108,7 +112,7 @@ fn said<'a>(code: &[u8], lines: &'a [u8]) -> Option<&'a [u8]>
     }
 }
 
-/// Returns why a file is rejected with this code, if the lines say so.
+/// Returns the sentence that says why a file is rejected with this code, or `None` if the lines do not have one.
 fn sentence_of<'a>(code: &[u8], lines: &'a [u8]) -> Option<&'a [u8]>
     ensures { option_map (λ s. s.now) result ≡ sentence_of code.now (lines_of lines.now) }
 {
@@ -118,7 +122,7 @@ fn sentence_of<'a>(code: &[u8], lines: &'a [u8]) -> Option<&'a [u8]>
     }
 }
 
-/// Returns the second of the lines, if there is one.
+/// Returns the second of the lines, or `None` if there are fewer than two.
 fn second_of(lines: &[u8]) -> Option<&[u8]>
     ensures { option_map (λ l. l.now) result ≡ second_of (lines_of lines.now) }
 {
@@ -126,14 +130,15 @@ fn second_of(lines: &[u8]) -> Option<&[u8]>
     first_of(behind)
 }
 
-/// Returns the text after ` is named by `, if the words begin with that.
+/// Returns the words without the prefix ` is named by `, or `None` if they do not begin with it.
 fn namer_behind(words: &[u8]) -> Option<&[u8]>
     ensures { option_map (λ k. k.now) result ≡ namer_behind words.now }
 {
     words.strip_prefix(b" is named by ")
 }
 
-/// Returns where a file is named: the text after the last ` is named by ` in a line.
+/// Returns where a file is named: the text after the last ` is named by ` in a line, or `None` if the line has no
+/// such words.
 fn namer(line: &[u8]) -> Option<&[u8]>
     ensures { option_map (λ k. k.now) result ≡ namer line.now }
 {
@@ -148,7 +153,8 @@ fn namer(line: &[u8]) -> Option<&[u8]>
     last
 }
 
-/// Returns where the object file is named that is rejected with this code, if the lines say so.
+/// Returns where a scenario names the object file that is rejected with this code. Returns `None` for another kind of
+/// file (the code does not begin with `O`), or if the second line does not say where.
 fn namer_of<'a>(code: &[u8], lines: &'a [u8]) -> Option<&'a [u8]>
     ensures { option_map (λ k. k.now) result ≡ namer_of code.now (lines_of lines.now) }
 {
@@ -158,14 +164,14 @@ fn namer_of<'a>(code: &[u8], lines: &'a [u8]) -> Option<&'a [u8]>
     }
 }
 
-/// Returns where the file with the fault is named, if the lines say so.
+/// Returns where a scenario names the file that could not be read, or `None` if the first line does not say it.
 fn namer_of_fault(lines: &[u8]) -> Option<&[u8]>
     ensures { option_map (λ k. k.now) result ≡ option_and_then namer (slice_get (lines_of lines.now) 0) }
 {
     namer(first_of(lines)?)
 }
 
-/// Puts into the object where a file is named, if that is known.
+/// Adds where a file is named to the object, as its member `named_by`. Nothing is added for `None`.
 fn put_namer(
     alloc: Global,
     object: &mut Map<String, Value>,
@@ -180,7 +186,7 @@ fn put_namer(
     }
 }
 
-/// Puts a sentence into the object, if there is one.
+/// Adds a sentence to the object as its member `sentence`. Nothing is added for `None`.
 fn put_sentence(
     alloc: Global,
     object: &mut Map<String, Value>,
@@ -195,7 +201,7 @@ fn put_sentence(
     }
 }
 
-/// Puts a text into the object at this name.
+/// Adds a text to the object as the member `name`. Bytes that are not UTF-8 become replacement characters.
 fn put_text(
     alloc: Global,
     object: &mut Map<String, Value>,
@@ -208,8 +214,8 @@ fn put_text(
     put(object, alloc, name, spelled(alloc, text)?)
 }
 
-/// Returns the object of a refusal: its code, its place and its class. The lines after the first add where an object
-/// file is named, and why the file is rejected.
+/// Returns the JSON object for a rejected file: its error code, the place of the error (both from `told`), and its
+/// class. `lines` may add where an object file is named, and why the file is rejected.
 fn refused(alloc: Global, told: &[u8], lines: &[u8]) -> Result<Map<String, Value>, AllocError>
     ensures { IfOk result (λ object. members_view object.entries ≡ refused_object told.now (lines_of lines.now)) }
 {
@@ -228,8 +234,8 @@ fn refused(alloc: Global, told: &[u8], lines: &[u8]) -> Result<Map<String, Value
     Ok(object)
 }
 
-/// Returns the object of a file's fault: the fault, the file as its place, and its class. The lines after the first add
-/// where the file is named, and the sentence of the report.
+/// Returns the JSON object for a file that could not be read: the fault, the file as its place (both from `told`),
+/// and its class. `lines` may add where the file is named, and a sentence that says why.
 fn fault(alloc: Global, told: &[u8], lines: &[u8]) -> Result<Map<String, Value>, AllocError>
     ensures { IfOk result (λ object. members_view object.entries ≡ fault_object told.now (lines_of lines.now)) }
 {
@@ -248,7 +254,8 @@ fn fault(alloc: Global, told: &[u8], lines: &[u8]) -> Result<Map<String, Value>,
     Ok(object)
 }
 
-/// Returns the object of the text that says why a task is not done.
+/// Returns the JSON object for the text that says why a task was not done. A first line that reports neither a
+/// rejected file nor a file's fault becomes a member `text`.
 #[tactic(auto, unfolding(crate::specs::Refusals::refusal_object))]
 pub(crate) fn refusal_object(alloc: Global, text: &[u8]) -> Result<Map<String, Value>, AllocError>
     ensures { IfOk result (λ object. members_view object.entries ≡ refusal_object text.now) }
@@ -264,10 +271,10 @@ pub(crate) fn refusal_object(alloc: Global, text: &[u8]) -> Result<Map<String, V
     }
 }
 
-/// Returns as a line of JSON why a task is not done. For a refusal, the object has the code, the place, and the class:
-/// the file is malformed, or its program is unsafe. For a file's fault, the object has the fault, and the file as its
-/// place. The sentence that says why is included if the lines after the first have it, and so is where a scenario names
-/// the file.
+/// Returns as a line of JSON why a task was not done. For a rejected file, the object has the error code, the place,
+/// and the class `malformed` or `unsafe`. For a file that could not be read, it has the fault, and the file as its
+/// place. If later lines have a sentence that says why, or say where a scenario names the file, the object has these,
+/// too.
 ///
 /// # Errors
 ///

@@ -1,4 +1,5 @@
-//! Serves a request: does its task, and prints the answer or the refusal in the form that is asked for.
+//! Serves a request: does its task, and prints the answer or the reason why the task was not done, in the requested
+//! form.
 ghost use Rattle.std.specs.Prelude.{◌≡◌, ◌⊎◌, IfSome, IsSomeAnd, codes, false, true};
 ghost use Rattle.cli_tasks.specs.Serving.{IsFault, Tells, files};
 ghost use Rattle.streams.specs.Writing.{AppendsFront};
@@ -14,15 +15,15 @@ use std::sync::Wait;
 use std::thread::Threads;
 use streams::{Output, Source};
 
-/// Checks whether JSON or one line is asked for.
+/// Checks whether a request asks for JSON or for one line.
 fn is_shaped(request: &TaskRequest) -> bool
     ensures { result ≡ is_shaped request.now }
 {
     request.json || request.verdicts
 }
 
-/// Serves a request. Without JSON and one line, it does the task as `cli_tasks::serve` does. If JSON or one line is
-/// asked for, it prints the answer or the refusal on `out` in that form.
+/// Serves a request. If it asks for neither JSON nor one line, does the task as `cli_tasks::serve` does. Otherwise
+/// prints on `out`, in the requested form, the answer or why the task was not done.
 ///
 /// Returns the exit status: 0 if the task is done, 3 if there is not enough memory, and 1 otherwise, for example if a
 /// file is rejected or the output fails.
@@ -81,9 +82,9 @@ where
     }
 }
 
-/// Prints this line, which says why the task is not done: a file of the task does not open, or is not accepted. The
-/// line goes to `fault` or, if JSON or one line is asked for, to `out` in that form. Returns the exit status: 1, or 3
-/// if there is not enough memory.
+/// Prints `line`, which says why the task was not done: a file of the task does not open, or is not accepted. It is
+/// printed on `fault` or, if the request asks for JSON or one line, on `out` in that form. Returns the exit status:
+/// 1, or 3 if memory ran out.
 pub fn turned_down<D, O, F>(
     alloc: Global,
     request: &TaskRequest,
@@ -116,8 +117,8 @@ where
     1
 }
 
-/// Prints this line as a refusal, in the form that is asked for. Returns the exit status: 1, or 3 if there is not
-/// enough memory.
+/// Prints `line`, which says why the task was not done, on `out` in the requested form. Returns the exit status: 1,
+/// or 3 if memory ran out.
 fn shown<D, O, F>(alloc: Global, request: &TaskRequest, line: D, out: &mut O, fault: &mut F) -> u8
 where
     D: Display + Drop,

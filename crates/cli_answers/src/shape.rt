@@ -1,42 +1,42 @@
-//! Lists the shapes of the lines that are printed, and the names of their words in JSON.
+//! Lists the shapes of the lines that are printed: patterns of words, and the names of these words in JSON.
 ghost use Rattle.std.specs.Prelude.{◌≡◌, map};
 ghost use Rattle.board.specs.Wording as asking;
 ghost use Rattle.cli_answers.specs.Shapes.{access_row, row_of, shapes};
 
 use board::Wording;
 
-/// The place of a line in a chronicle, which is put into its object.
+/// What a line's JSON object gets in addition to the line's words, to say where in a chronicle the line belongs.
 #[derive(Clone, Copy, PartialEq, Eq)]
 pub(crate) enum Within {
-    /// The line has no place.
+    /// The object gets nothing more.
     Nothing,
-    /// The line is in a round.
+    /// The object gets the round.
     Round,
-    /// The line is in a letter of a round.
+    /// The object gets the round, the general whose letter the line is in, and the label with the line's rank.
     Letter,
-    /// The line is in an outbox, where a rank has its label.
+    /// The object gets the label with the line's rank.
     Outbox,
 }
 
-/// A shape of lines: what its words are, and their names.
+/// A shape of lines: what each of their words is, and its name in JSON.
 #[derive(Clone, Copy)]
 pub(crate) struct Shape {
-    /// The kind of such a line.
+    /// The kind of these lines, which is the value of the member `line`.
     pub line: &'static str,
-    /// The words of such a line, each with its name, or with a dash if it is left out of the object. `N` is a number,
-    /// `P` a number or a dash, `A` yes, no or a dash, `S` numbers joined by dots or a dash, and `C` the word of a rule.
-    /// `*` is all words that are left, each a number or a dash. Any other word is itself.
+    /// For each word what it may be, and its name, or a dash if the object leaves the word out. `N` is a number, `P`
+    /// a number or a dash, `A` yes, no or a dash, `S` numbers joined by dots or a dash, and `C` the word of a rule.
+    /// `*` is any number of further words, each a number or a dash. Anything else is the word itself.
     pub parts: &'static [(&'static str, &'static str)],
-    /// The mark: the name of a member with one value, true or false, in the objects of all such lines. It is empty if
-    /// there is no mark.
+    /// The mark: the name of a member that is true, or false, in the objects of all these lines. It is empty if there
+    /// is no mark.
     pub mark: &'static str,
     /// The value of the mark, or false if there is no mark.
     pub holds: bool,
-    /// The place of such a line.
+    /// What the object gets in addition, to say where the line belongs.
     pub within: Within,
 }
 
-/// The shapes of all lines except accesses. A line has the first shape that fits it.
+/// The shapes of all lines except accesses. The first shape that fits a line describes it.
 const SHAPES: &[Shape] = &[
     Shape {
         line: "version",
@@ -270,7 +270,7 @@ const SHAPES: &[Shape] = &[
     },
 ];
 
-/// Returns the shape of an access with this wording.
+/// Returns the shape of lines that describe an access, where `wording` gives the words of the request.
 pub(crate) fn access_shape(wording: &Wording) -> Shape
     ensures { row_of result ≡ access_row (asking.row_of wording.now) }
 {

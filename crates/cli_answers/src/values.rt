@@ -1,4 +1,4 @@
-//! Turns a word of a line into a JSON value.
+//! Turns a word of a printed line into a JSON value.
 ghost use Rattle.std.specs.Prelude.{◌≡◌, IfOk, option_map};
 ghost use Rattle.std.specs.Str.Lossy.{utf8_lossy};
 ghost use Rattle.serde_json.specs.Data.{string};
@@ -12,7 +12,8 @@ use serde_json::Value;
 use std::alloc::{AllocError, Global};
 use text::{DOT, SPACE, decimal, piece};
 
-/// Reads a number of 64 bits, in decimal without leading zeros.
+/// Returns the number that `word` is: decimal, without leading zeros, and below 2^64. Returns `None` for any other
+/// word.
 fn small(word: &[u8]) -> Option<u64>
     ensures { result ≡ small word.now }
 {
@@ -29,7 +30,7 @@ fn number(word: &[u8]) -> Option<Value>
     Some(Value::from(number))
 }
 
-/// Returns a number as a value, or null for a dash.
+/// Returns a number as a JSON value, or null for a dash. Returns `None` for any other word.
 fn place(word: &[u8]) -> Option<Value>
     ensures { option_map view result ≡ place_of word.now }
 {
@@ -39,7 +40,7 @@ fn place(word: &[u8]) -> Option<Value>
     number(word)
 }
 
-/// Returns a boolean for `yes` or `no`, or null for a dash.
+/// Returns a JSON boolean for `yes` or `no`, or null for a dash. Returns `None` for any other word.
 fn yes_no(word: &[u8]) -> Option<Value>
     ensures { option_map view result ≡ yes_no_of word.now }
 {
@@ -54,7 +55,7 @@ fn yes_no(word: &[u8]) -> Option<Value>
     }
 }
 
-/// Returns numbers joined by dots as an array, or `None` for any other word.
+/// Returns numbers joined by dots, such as `0.2`, as a JSON array, or `None` for any other word.
 fn numbers(alloc: Global, word: &[u8]) -> Result<Option<Value>, AllocError>
     ensures { IfOk result (λ o. option_map view o ≡ numbers_of word.now) }
 {
@@ -71,7 +72,8 @@ fn numbers(alloc: Global, word: &[u8]) -> Result<Option<Value>, AllocError>
     Ok(Some(Value::Array(items)))
 }
 
-/// Returns numbers joined by dots as an array, which is empty for a dash.
+/// Returns numbers joined by dots, such as `0.2`, as a JSON array, or an empty array for a dash. Returns `None` for
+/// any other word.
 fn joined(alloc: Global, word: &[u8]) -> Result<Option<Value>, AllocError>
     ensures { IfOk result (λ o. option_map view o ≡ joined word.now) }
 {
@@ -81,7 +83,8 @@ fn joined(alloc: Global, word: &[u8]) -> Result<Option<Value>, AllocError>
     numbers(alloc, word)
 }
 
-/// Returns all words that are left of a line as an array of numbers, with null for a dash.
+/// Returns words separated by spaces as a JSON array of numbers, with null for a dash. Returns `None` if a word is
+/// neither. If `words` is `None`, the array is empty.
 pub(crate) fn places(alloc: Global, words: Option<&[u8]>) -> Result<Option<Value>, AllocError>
     ensures { IfOk result (λ o. option_map view o ≡ places (left space words.entry)) }
 {
@@ -98,7 +101,7 @@ pub(crate) fn places(alloc: Global, words: Option<&[u8]>) -> Result<Option<Value
     Ok(Some(Value::Array(items)))
 }
 
-/// Returns the word of a rule as a text, or `None` for any other word.
+/// Returns the word of a decision rule as a JSON text, or `None` for any other word.
 fn rule(alloc: Global, word: &[u8]) -> Result<Option<Value>, AllocError>
     ensures { IfOk result (λ o. option_map view o ≡ rule_of word.now) }
 {
@@ -108,9 +111,9 @@ fn rule(alloc: Global, word: &[u8]) -> Result<Option<Value>, AllocError>
     }
 }
 
-/// Returns the value of a word, given what the shape has in its place. It is a number for `N`, a number or null for
-/// `P`, a boolean or null for `A`, an array of numbers for `S`, and the word of a rule for `C`. For anything else, the
-/// word must be the same, and is the value. Returns `None` if the word does not fit.
+/// Returns the JSON value of a word, if it is what `kind` says. For `N` it is a number, for `P` a number or null, for
+/// `A` a boolean or null, for `S` an array of numbers, and for `C` the word of a rule. Any other `kind` is the word
+/// itself. Returns `None` if the word does not fit.
 #[tactic(auto, unfolding(crate::specs::Values::told))]
 pub(crate) fn told(alloc: Global, kind: &[u8], word: &[u8]) -> Result<Option<Value>, AllocError>
     ensures { IfOk result (λ o. option_map view o ≡ told kind.now word.now) }
@@ -132,7 +135,7 @@ pub(crate) fn told(alloc: Global, kind: &[u8], word: &[u8]) -> Result<Option<Val
     }
 }
 
-/// Returns a word as a text, with replacement characters for what is not UTF-8.
+/// Returns a word as a JSON text. Bytes that are not UTF-8 become replacement characters.
 pub(crate) fn spelled(alloc: Global, word: &[u8]) -> Result<Value, AllocError>
     ensures { IfOk result (λ v. view v ≡ string (utf8_lossy word.now)) }
 {

@@ -1,10 +1,10 @@
--- The first element that passes a test, found or not.
+-- The search for the first element that passes a test.
 use Rattle.std.proofs.Common.{ℕ, ◌<◌, ◌≡◌, ◌≢◌, Bool, true, false, cond, List, [], ◌∷◌, refl, sym, ap, ◌∙◌, arith, inl, inr, Option, Some, None}
 use Rattle.std.specs.Prelude.{◌==◌, find, count_by}
 use Rattle.std.proofs.lemmas.Bool.{cases_Bool, cond-true, cond-false, ne_eqb, true≢false}
 use Rattle.std.proofs.lemmas.List.Sums.{sum_by-cons}
 
--- what is found passes
+-- Proves that the element that is found passes the test.
 pub find_passes : {A : Type 0} (t : A → Bool) (xs : List A) (v : A) → find t xs ≡ Some v → t v ≡ true
 find_passes t [] v e = cc
 find_passes t (x ∷ xs) v e = elim (cases_Bool (t x)) [
@@ -12,7 +12,7 @@ find_passes t (x ∷ xs) v e = elim (cases_Bool (t x)) [
   | inr fails ↦ find_passes t xs v (sym (cond-false (t x) (Some x) (find t xs) fails) ∙ e)
 ]
 
--- where nothing is found, one that would pass is nowhere
+-- Proves that if nothing is found, the list does not contain an element that would pass.
 pub find_none : (t : ℕ → Bool) (xs : List ℕ) (v : ℕ) → find t xs ≡ None → t v ≡ true → count_by (λ x. x == v) xs ≡ 0
 find_none t [] v e pass = refl
 find_none t (x ∷ xs) v e pass = elim (cases_Bool (t x)) [
@@ -30,7 +30,7 @@ cases_find t xs A none some = by_cases (find t xs) none some
     by_cases None none some = none refl
     by_cases (Some v) none some = some v refl
 
--- where none passes, none is found
+-- Proves that nothing is found if no element passes.
 pub none_found : (t : ℕ → Bool) (xs : List ℕ) → ((x : ℕ) → t x ≡ true → ⊥) → find t xs ≡ None
 none_found t [] fails = refl
 none_found t (x ∷ xs) fails =

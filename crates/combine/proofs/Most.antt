@@ -1,4 +1,4 @@
--- The order in more than half of the places, as the vote finds it.
+-- The order that makes up more than half of a list, as the vote finds it.
 use Rattle.std.proofs.Common.{ℕ, ◌*◌, ◌<◌, ◌≤◌, ◌≡◌, true, false, List, length, refl, sym, ap, ◌∙◌, arith, Option, Some, None}
 use Rattle.std.specs.Prelude.{count_by, find, unwrap_or, ◌==◌}
 use Rattle.std.proofs.lemmas.Bool.{ltb-true, true≢false}
@@ -7,12 +7,12 @@ use Rattle.combine.specs.Rule.{is_most, majority, NoMajorityIsRetreat}
 use Rattle.combine.specs.Laws.{majority_is_rule, most_found}
 use Rattle.combine.proofs.Found.{none_found}
 
--- the order that is told of it
+-- Proves that the outcome has the order that was found, or the other one.
 pub agreed_order : (other : ℕ) (o : Option ℕ) → outcome_order (agreed_or other o) ≡ unwrap_or o other
 agreed_order other None = refl
 agreed_order other (Some v) = refl
 
--- the candidate of a vote is in more than half of the places, or nothing is
+-- Proves that either the candidate of the vote makes up more than half of the list, or no order does.
 pub voted : (xs : List ℕ) (candidate : ℕ) → is_most xs candidate ≡ true → Some candidate ≡ find (is_most xs) xs
 voted xs candidate it = sym (most_found xs candidate (ltb-true (length xs) (2 * count_by (λ x. x == candidate) xs) it))
 

@@ -1,4 +1,4 @@
--- What holds of each rule: a case for each.
+-- Laws that hold for each rule, with one case for each.
 use Rattle.std.proofs.Common.{ℕ, ◌≡◌, ◌↔◌, Bool, true, refl, sym, List, count_by, Some, bytes_eq}
 use Rattle.std.proofs.lemmas.Slice.Eq.{bytes_eq-Decides}
 use Rattle.std.specs.Prelude.{find}
@@ -10,7 +10,7 @@ use Rattle.combine.specs.Names.{NamesAreWords, default_rule, is_default, is_smal
 use Rattle.combine.proofs.Found.{find_passes}
 use Rattle.combine.proofs.Most.{agreed_order}
 
--- what a list comes to has the order of the rule
+-- Proves that the order in an outcome is the rule's order.
 pub outcomes_law : OutcomesCombine
 unfolding majority
 outcomes_law Majority orders = agreed_order 0 (find (is_most orders) orders)

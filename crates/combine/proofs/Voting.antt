@@ -1,11 +1,11 @@
--- The vote of Boyer and Moore: what a candidate and its lead say of the list so far.
+-- The vote of Boyer and Moore: what the candidate and its lead mean for the orders so far.
 use Rattle.std.proofs.Common.{ℕ, ◌+◌, ◌-◌, ◌*◌, ◌<◌, ◌≤◌, ◌≡◌, ◌≢◌, cond, List, [], ◌∷◌, ◌++◌, length, refl, sym, ◌∙◌, arith, inl, inr, ◌⊎◌}
 use Rattle.std.specs.Prelude.{count_by, ◌==◌}
 use Rattle.std.proofs.lemmas.Bool.{cases_eq, cond-true, cond-false, eq-eqb, ne_eqb}
 use Rattle.std.proofs.lemmas.List.{length_push}
 use Rattle.std.proofs.lemmas.List.Sums.{sum_by-append}
 
--- no other can be in more places than its lead leaves, and it is in no more than that
+-- States that no other order occurs more often than the lead allows, and that the candidate does not either.
 pub record Leads (xs : List ℕ) (candidate lead : ℕ) : Type 0 where
   pub others : (v : ℕ) → v ≢ candidate → 2 * count_by (λ x. x == v) xs + lead ≤ length xs
   pub own : 2 * count_by (λ x. x == candidate) xs ≤ length xs + lead
@@ -52,7 +52,7 @@ leads-other xs candidate lead x l ne some =
 pub leads-only : (xs : List ℕ) (candidate lead v : ℕ) → Leads xs candidate lead → length xs < 2 * count_by (λ x. x == v) xs → candidate ≡ v
 leads-only xs candidate lead v l most = elim (cases_eq v candidate) [ inl same ↦ sym same | inr ne ↦ absurd (let h = l.others v ne in omega arith) ]
 
--- who leads when the next order is looked at
+-- States which candidate leads when the next order is looked at.
 abbrev pub Led : ℕ → ℕ → ℕ → ℕ → Type 0
 Led candidate lead x next = ((lead ≡ 0) × (next ≡ x)) ⊎ ((lead ≢ 0) × (next ≡ candidate))
 

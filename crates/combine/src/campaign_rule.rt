@@ -1,4 +1,4 @@
-//! The rule of a campaign: majority or median, with its name.
+//! Defines the two decision rules of a campaign, majority and median, and their names.
 ghost use Rattle.std.specs.Prelude.{◌≡◌};
 ghost use Rattle.combine.specs.Names.{is_default, rule_named, rule_names};
 ghost use Rattle.combine.specs.Outcome.{outcome_order};
@@ -14,12 +14,12 @@ pub use majority::Majority;
 pub(crate) use majority::most;
 pub use median::Median;
 
-/// The rule by which the lieutenants of a campaign combine orders.
+/// The rule by which the lieutenants of a campaign combine a list of orders into one.
 #[derive(Clone, Copy, PartialEq, Eq)]
 pub enum Rule {
-    /// The order in more than half of the places, or RETREAT if there is none.
+    /// The order that makes up more than half of the list, or RETREAT, 0, if there is none.
     Majority,
-    /// The middle of the sorted orders.
+    /// The order in the middle of the sorted list.
     Median,
 }
 
@@ -44,13 +44,13 @@ impl Combine for Rule {
 }
 
 impl Rule {
-    /// All rules, in the order in which their names are listed.
+    /// All rules, in the order in which messages and help list their names.
     pub const ALL: [Rule; 2] = [Rule::Majority, Rule::Median];
 
-    /// The rule of a campaign that names none.
+    /// The rule of a campaign whose file names no rule.
     pub const DEFAULT: Rule = Rule::Majority;
 
-    /// Returns the name of the rule, as campaign files write it.
+    /// Returns the name of the rule, as it is written in campaign files: `majority` or `median`.
     pub fn name(self) -> &'static str
         ensures { result.now ≡ rule_name self }
     {
@@ -60,14 +60,14 @@ impl Rule {
         }
     }
 
-    /// Returns the names of all rules, as a sentence lists them.
+    /// Returns the names of all rules, as a sentence lists them: `majority or median`.
     pub fn names() -> &'static str
         ensures { result.now ≡ rule_names }
     {
         "majority or median"
     }
 
-    /// Returns the outcome to which the rule combines a list of orders.
+    /// Combines a list of orders by the rule. Returns the resulting order, and how the rule found it.
     #[tactic(auto, using(crate::proofs::Most::agreed_order), unfolding(crate::specs::Rule::majority))]
     pub fn outcome(self, orders: &[u32]) -> Outcome
         ensures value { result ≡ outcome_of self orders.now }
@@ -79,7 +79,7 @@ impl Rule {
         }
     }
 
-    /// Returns the rule with this name, or `None` if no rule has it.
+    /// Returns the rule with the name `word`, or `None` if no rule has this name.
     pub fn named(word: &[u8]) -> Option<Rule>
         ensures { result ≡ rule_named word.now }
     {
@@ -89,7 +89,7 @@ impl Rule {
             .find(|rule| rule.name().as_bytes() == word)
     }
 
-    /// Returns whether the rule is the default rule.
+    /// Checks whether the rule is `DEFAULT`, the rule of a campaign whose file names none.
     pub fn is_default(self) -> bool
         ensures { result ≡ is_default self }
     {

@@ -1,4 +1,4 @@
-//! Rules that combine a list of orders into one order: majority and median (TOPLAS 1982, section 3).
+//! Combines a list of orders into one order, by a rule: majority or median (TOPLAS 1982, section 3).
 #![tactic(auto)]
 
 mod campaign_rule;

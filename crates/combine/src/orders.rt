@@ -1,9 +1,9 @@
-//! A general's own order, inserted among the orders that he received.
+//! Inserts a general's own order among the orders that he received.
 ghost use Rattle.std.specs.Prelude.{◌≡◌, ◌<◌, ◌≤◌, insert, length};
 
 use arrayvec::ArrayVec;
 
-/// Returns the received orders with one's own order inserted at its place. There are at most 12 received orders.
+/// Returns the received orders `told`, at most 12, with the general's own order inserted at the index `place`.
 pub fn orders_of(told: &[u32], place: usize, own: u32) -> ArrayVec<u32, 13>
     requires place { place ≤ length told.now }
     requires few { length told.now < 13 }

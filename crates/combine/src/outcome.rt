@@ -1,23 +1,23 @@
-//! Outcomes: the result of combining a list of orders.
+//! Defines the outcome of combining a list of orders.
 ghost use Rattle.std.specs.Prelude.{◌≡◌, find};
 ghost use Rattle.combine.specs.Outcome.{agreed_or, outcome_order, outcome_head};
 ghost use Rattle.combine.specs.Rule.{is_most};
 
 use crate::campaign_rule::most;
 
-/// The result of combining a list of orders: the order, and how the rule found it.
+/// The outcome of combining a list of orders: the order, and how the rule found it.
 #[derive(Clone, Copy, Drop)]
 pub enum Outcome {
-    /// The order is in more than half of the places.
+    /// This order makes up more than half of the list.
     Agreed(u32),
-    /// No order is in more than half of the places, so this order is taken.
+    /// No order makes up more than half of the list, so this order is taken instead.
     Divided(u32),
-    /// The order is the middle of the sorted list.
+    /// This order is in the middle of the sorted list.
     Middle(u32),
 }
 
 impl Outcome {
-    /// Returns the order of the outcome, which is 0 for RETREAT.
+    /// Returns the order of the outcome. 0 is RETREAT.
     pub fn order(self) -> u32
         ensures { result ≡ outcome_order self }
     {
@@ -26,7 +26,7 @@ impl Outcome {
         }
     }
 
-    /// Returns the words that describe the outcome, before its order.
+    /// Returns the words that describe the outcome and are written before its order, such as `majority `.
     pub fn head(self) -> &'static str
         ensures { result.now ≡ outcome_head self }
     {
@@ -38,7 +38,7 @@ impl Outcome {
     }
 }
 
-/// Returns the order in more than half of the places as `Agreed`. If there is none, it returns the other order as
+/// Returns the order that makes up more than half of the list, as `Agreed`. If there is none, returns `other` as
 /// `Divided`.
 pub(crate) fn by_most(orders: &[u32], other: u32) -> Outcome
     ensures { result ≡ agreed_or other (find (is_most orders.now) orders.now) }

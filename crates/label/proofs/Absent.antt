@@ -12,7 +12,7 @@ none_pass : {A B : Type 0} (t : B → Bool) (f : A → B) (xs : List A) → ((x 
 none_pass t f [] h = refl
 none_pass t f (x ∷ xs) h = cond-false (t (f x)) (f x ∷ filter t (map f xs)) (filter t (map f xs)) (h x) ∙ none_pass t f xs h
 
--- the commander stands on every label
+-- Proves that no label lacks the commander, since he is on every label.
 pub commander-on_all : (n c k : ℕ) → labels n c c k ≡ []
 unfolding labels
 commander-on_all n c zero = refl
@@ -23,7 +23,7 @@ commander-on_all n c (suc k) = none_pass (lacks c) (λ v. c ∷ v) (sequences n 
     here true false e = sym e
     here false b e = refl
 
--- no label is as long as there are generals
+-- Proves that no label has as many generals as there are.
 pub past-the_generals : (n c p k : ℕ) → c < n → p < n → p ≢ c → n ≤ k → length (labels n c p k) ≡ 0
 past-the_generals n c p zero inside within ne l = absurd (omega arith)
 past-the_generals n c p (suc zero) inside within ne l = absurd (omega arith)
@@ -31,7 +31,7 @@ past-the_generals n c p (suc (suc k)) inside within ne l =
     let none : n - 2 - k ≡ 0 = omega arith in
     rw (count_is_product n c p k inside within ne, none) (omega arith)
 
--- the lists that are empty for one of these reasons
+-- Proves that the list is empty for one of these reasons.
 pub none-listed : (s : Space) (k : ℕ) → IsWithinLimits s → (k ≡ 0) ⊎ ((s.generals ≤ k) ⊎ (s.general ≡ s.commander)) → 0 ≡ length (labels_of s k)
 unfolding labels
 none-listed s k is why = elim (cases_eq s.general s.commander) [
@@ -48,7 +48,7 @@ none-listed s k is why = elim (cases_eq s.general s.commander) [
     nothing : (s : Space) → labels s.generals s.commander s.general 0 ≡ []
     nothing s = refl
 
--- where a list is a label that lacks the general, he is a lieutenant
+-- Proves that if a list is a label that the space's general is not on, he is a lieutenant.
 pub lieutenant-lacks : (s : Space) (w : List ℕ) → IsWithinLimits s → is_label_of s w ≡ true → IsSpace s
 lieutenant-lacks s [] is e = absurd (false≢true e)
 lieutenant-lacks s (x ∷ xs) is e =
@@ -57,7 +57,7 @@ lieutenant-lacks s (x ∷ xs) is e =
     let apart : x ≢ s.general = eqb-false x s.general (or_parts (x == s.general) (on xs s.general) (not-true (on (x ∷ xs) s.general) outer.1)).0 in
     record { generals = is.generals; commander = is.commander; general = is.general; lieutenant = λ same. apart (first ∙ sym same) }
 
--- where a label stands, the general is a lieutenant, and the label has fewer generals than there are
+-- Proves that if a rank exists, the space's general is a lieutenant, and the label has 1 to 13 generals.
 pub lieutenant-has : (s : Space) (k r : ℕ) → IsWithinLimits s → r < length (labels_of s k) → IsSpace s × (0 < k) × (k ≤ 13)
 lieutenant-has s k r is l =
     let lieutenant : s.general ≢ s.commander = λ e. none s k r is (inr (inr e)) l in

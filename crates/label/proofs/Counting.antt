@@ -1,4 +1,4 @@
--- Membership, and counts of the generals outside of a label.
+-- Membership in labels, and the numbers of generals who are not on a label.
 use Rattle.std.proofs.Common.{ℕ, zero, suc, ◌+◌, ◌<◌, ◌≤◌, ◌≡◌, ◌≢◌, Bool, true, false, not, cond, ◌||◌, List, [], ◌∷◌, ◌++◌, map, length, refl, sym, ap, ◌∙◌, arith, inl, inr}
 use Rattle.std.specs.Prelude.{filter, count_by, sum_by, ◌==◌}
 use Rattle.std.specs.List.{range_with_len}
@@ -7,25 +7,25 @@ use Rattle.std.proofs.lemmas.Bool.{eqb-true, cases_Bool, false≢true, or_parts,
 use Rattle.std.proofs.lemmas.List.Sums.{sum_by-cons}
 use Rattle.label.specs.Labels.{on, is_distinct, generals, others}
 
--- membership at the end of a list
+-- Proves who is on a list with one more general at its end.
 pub on-push : (w : List ℕ) (j x : ℕ) → on (w ++ j ∷ []) x ≡ (on w x || j == x)
 on-push [] j x = grind (arith, nat_tests)
 on-push (y ∷ ys) j x = grind (arith, nat_tests, on-push ys j x)
 
--- a new general keeps them different
+-- Proves that a new general keeps the generals of a list different.
 pub distinct-push : (w : List ℕ) (j : ℕ) → is_distinct w ≡ true → on w j ≡ false → is_distinct (w ++ j ∷ []) ≡ true
 distinct-push [] j d a = refl
 distinct-push (y ∷ ys) j d a = grind (arith, nat_tests, distinct-push ys j, on-push ys j y)
 
--- the sum of h over what xs has outside of w
+-- Returns the sum of h over the elements of xs that are not in w.
 abbrev pub rest_sum : (ℕ → ℕ) → List ℕ → List ℕ → ℕ
 rest_sum h w xs = sum_by h (filter (λ j. not (on w j)) xs)
 
--- one more element of the list that is filtered
+-- Proves how one more element of xs changes the sum.
 pub rest_sum-cons : (h : ℕ → ℕ) (w : List ℕ) (x : ℕ) (xs : List ℕ) → rest_sum h w (x ∷ xs) ≡ cond (on w x) 0 (h x) + rest_sum h w xs
 rest_sum-cons h w x xs = elim (on w x) as (λ b. sum_by h (cond (not b) (x ∷ filter (λ j. not (on w j)) xs) (filter (λ j. not (on w j)) xs)) ≡ cond b 0 (h x) + rest_sum h w xs) [ true ↦ omega arith | false ↦ sum_by-cons h x (filter (λ j. not (on w j)) xs) ]
 
--- a general that the list lacks changes nothing
+-- Proves that a general who is not in xs changes nothing.
 pub rest_sum-absent : (h : ℕ → ℕ) (w : List ℕ) (j : ℕ) (xs : List ℕ) → on xs j ≡ false → rest_sum h (w ++ j ∷ []) xs ≡ rest_sum h w xs
 rest_sum-absent h w j [] a = refl
 rest_sum-absent h w j (x ∷ xs) a =
@@ -43,7 +43,7 @@ split_here h w j x xs d a e =
     let hx : h x ≡ h j = ap h e in
     rw (rest_sum-cons h w x xs, rest_sum-cons h (w ++ j ∷ []) x xs, out, inside) (omega arith)
 
--- one that it has once is the difference
+-- Proves that a general who is in xs once makes the difference.
 pub rest_sum-split : (h : ℕ → ℕ) (w : List ℕ) (j : ℕ) (xs : List ℕ) → is_distinct xs ≡ true → on xs j ≡ true → on w j ≡ false → rest_sum h w xs ≡ h j + rest_sum h (w ++ j ∷ []) xs
 rest_sum-split h w j [] d i a = cc
 rest_sum-split h w j (x ∷ xs) d i a =
@@ -56,17 +56,17 @@ rest_sum-split h w j (x ∷ xs) d i a =
           rw (rest_sum-cons h w x xs, rest_sum-cons h (w ++ j ∷ []) x xs, e) (omega arith)
     ]
 
--- the numbers from a on stand once
+-- Proves that a range of numbers does not contain lower numbers.
 pub range-below : (a n j : ℕ) → j < a → on (range_with_len a n) j ≡ false
 range-below a zero j l = refl
 range-below a (suc n) j l = or_from (a == j) (on (range_with_len (a + 1) n) j) (ne_eqb a j (λ e. omega arith)) (range-below (a + 1) n j (omega arith))
 
--- each of them once
+-- Proves that the numbers of a range are all different.
 pub range-distinct : (a n : ℕ) → is_distinct (range_with_len a n) ≡ true
 range-distinct a zero = refl
 range-distinct a (suc n) = and_from (not (on (range_with_len (a + 1) n) a)) (is_distinct (range_with_len (a + 1) n)) (not_from_false (on (range_with_len (a + 1) n) a) (range-below (a + 1) n a (omega arith))) (range-distinct (a + 1) n)
 
--- all of them
+-- Proves that a range contains all its numbers.
 pub range-on : (a n j : ℕ) → a ≤ j → j < a + n → on (range_with_len a n) j ≡ true
 range-on a zero j l h = absurd (omega arith)
 range-on a (suc n) j l h =
@@ -75,7 +75,7 @@ range-on a (suc n) j l h =
       | inr apart ↦ or_right (a == j) (on (range_with_len (a + 1) n) j) (range-on (a + 1) n j (let ne : a ≢ j = apart.1 in omega arith) (omega arith))
     ]
 
--- no others
+-- Proves that a range contains no higher numbers.
 pub range-on_within : (a n j : ℕ) → on (range_with_len a n) j ≡ true → j < a + n
 range-on_within a zero j h = cc
 range-on_within a (suc n) j h =
@@ -92,12 +92,12 @@ on-filter_more t x xs j ih true e k =
     ]
 on-filter_more t x xs j ih false e k = (or_right (x == j) (on xs j) (ih k).0, (ih k).1)
 
--- a general among the others
+-- Proves what is known of an element that passed a filter.
 pub on-filter : (t : ℕ → Bool) (xs : List ℕ) (j : ℕ) → on (filter t xs) j ≡ true → (on xs j ≡ true) × (t j ≡ true)
 on-filter t [] j h = cc
 on-filter t (x ∷ xs) j h = on-filter_more t x xs j (on-filter t xs j) (t x) refl h
 
--- a filter keeps the generals of a list different
+-- Proves that a filter keeps the generals of a list different.
 pub filter-distinct : (t : ℕ → Bool) (xs : List ℕ) → is_distinct xs ≡ true → is_distinct (filter t xs) ≡ true
 filter-distinct t [] d = refl
 filter-distinct t (x ∷ xs) d =
@@ -119,26 +119,26 @@ filter-distinct t (x ∷ xs) d =
 pub others-distinct : (n : ℕ) (w : List ℕ) → is_distinct (others n w) ≡ true
 others-distinct n w = filter-distinct (λ j. not (on w j)) (generals n) (range-distinct 0 n)
 
--- the others are generals outside of the label
+-- Proves that the others are generals who are not on the label.
 pub others-on : (n : ℕ) (w : List ℕ) (j : ℕ) → on (others n w) j ≡ true → (j < n) × (on w j ≡ false)
 others-on n w j h =
     let both = on-filter (λ i. not (on w i)) (generals n) j h in
     (omega (arith, range-on_within 0 n j both.0), not-true (on w j) both.1)
 
--- a general outside of the label is one of the others, and the only one that is lost
+-- Proves that a general who is not on the label is one of the others, and the only one lost if he is appended.
 pub others-split : (h : ℕ → ℕ) (n : ℕ) (w : List ℕ) (j : ℕ) → j < n → on w j ≡ false → sum_by h (others n w) ≡ h j + sum_by h (others n (w ++ j ∷ []))
 others-split h n w j l a = rest_sum-split h w j (generals n) (range-distinct 0 n) (range-on 0 n j (omega arith) (omega arith)) a
 
--- a length as a sum
+-- Proves that the length of a list is a sum of ones.
 pub length-sum : (xs : List ℕ) → length xs ≡ sum_by (λ x. 1) xs
 length-sum [] = refl
 length-sum (x ∷ xs) = omega (arith, sum_by-cons (λ (y : ℕ). 1) x xs, length-sum xs)
 
--- one fewer outside of the longer label
+-- Proves that there is one general fewer who is not on the longer label.
 pub others-length : (n : ℕ) (w : List ℕ) (j : ℕ) → j < n → on w j ≡ false → length (others n w) ≡ 1 + length (others n (w ++ j ∷ []))
 others-length n w j l a = rw (length-sum (others n w), length-sum (others n (w ++ j ∷ []))) (others-split (λ x. 1) n w j l a)
 
--- those that pass and those whose entry is v are together all
+-- Proves that the elements that pass a test and those that have the value v are at least as many as all.
 pub majority_counts : (t : ℕ → Bool) (F : ℕ → ℕ) (v : ℕ) (xs : List ℕ) → ((j : ℕ) → on xs j ≡ true → t j ≡ false → F j ≡ v) → length xs ≤ count_by (λ x. x == v) (map F xs) + count_by t xs
 majority_counts t F v [] says = omega arith
 majority_counts t F v (x ∷ xs) says =
@@ -147,7 +147,7 @@ majority_counts t F v (x ∷ xs) says =
     let one : 1 ≤ cond (F x == v) 1 0 + cond (t x) 1 0 = grind (arith, nat_tests) in
     rw (sum_by-cons (λ y. cond (y == v) 1 0) (F x) (map F xs), sum_by-cons (λ y. cond (t y) 1 0) x xs) (omega arith)
 
--- maps that agree at the members
+-- Proves that functions which agree on the elements of a list give equal lists.
 pub map_agree : (F G : ℕ → ℕ) (xs : List ℕ) → ((j : ℕ) → on xs j ≡ true → F j ≡ G j) → map F xs ≡ map G xs
 map_agree F G [] says = refl
 map_agree F G (x ∷ xs) says =

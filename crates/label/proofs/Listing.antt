@@ -1,4 +1,4 @@
--- The laws of the list of labels, as specs/Laws states them.
+-- The laws of the list of labels that specs/Laws states.
 use Rattle.std.proofs.Common.{ℕ, zero, suc, ◌<◌, ◌≡◌, ◌≢◌, false, List, length, ap, Some}
 use Rattle.std.specs.Prelude.{slice_get}
 use Rattle.label.specs.Labels.{on, labels}

@@ -1,4 +1,4 @@
--- The bits of a mask, and how many there are.
+-- The bits of a mask, and how many of them are set.
 use Rattle.std.proofs.Common.{ℕ, zero, suc, ◌-◌, ◌*◌, ◌%◌, ◌^◌, min, ◌<◌, ◌≤◌, ◌≡◌, Bool, true, false, not, cond, List, [], ◌∷◌, ◌++◌, map, length, get_or, refl, sym, ap, ◌∙◌, arith, inl, inr, bit_and, w32}
 use Rattle.std.specs.Prelude.{◌==◌, ◌||◌}
 use Rattle.std.specs.Int.{bit_at, bit_not}
@@ -14,11 +14,11 @@ use Rattle.label.specs.Labels.{on, others, generals}
 use Rattle.label.proofs.Counting.{on-push}
 use Rattle.label.specs.Mask.{IsFree}
 
--- all bits
+-- Proves that in the mask with all bits set every general is free.
 pub all-free : IsFree (2 ^ 32 - 1) []
 all-free = record { bits = λ j l. bit_at_ones 32 j l }
 
--- one bit less
+-- Proves that a general is no longer free after his bit is cleared.
 pub struck : (free g : ℕ) (v : List ℕ) → g < 32 → IsFree free v → IsFree (bit_and free (bit_not w32 (1 * 2 ^ g % 2 ^ 32))) (v ++ g ∷ [])
 struck free g v l f = record {
   bits = λ j within. elim (cases_eq j g) [
@@ -31,13 +31,13 @@ struck free g v l f = record {
     or_other true b e = refl
     or_other false b e = e
 
--- past the end there is no bit
+-- Proves that there is no bit beyond the end.
 past : (xs : List Bool) (i : ℕ) → length xs ≤ i → get_or xs i false ≡ false
 past [] i l = refl
 past (x ∷ xs) zero l = absurd (omega arith)
 past (x ∷ xs) (suc i) l = past xs i (omega arith)
 
--- the bits below a general
+-- Proves which bits below a general are set.
 pub below : (free g : ℕ) (v : List ℕ) → g < 32 → IsFree free v → bit_and free (2 ^ g - 1) ≡ mask_l (map (λ j. not (on v j)) (generals g))
 below free g v l f = same_from_bits (bit_and free (2 ^ g - 1)) (mask_l (map (λ j. not (on v j)) (generals g))) (λ i. elim (cases_lt i g) [
   | inl less ↦
@@ -56,7 +56,7 @@ below free g v l f = same_from_bits (bit_and free (2 ^ g - 1)) (mask_l (map (λ 
     turn true = refl
     turn false = refl
 
--- and their number
+-- Proves how many bits below a general are set.
 pub counted : (free g : ℕ) (v : List ℕ) → g < 32 → IsFree free v → count_ones (bit_and free (1 * 2 ^ g % 2 ^ 32 - 1)) ≡ length (others g v)
 counted free g v l f =
     let shift : 1 * 2 ^ g % 2 ^ 32 ≡ 2 ^ g = one_shl g 32 l in

@@ -1,4 +1,4 @@
--- The list of labels ascends.
+-- The list of labels is in ascending order.
 use Rattle.std.proofs.Common.{ℕ, zero, suc, ◌+◌, ◌-◌, ◌*◌, ◌<◌, ◌≤◌, ◌≡◌, ◌≢◌, List, [], ◌∷◌, ◌++◌, length, refl, sym, ap, ◌∙◌, arith, Some, ◌⊎◌, inl, inr, subst, cond}
 use Rattle.std.specs.Prelude.{slice_get}
 use Rattle.std.proofs.lemmas.Bool.{cases_lt, cases_order}
@@ -49,7 +49,7 @@ one_place : (x : List ℕ) (i j : ℕ) (v w : List ℕ) → i < j → slice_get 
 one_place x i zero v w l e = omega arith
 one_place x i (suc j) v w l e = cc
 
--- the list ascends
+-- Proves that the list of labels is in ascending order.
 pub labels_ascend : (n c p k i j : ℕ) (v w : List ℕ) → c < n → p < n → p ≢ c → i < j → slice_get (labels n c p (suc k)) i ≡ Some v → slice_get (labels n c p (suc k)) j ≡ Some w → LexBelow v w
 labels_ascend n c p zero i j v w inside within ne l e e' = absurd (one_place (c ∷ []) i j v w l (sym (ap (λ xs. slice_get xs j) (first_label n c p ne)) ∙ e'))
 labels_ascend n c p (suc k) i j v w inside within ne l e e' =

@@ -1,4 +1,4 @@
--- One level of the recursion: what the children decide, and the own value in its place.
+-- One level of the recursion of OM(m): the decisions about the children with the own value inserted.
 use Rattle.std.proofs.Common.{ℕ, zero, suc, ◌<◌, ◌≤◌, ◌≡◌, ◌≢◌, false, cond, List, [], ◌∷◌, ◌++◌, map, length, refl, sym, ap, subst, ◌∙◌, arith, inl, inr, length-append}
 use Rattle.std.specs.Prelude.{insert, ◌==◌}
 use Rattle.std.proofs.lemmas.Bool.{cases_Bool, cases_eq, cond-true, cond-false, or_from, or_left, or_right, or_parts, eq-eqb, ne_eqb, true≢false}
@@ -7,7 +7,7 @@ use Rattle.label.specs.Oral.{Messages, taken, om}
 use Rattle.label.proofs.Counting.{map_agree, others-on}
 use Rattle.label.proofs.Ranks.{others-more_no, others-more_yes}
 
--- an insertion by recursion
+-- Inserts an element, defined by recursion.
 abbrev put : {A : Type 0} → ℕ → A → List A → List A
 put zero y xs = y ∷ xs
 put (suc i) y [] = y ∷ []
@@ -37,7 +37,7 @@ put-map f [] (suc i) y = refl
 put-map f (x ∷ xs) zero y = refl
 put-map f (x ∷ xs) (suc i) y = ap (λ ys. f x ∷ ys) (put-map f xs i y)
 
--- a number that is not below the limit changes nothing
+-- Proves that a number which is not below the limit changes nothing.
 others-beyond : (n p : ℕ) (w : List ℕ) → n ≤ p → others n (p ∷ w) ≡ others n w
 others-beyond zero p w l = refl
 others-beyond (suc n) p w l =
@@ -64,7 +64,7 @@ before-le (suc n) p w l =
           ]
     ]
 
--- those outside of w are those that are not p either, and p in his place
+-- Proves that the generals not on w are those who are also not p, with p inserted at his position.
 others-put : (n p : ℕ) (w : List ℕ) → p < n → on w p ≡ false → others n w ≡ put (length (others p w)) p (others n (p ∷ w))
 others-put zero p w l o = absurd (omega arith)
 others-put (suc n) p w l o =
@@ -84,7 +84,8 @@ others-put (suc n) p w l o =
           ]
     ]
 
--- one level: what the children decide, and what p took himself in his place
+-- Proves that one level combines the decisions about the children, with the order that p took inserted at his
+-- position.
 pub om-level : (f : List ℕ → ℕ) (n : ℕ) (M : Messages) (k : ℕ) (w : List ℕ) (p : ℕ) → p < n → on w p ≡ false
     → om f n M (suc k) w p ≡ f (insert (map (λ j. om f n M k (w ++ j ∷ []) p) (others n (p ∷ w))) (length (others p w)) (taken M w p))
 unfolding om

@@ -1,4 +1,4 @@
--- The children of a rank: a part of the list of the next length.
+-- The children of a label: a part of the list of labels of the next length.
 use Rattle.std.proofs.Common.{ℕ, zero, suc, ◌+◌, ◌-◌, ◌*◌, ◌<◌, ◌≤◌, ◌≡◌, ◌≢◌, List, [], ◌∷◌, ◌++◌, map, length, refl, ap, ◌∙◌, arith, Some}
 use Rattle.std.specs.Prelude.{slice_get, slice_range}
 use Rattle.std.specs.List.{range_with_len}
@@ -9,14 +9,14 @@ use Rattle.label.specs.Labels.{others, labels}
 use Rattle.label.proofs.Places.{count_is_product, few_children, IsOneOf, all-at, labels-are}
 use Rattle.label.proofs.Ranks.{children}
 
--- a map over places is one over what stands there
+-- Proves that a function of indices gives the same list as a function of the elements there.
 pub by_place : {A : Type 0} (F : ℕ → ℕ) (G : A → ℕ) (a : ℕ) (xs : List A) → ((i : ℕ) (j : A) → slice_get xs i ≡ Some j → F (a + i) ≡ G j) → map F (range_with_len a (length xs)) ≡ map G xs
 by_place F G a [] same = refl
 by_place F G a (x ∷ xs) same =
     let first : F a ≡ G x = let z : a ≡ a + 0 = omega arith in ap F z ∙ same 0 x refl in
     rw (first, by_place F G (a + 1) xs (λ i j e. let z : (a + 1) + i ≡ a + suc i = omega arith in ap F z ∙ same (suc i) j e)) refl
 
--- there are as many children as the width says
+-- Proves that the number of children is the width.
 pub wide : (n c p k rank : ℕ) (w : List ℕ) → c < n → p < n → p ≢ c → slice_get (labels n c p (suc k)) rank ≡ Some w → length (others n (p ∷ w)) ≡ n - 1 - suc k
 wide n c p k rank w inside within ne at =
     let one : IsOneOf n c p k w = all-at (IsOneOf n c p k) (labels n c p (suc k)) rank w (labels-are n c p k inside ne) at in
@@ -24,7 +24,7 @@ wide n c p k rank w inside within ne at =
     let mapped : length (children n p w) ≡ length (others n (p ∷ w)) = length-map (others n (p ∷ w)) (λ j. w ++ j ∷ []) in
     omega arith
 
--- the children's ranks are ranks
+-- Proves that the ranks of the children are ranks of labels of the next length.
 pub part-within : (n c p size rank width : ℕ) → c < n → p < n → p ≢ c → 0 < size → width ≡ n - 1 - size → rank < length (labels n c p size) → rank * width + width ≤ length (labels n c p (size + 1))
 part-within n c p zero rank width inside within ne some ew l = absurd (omega arith)
 part-within n c p (suc k) rank width inside within ne some ew l =
@@ -39,6 +39,6 @@ rank-within n c p size rank width i inside within ne some ew r l =
     let part : rank * width + width ≤ length (labels n c p (size + 1)) = part-within n c p size rank width inside within ne some ew r in
     omega arith
 
--- a part has the length that is asked for
+-- Proves that the part has the given length.
 pub part-long : {A : Type 0} (level part : List A) (a width : ℕ) → a + width ≤ length level → part ≡ slice_range level a (a + width) → length part ≡ width
 part-long level part a width l e = ap length e ∙ (length-between level a (a + width) l ∙ omega arith)

@@ -1,4 +1,4 @@
--- What stands at which place of the list of labels.
+-- Which label has which index in the list of labels.
 use Rattle.std.proofs.Common.{ℕ, zero, suc, ◌+◌, ◌-◌, ◌*◌, ◌<◌, ◌≡◌, ◌≢◌, true, false, not, ◌||◌, List, [], ◌∷◌, ◌++◌, map, length, refl, sym, ap, ◌∙◌, arith, inl, inr, Some, None, Option, length-append, subst}
 use Rattle.std.specs.Prelude.{◌==◌, flat_map, slice_get, option_map}
 use Rattle.std.specs.List.{AllByRecursion}
@@ -12,7 +12,7 @@ use Rattle.label.proofs.Counting.{on-push, others-on}
 use Rattle.label.proofs.Pushes.{IsLabel-push}
 use Rattle.label.proofs.Ranks.{children, labels-next, pieces-get, pieces-length, others-place, others-count, get_left, get_right}
 
--- w is a label of k + 1 generals that lacks p
+-- States that w is a label of k + 1 generals that p is not on.
 pub record IsOneOf (n c p k : ℕ) (w : List ℕ) : Type 0 where
   pub label : IsLabel n c w
   pub without : on w p ≡ false
@@ -30,7 +30,7 @@ all-map_on : {B : Type 0} (P : B → Type 0) (f : ℕ → B) (xs : List ℕ) →
 all-map_on P f [] h = tt
 all-map_on P f (x ∷ xs) h = (h x (or_left (x == x) (on xs x) (eq-eqb x x refl)), all-map_on P f xs (λ j i. h j (or_right (x == j) (on xs j) i)))
 
--- what holds of all holds at a place
+-- Proves that what holds for all elements holds for each of them.
 pub all-at : {A : Type 0} (P : A → Type 0) (xs : List A) (i : ℕ) (x : A) → AllByRecursion P xs → slice_get xs i ≡ Some x → P x
 all-at P [] i x a e = cc
 all-at P (y ∷ ys) zero x a e = let h : y ≡ x = cc in subst P h a.0
@@ -48,12 +48,12 @@ child n c p k w j a l o =
     eqb_flip : (x y : ℕ) → (x == y) ≡ false → (y == x) ≡ false
     eqb_flip x y e = ne_eqb y x (λ h. eqb-false x y e (sym h))
 
--- the label of the commander alone
+-- Proves that the label of only the commander is the only one of length 1.
 pub first_label : (n c p : ℕ) → p ≢ c → labels n c p 1 ≡ (c ∷ []) ∷ []
 unfolding labels
 first_label n c p ne = cond-true (lacks p (c ∷ [])) ((c ∷ []) ∷ []) [] (not_from_false (c == p || false) (or_from (c == p) false (ne_eqb c p (λ e. ne (sym e))) refl))
 
--- what stands in the list are labels
+-- Proves that the list contains only labels.
 pub labels-are : (n c p k : ℕ) → c < n → p ≢ c → AllByRecursion (IsOneOf n c p k) (labels n c p (suc k))
 labels-are n c p zero inside ne =
     rw (first_label n c p ne) (record { label = record { first = refl; below = (inside, tt); distinct = refl }; without = or_from (c == p) false (ne_eqb c p (λ e. ne (sym e))) refl; long = refl }, tt)
@@ -62,7 +62,7 @@ labels-are n c p (suc k) inside ne =
     (λ w a. all-map_on (IsOneOf n c p (suc k)) (λ j. w ++ j ∷ []) (others n (p ∷ w)) (λ j i. let at = others-on n (p ∷ w) j i in child n c p k w j a at.0 at.1))
     (labels n c p (suc k)) (labels-are n c p k inside ne))
 
--- each label has as many children
+-- Proves how many children each label has.
 pub few_children : (n c p k : ℕ) (w : List ℕ) → p < n → IsOneOf n c p k w → length (children n p w) ≡ n - 2 - k
 few_children n c p k w within a =
     let count : length (others n (p ∷ w)) + length (p ∷ w) ≡ n = others-count n (p ∷ w) (and_from (not (on w p)) (is_distinct w) (not_from_false (on w p) a.without) a.label.distinct) (within, a.label.below) in
@@ -73,7 +73,7 @@ few_children n c p k w within a =
 same_size : (n c p k : ℕ) → c < n → p < n → p ≢ c → (i : ℕ) (w : List ℕ) → slice_get (labels n c p (suc k)) i ≡ Some w → length (children n p w) ≡ n - 2 - k
 same_size n c p k inside within ne i w e = few_children n c p k w within (all-at (IsOneOf n c p k) (labels n c p (suc k)) i w (labels-are n c p k inside ne) e)
 
--- children stand together
+-- Proves that children are next to each other.
 pub children_stand : ChildrenStand
 children_stand n c p k r t j w inside within ne e o =
     let size : length (children n p w) ≡ n - 2 - k = same_size n c p k inside within ne r w e in
@@ -83,11 +83,11 @@ children_stand n c p k r t j w inside within ne e o =
     ∙ (pieces-get (children n p) (n - 2 - k) (labels n c p (suc k)) (same_size n c p k inside within ne) r t w e (omega arith)
     ∙ (slice_get-map (λ i. w ++ i ∷ []) (others n (p ∷ w)) t ∙ ap (option_map (λ i. w ++ i ∷ [])) o))
 
--- as many as the product says
+-- Proves that the number of labels is the product.
 pub count_is_product : (n c p k : ℕ) → c < n → p < n → p ≢ c → length (labels n c p (suc (suc k))) ≡ length (labels n c p (suc k)) * (n - 2 - k)
 count_is_product n c p k inside within ne = ap length (labels-next n c p k) ∙ pieces-length (children n p) (n - 2 - k) (labels n c p (suc k)) (same_size n c p k inside within ne)
 
--- where a place of a list in pieces comes from
+-- From which piece an element of a list of pieces comes, and from which index in it.
 pub record Piece {A B : Type 0} (f : A → List B) (s : ℕ) (xs : List A) (i : ℕ) (y : B) : Type 0 where
   pub q : ℕ
   pub t : ℕ
@@ -97,7 +97,7 @@ pub record Piece {A B : Type 0} (f : A → List B) (s : ℕ) (xs : List A) (i : 
   pub parent : slice_get xs q ≡ Some x
   pub here : slice_get (f x) t ≡ Some y
 
--- which piece a place of the whole lies in
+-- Proves from which piece an element comes.
 pub piece-of : {A B : Type 0} (f : A → List B) (s : ℕ) (xs : List A) → ((k : ℕ) (x : A) → slice_get xs k ≡ Some x → length (f x) ≡ s) → (i : ℕ) (y : B) → slice_get (flat_map f xs) i ≡ Some y → Piece f s xs i y
 piece-of f s [] same i y e = cc
 piece-of f s (x ∷ xs) same i y e =
@@ -117,7 +117,7 @@ one_only : (x : List ℕ) (i : ℕ) (w : List ℕ) → slice_get (x ∷ []) i �
 one_only x zero w e = refl
 one_only x (suc i) w e = cc
 
--- a label of k + 2 generals is a child
+-- A label of k + 2 generals and the label of which it is a child.
 pub record Born (n c p k i : ℕ) (w : List ℕ) : Type 0 where
   pub q : ℕ
   pub parent : List ℕ
@@ -127,14 +127,14 @@ pub record Born (n c p k i : ℕ) (w : List ℕ) : Type 0 where
   pub small : length (others j (p ∷ parent)) < n - 2 - k
   pub is : parent ++ j ∷ [] ≡ w
 
--- where a longer label comes from
+-- Proves of which label a longer label is a child.
 pub born : (n c p k : ℕ) → c < n → p < n → p ≢ c → (i : ℕ) (w : List ℕ) → slice_get (labels n c p (suc (suc k))) i ≡ Some w → Born n c p k i w
 born n c p k inside within ne i w e =
     let cut : Piece (children n p) (n - 2 - k) (labels n c p (suc k)) i w = piece-of (children n p) (n - 2 - k) (labels n c p (suc k)) (same_size n c p k inside within ne) i w (sym (ap (λ xs. slice_get xs i) (labels-next n c p k)) ∙ e) in
     let last = mapped (λ j. cut.x ++ j ∷ []) (slice_get (others n (p ∷ cut.x)) cut.t) w (sym (slice_get-map (λ j. cut.x ++ j ∷ []) (others n (p ∷ cut.x)) cut.t) ∙ cut.here) in
     record { q = cut.q; parent = cut.x; j = last.0; stands = cut.parent; place = cut.place ∙ ap (λ t. cut.q * (n - 2 - k) + t) {y = length (others last.0 (p ∷ cut.x))} (others-place n (p ∷ cut.x) cut.t last.0 last.1); small = (let h = others-place n (p ∷ cut.x) cut.t last.0 last.1 in let l = cut.small in omega arith); is = last.2 }
 
--- no label stands twice
+-- Proves that no label occurs twice.
 pub places_differ : (n c p k : ℕ) → c < n → p < n → p ≢ c → (i i' : ℕ) (w : List ℕ) → slice_get (labels n c p (suc k)) i ≡ Some w → slice_get (labels n c p (suc k)) i' ≡ Some w → i ≡ i'
 places_differ n c p zero inside within ne i i' w e e' =
     one_only (c ∷ []) i w (sym (ap (λ xs. slice_get xs i) (first_label n c p ne)) ∙ e) ∙ sym (one_only (c ∷ []) i' w (sym (ap (λ xs. slice_get xs i') (first_label n c p ne)) ∙ e'))

@@ -1,4 +1,4 @@
--- The list of labels, and the generals outside of a label, place by place.
+-- The list of labels, and the generals who are not on a label, index by index.
 use Rattle.std.proofs.Common.{ℕ, zero, suc, ◌+◌, ◌-◌, ◌*◌, ◌<◌, ◌≡◌, Bool, true, false, not, cond, ◌&&◌, ◌||◌, List, [], ◌∷◌, ◌++◌, map, length, refl, sym, ap, ◌∙◌, arith, inl, inr, Some, length-append, add-zero, zero-add}
 use Rattle.std.proofs.lemmas.List.{append-nil}
 use Rattle.std.proofs.lemmas.Option.{slice_get_within}
@@ -12,7 +12,7 @@ use Rattle.label.specs.Labels.{on, is_distinct, generals, others, sequences, lac
 use Rattle.label.specs.Oral.{AllBelow}
 use Rattle.label.proofs.Counting.{on-push, others-length}
 
--- the labels that prolong w
+-- Returns the labels that extend w by one general.
 abbrev pub children : ℕ → ℕ → List ℕ → List (List ℕ)
 children n p w = map (λ j. w ++ j ∷ []) (others n (p ∷ w))
 
@@ -51,7 +51,7 @@ map_cond : (f : ℕ → List ℕ) (b : Bool) (x : ℕ) (xs : List ℕ) → map f
 map_cond f true x xs = refl
 map_cond f false x xs = refl
 
--- of the lists that prolong w the labels are its children, if it is one
+-- Proves that among the lists that extend w by one element, the labels are its children if w is a label.
 push_test : (p : ℕ) (w : List ℕ) (xs : List ℕ) → filter (lacks p) (map (λ j. w ++ j ∷ []) xs) ≡ cond (lacks p w) (map (λ j. w ++ j ∷ []) (filter (λ j. not (on (p ∷ w) j)) xs)) []
 push_test p w [] = elim (lacks p w) as (λ b. [] ≡ cond {A = List (List ℕ)} b [] []) [ true ↦ refl | false ↦ refl ]
 push_test p w (x ∷ xs) =
@@ -80,24 +80,24 @@ cons_first n c (v ∷ vs) =
     cons_map c v (generals n) (flat_map (λ w. map (λ j. w ++ j ∷ []) (generals n)) vs)
     ∙ ap (λ us. map (λ j. (c ∷ v) ++ j ∷ []) (generals n) ++ us) (cons_first n c vs)
 
--- the labels of the next length are the children of those of this one
+-- Proves that the labels of the next length are the children of the labels of this length.
 pub labels-next : (n c p k : ℕ) → labels n c p (suc (suc k)) ≡ flat_map (children n p) (labels n c p (suc k))
 unfolding labels
 labels-next n c p k = ap (filter (lacks p)) (cons_first n c (sequences n k)) ∙ prolong n p (map (λ v. c ∷ v) (sequences n k))
 
--- reading two lists that are joined
+-- Proves how the first of two joined lists is read.
 pub get_left : {A : Type 0} (xs ys : List A) (t : ℕ) → t < length xs → slice_get (xs ++ ys) t ≡ slice_get xs t
 get_left [] ys t l = absurd (omega arith)
 get_left (x ∷ xs) ys zero l = refl
 get_left (x ∷ xs) ys (suc t) l = get_left xs ys t (omega arith)
 
--- a place behind the first list
+-- Proves how the second of two joined lists is read.
 pub get_right : {A : Type 0} (xs ys : List A) (i t : ℕ) → i ≡ length xs + t → slice_get (xs ++ ys) i ≡ slice_get ys t
 get_right [] ys i t e = let h : i ≡ t = omega arith in ap (slice_get ys) h
 get_right (x ∷ xs) ys zero t e = absurd (omega arith)
 get_right (x ∷ xs) ys (suc i) t e = get_right xs ys i t (omega arith)
 
--- a list that is cut into pieces of one length: the piece of q, and its place t
+-- Proves how an element is read from a list made of pieces of equal length: the piece q, and the index t in it.
 pub pieces-get : {A B : Type 0} (f : A → List B) (s : ℕ) (xs : List A) → ((k : ℕ) (x : A) → slice_get xs k ≡ Some x → length (f x) ≡ s) → (q t : ℕ) (x : A) → slice_get xs q ≡ Some x → t < s → slice_get (flat_map f xs) (q * s + t) ≡ slice_get (f x) t
 pieces-get f s [] same q t x h l = cc
 pieces-get f s (y ∷ ys) same zero t x h l =
@@ -109,7 +109,7 @@ pieces-get f s (y ∷ ys) same (suc q) t x h l =
     let long : length (f y) ≡ s = same 0 y refl in
     get_right (f y) (flat_map f ys) (suc q * s + t) (q * s + t) (omega arith) ∙ pieces-get f s ys (λ k v e. same (suc k) v e) q t x h l
 
--- as long as all pieces together
+-- Proves the length of a list made of pieces of equal length.
 pub pieces-length : {A B : Type 0} (f : A → List B) (s : ℕ) (xs : List A) → ((k : ℕ) (x : A) → slice_get xs k ≡ Some x → length (f x) ≡ s) → length (flat_map f xs) ≡ length xs * s
 pieces-length f s [] same = omega arith
 pieces-length f s (y ∷ ys) same =
@@ -117,28 +117,28 @@ pieces-length f s (y ∷ ys) same =
     let rest : length (flat_map f ys) ≡ length ys * s = pieces-length f s ys (λ k v e. same (suc k) v e) in
     omega (arith, length-append (f y) (flat_map f ys))
 
--- the generals outside of a list, one by one
+-- The generals who are not on a list, one after another.
 pub range_push : (a n : ℕ) → range_with_len a (suc n) ≡ range_with_len a n ++ (a + n) ∷ []
 range_push a zero = rw add-zero refl
 range_push a (suc n) =
     let s : (a + 1) + n ≡ a + suc n = omega arith in
     ap (λ xs. a ∷ xs) (range_push (a + 1) n ∙ ap (λ x. range_with_len (a + 1) n ++ x ∷ []) s)
 
--- one general more may stand outside
+-- Proves that one more general is added if he is not on the list.
 pub others-more : (w : List ℕ) (j : ℕ) → others (suc j) w ≡ others j w ++ cond (not (on w j)) (j ∷ []) []
 others-more w j =
     ap (filter (λ i. not (on w i))) (range_push 0 j ∙ ap (λ x. range_with_len 0 j ++ x ∷ []) (zero-add j))
     ∙ filter-append (λ i. not (on w i)) (range_with_len 0 j) (j ∷ [])
 
--- he stands on the label
+-- Proves the result if he is on the list.
 pub others-more_no : (w : List ℕ) (j : ℕ) → on w j ≡ true → others (suc j) w ≡ others j w
 others-more_no w j h = others-more w j ∙ (ap (λ (b : Bool). others j w ++ cond (not b) (j ∷ []) []) h ∙ append-nil (others j w))
 
--- he does not
+-- Proves the result if he is not on the list.
 pub others-more_yes : (w : List ℕ) (j : ℕ) → on w j ≡ false → others (suc j) w ≡ others j w ++ j ∷ []
 others-more_yes w j h = others-more w j ∙ ap (λ (b : Bool). others j w ++ cond (not b) (j ∷ []) []) h
 
--- a general outside of v stands behind those that are less
+-- Proves that a general who is not on v comes after the lower ones.
 pub others-at : (n : ℕ) (v : List ℕ) (j : ℕ) → j < n → on v j ≡ false → slice_get (others n v) (length (others j v)) ≡ Some j
 others-at zero v j l o = absurd (omega arith)
 others-at (suc n) v j l o =
@@ -157,7 +157,7 @@ last_place : (n t j : ℕ) → slice_get (n ∷ []) t ≡ Some j → (t ≡ 0) �
 last_place n zero j e = (refl, cc)
 last_place n (suc t) j e = cc
 
--- and only there
+-- Proves that he is only at this index.
 pub others-place : (n : ℕ) (v : List ℕ) (t j : ℕ) → slice_get (others n v) t ≡ Some j → t ≡ length (others j v)
 others-place zero v t j e = cc
 others-place (suc n) v t j e =
@@ -174,7 +174,7 @@ others-place (suc n) v t j e =
           ]
     ]
 
--- as many are outside as are not on it
+-- How many generals are not on a list.
 or_swap : (a b : Bool) → (a || b) ≡ (b || a)
 or_swap true true = refl
 or_swap true false = refl
@@ -188,7 +188,7 @@ all_kept (x ∷ xs) = ap (λ ys. x ∷ ys) (all_kept xs)
 others-cons : (n : ℕ) (x : ℕ) (v : List ℕ) → others n (v ++ x ∷ []) ≡ others n (x ∷ v)
 others-cons n x v = filter_agree (λ j. not (on (v ++ x ∷ []) j)) (λ j. not (on (x ∷ v) j)) (λ j. ap not (on-push v x j ∙ or_swap (on v j) (x == j))) (generals n)
 
--- those outside and those on it are all
+-- Proves that the generals on a list and those not on it are all generals.
 pub others-count : (n : ℕ) (v : List ℕ) → is_distinct v ≡ true → AllBelow n v → length (others n v) + length v ≡ n
 others-count n [] d b = rw (all_kept (generals n)) (omega (arith, length-range_with_len 0 n))
 others-count n (x ∷ v) d b =

@@ -1,9 +1,9 @@
--- What the type of labels guarantees.
+-- What is known of every value of the type Label.
 use Rattle.std.specs.Prelude.{ℕ, ◌<◌, ◌≡◌, true, List, length}
 use Rattle.label.specs.Labels.{is_distinct}
 use Rattle.label.specs.Oral.{AllBelow}
 
--- States that the list has 1 to 13 distinct generals, each below 13.
+-- States that a list has 1 to 13 generals, all different, each below 13.
 pub record IsGenerals (w : List ℕ) : Type 0 where
   pub filled : 0 < length w
   pub below : AllBelow 13 w

@@ -1,4 +1,4 @@
-//! Labels: the generals that an order passed through.
+//! Defines labels: the generals that an order has passed through, in order.
 ghost use Rattle.std.specs.Prelude.{◌≡◌, ◌<◌, ◌≤◌, [], ◌∷◌, ◌++◌, false, length, bytes_eq};
 ghost use Rattle.label.specs.Labels.{on};
 ghost use Rattle.label.specs.Generals.{IsGenerals};
@@ -6,7 +6,8 @@ ghost use Rattle.label.specs.Generals.{IsGenerals};
 use arrayvec::ArrayVec;
 use std::marker::Model;
 
-/// A label: the generals that an order passed through, as a list of 1 to 13 distinct generals, each below 13.
+/// A label: the generals that an order has passed through, in order. It has 1 to 13 generals, all different, each
+/// below 13.
 #[derive(Drop)]
 pub struct Label {
     generals: ArrayVec<u8, 13>,
@@ -24,7 +25,7 @@ impl Model for Label {
 }
 
 impl Label {
-    /// Returns the label that consists of only `general`, whose number must be below 13.
+    /// Returns the label that has only `general`, who must be below 13.
     pub fn of(general: u8) -> Label
         requires { general < 13 }
         ensures { result ≡ general ∷ [] }
@@ -34,7 +35,7 @@ impl Label {
         Label { generals: only }
     }
 
-    /// Returns the number of generals on the label, 1 to 13.
+    /// Returns the number of generals on the label, from 1 to 13.
     pub fn len(&self) -> usize
         ensures value { result ≡ length self.now }
         ensures some { 0 < result }
@@ -42,14 +43,14 @@ impl Label {
         self.generals.len()
     }
 
-    /// Returns whether the general is on the label.
+    /// Checks whether the general is on the label.
     pub fn has(&self, general: u8) -> bool
         ensures { result ≡ on self.now general }
     {
         has_general(self.generals(), general)
     }
 
-    /// Returns whether the two labels are equal.
+    /// Checks whether two labels have the same generals in the same order.
     pub fn same(&self, other: &Label) -> bool
         ensures { result ≡ bytes_eq self.now other.now }
     {
@@ -65,7 +66,7 @@ impl Label {
         self.generals.as_slice()
     }
 
-    /// Returns the label extended by a general who is not on it. The general must be below 13.
+    /// Returns this label with one more general at its end. He must be below 13, and not be on the label.
     pub fn with(&self, general: u8) -> Label
         requires below { general < 13 }
         requires fresh { on self.now general ≡ false }
@@ -79,14 +80,14 @@ impl Label {
     }
 }
 
-/// Returns whether the general is in the list.
+/// Checks whether the list contains the general.
 pub(crate) fn has_general(generals: &[u8], general: u8) -> bool
     ensures { result ≡ on generals.now general }
 {
     generals.iter().any(|x| *x == general)
 }
 
-/// Copies a list of at most 13 generals.
+/// Returns a copy of a list of at most 13 generals.
 fn copied(generals: &[u8]) -> ArrayVec<u8, 13>
     requires { length generals.now ≤ 13 }
     ensures { result.items ≡ generals.now }

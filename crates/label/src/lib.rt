@@ -1,4 +1,5 @@
-//! Labels of relayed orders: their lists, their ranks, and oral messages over them. The files in specs/ define them.
+//! Defines labels of relayed orders: their lists and ranks, and the algorithm OM(m) over them. The files in specs/
+//! have the definitions.
 #![tactic(auto)]
 
 mod label;

@@ -1,4 +1,5 @@
-//! Sets of generals as bit masks. Bit `g` is set if general `g` is free, which means that he is not on a list.
+//! Represents sets of generals as bit masks. Bit `g` is set if general `g` is free, which means that he is not on a
+//! given list.
 ghost use Rattle.std.specs.Prelude.{◌≡◌, ◌<◌, ◌∷◌, ◌++◌, [], length, ℕ, List};
 ghost use Rattle.label.specs.Labels.{others};
 ghost use Rattle.label.specs.Mask.{IsFree};
@@ -10,7 +11,7 @@ pub(crate) fn all_free() -> u32
     u32::MAX
 }
 
-/// Returns the mask without this general, who must be below 32.
+/// Returns the mask in which `general` is no longer free. He must be below 32.
 pub(crate) fn without(free: u32, general: u8) -> u32
     requires { general < 32 }
     ensures { (v : List ℕ) → IsFree free v → IsFree result (v ++ general ∷ []) }
@@ -18,7 +19,8 @@ pub(crate) fn without(free: u32, general: u8) -> u32
     free & !(1 << general)
 }
 
-/// Returns the number of free generals below this general, who must be below 32.
+/// Returns the number of generals who are free in the mask and have a lower number than `general`. He must be below
+/// 32.
 pub(crate) fn free_below(free: u32, general: u8) -> u32
     requires { general < 32 }
     ensures { (v : List ℕ) → IsFree free v → result ≡ length (others general v) }

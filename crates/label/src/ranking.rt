@@ -1,4 +1,5 @@
-//! Ranks labels: counts the labels of a length, and converts between a label and its rank.
+//! Counts the labels of a given length, and converts between a label and its rank: its index in the list of these
+//! labels.
 ghost use Rattle.std.specs.Prelude.{◌≡◌, ◌<◌, ◌≤◌, ◌∷◌, false, length, ℕ, IfOk, IfErr, Some, slice_get, nat_lt};
 ghost use Rattle.std.specs.List.{list_all};
 ghost use Rattle.label.specs.Labels.{on, others};
@@ -10,8 +11,8 @@ use crate::label::{Label, has_general};
 use crate::mask::{all_free, free_below, without};
 use crate::space::{LabelError, Space};
 
-/// Returns the number of labels of this length that lack the general. It is 0 if the length is 0 or at least the number
-/// of generals, and if the general is the commander, who is on every label.
+/// Returns the number of labels with `size` generals that the space's lieutenant is not on. It is 0 if `size` is 0 or
+/// at least the number of generals, and if the lieutenant is the commander, who is on every label.
 pub fn count(space: Space, size: u8) -> u32
     requires { IsWithinLimits space }
     ensures { result ≡ length (labels_of space size) }
@@ -22,7 +23,7 @@ pub fn count(space: Space, size: u8) -> u32
     product(space, size)
 }
 
-/// Returns the number of labels of this length, as a product with a factor for each general after the commander.
+/// Returns the number of labels with `size` generals, as a product: one factor for each general after the commander.
 fn product(space: Space, size: u8) -> u32
     requires space { IsSpace space }
     requires some { 0 < size }
@@ -36,11 +37,11 @@ fn product(space: Space, size: u8) -> u32
     all
 }
 
-/// Returns the rank of the label: its index, from 0, in the list of labels of its length.
+/// Returns the rank of a label: its index, from 0, in the list of the space's labels with the same length.
 ///
 /// # Errors
 ///
-/// `NotALabel` exactly if the label is not in that list.
+/// Fails with `NotALabel` exactly if the label is not in this list.
 pub fn rank(space: Space, label: &Label) -> Result<u32, LabelError>
     requires { IsWithinLimits space }
     ensures ok { IfOk result (HasRank space label.now) }
@@ -53,11 +54,11 @@ pub fn rank(space: Space, label: &Label) -> Result<u32, LabelError>
     Ok(rank_of(space, generals))
 }
 
-/// Returns the label with this rank: the label at this index, from 0, in the list of labels of this length.
+/// Returns the label with the given rank: its index, from 0, in the list of the space's labels with `size` generals.
 ///
 /// # Errors
 ///
-/// `Rank` exactly if the rank is not below the length of that list.
+/// Fails with `Rank` exactly if `rank` is not below the length of this list.
 pub fn unrank(space: Space, size: u8, rank: u32) -> Result<Label, LabelError>
     requires { IsWithinLimits space }
     ensures ok { IfOk result (λ w. slice_get (labels_of space size) rank ≡ Some w) }
@@ -69,7 +70,8 @@ pub fn unrank(space: Space, size: u8, rank: u32) -> Result<Label, LabelError>
     Ok(label_at(space, size, rank))
 }
 
-/// Returns whether the label is one of those that lack the general of the space.
+/// Checks whether these generals are a label of the space: they begin with the commander, are all in range, and do
+/// not include the space's lieutenant.
 fn is_label(space: Space, generals: &[u8]) -> bool
     ensures { result ≡ is_label_of space generals.now }
 {
@@ -78,7 +80,7 @@ fn is_label(space: Space, generals: &[u8]) -> bool
         && !has_general(generals, space.general)
 }
 
-/// Returns whether the list begins with the commander.
+/// Checks whether the first of the generals is the commander.
 fn begins_with(generals: &[u8], commander: u8) -> bool
     ensures { result ≡ begins_with commander generals.now }
 {
@@ -88,15 +90,15 @@ fn begins_with(generals: &[u8], commander: u8) -> bool
     }
 }
 
-/// Returns whether every general in the list is below the limit.
+/// Checks whether every general in the list is below the limit.
 fn all_below(generals: &[u8], limit: u8) -> bool
     ensures { result ≡ list_all (λ x. nat_lt x limit) generals.now }
 {
     generals.iter().all(|x| *x < limit)
 }
 
-/// Computes the rank of a label. For each general after the commander it multiplies the rank by the number of choices
-/// and adds the number of free generals below him.
+/// Returns the rank of a label. For each general after the commander, the rank so far is multiplied by the number of
+/// possible choices. Then the number of possible generals below the chosen one is added.
 fn rank_of(space: Space, generals: &[u8]) -> u32
     requires space { IsSpace space }
     requires label { IsLabel space.generals space.commander generals.now }
@@ -115,7 +117,7 @@ fn rank_of(space: Space, generals: &[u8]) -> u32
     rank
 }
 
-/// Computes the label with this rank, by one division for each general after the commander.
+/// Returns the label with `size` generals and this rank. Takes one division for each general after the commander.
 fn label_at(space: Space, size: u8, rank: u32) -> Label
     requires space { IsSpace space }
     requires some { 0 < size }
@@ -138,7 +140,7 @@ fn label_at(space: Space, size: u8, rank: u32) -> Label
     parent.with(last)
 }
 
-/// Returns the general at this index, from 0, among those who are neither the receiver nor in the list.
+/// Returns the general with index `place`, from 0, among those who are neither `receiver` nor in `prefix`.
 #[tactic(auto, using(crate::proofs::Bounds::others_length_more, crate::proofs::Bounds::others_here))]
 fn general_at(prefix: &[u8], receiver: u8, generals: u8, place: u32) -> u8
     requires within { place < length (others generals (receiver ∷ prefix.now)) }
@@ -156,7 +158,7 @@ fn general_at(prefix: &[u8], receiver: u8, generals: u8, place: u32) -> u8
     unreachable!()
 }
 
-/// Returns whether the general is the receiver or in the list.
+/// Checks whether the general is `receiver` or in `prefix`.
 fn is_out(prefix: &[u8], receiver: u8, general: u8) -> bool
     ensures { result ≡ on (receiver ∷ prefix.now) general }
 {

@@ -1,6 +1,6 @@
-//! The relay of one general in one round.
+//! Defines a relay: which general relays orders in which round.
 
-/// A relay: which general relays orders in which round, among how many generals, and under which commander.
+/// A relay: which general relays orders in which round, the number of generals, and the commander.
 #[derive(Clone, Copy, PartialEq, Eq)]
 pub struct Shape {
     /// The number of generals, at most 13.

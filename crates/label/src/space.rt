@@ -1,24 +1,24 @@
-//! The space of labels that lack one lieutenant, and the errors of ranking in it.
+//! Defines a space of labels, those that one lieutenant is not on, and the errors of ranking labels in it.
 use std::error::Error;
 use std::fmt;
 
-/// A space of labels: those of a campaign that lack one lieutenant.
+/// The labels of a campaign that a given lieutenant is not on. They are the labels of the orders that he receives.
 #[derive(Clone, Copy)]
 pub struct Space {
     /// The number of generals, at most 13.
     pub generals: u8,
     /// The number of the commander.
     pub commander: u8,
-    /// The number of the lieutenant whom the labels lack.
+    /// The number of the lieutenant who is on none of the labels.
     pub general: u8,
 }
 
-/// The reason why a label has no rank, or why there is no label with a rank.
+/// Why a label has no rank, or why no label has a given rank.
 #[derive(Clone, Copy, Debug, PartialEq, Eq)]
 pub enum LabelError {
-    /// L1: the list is not a label of the space.
+    /// L1: the label is not in the space.
     NotALabel,
-    /// L2: the rank is not below the number of labels.
+    /// L2: the rank is at least the number of labels.
     Rank,
 }
 

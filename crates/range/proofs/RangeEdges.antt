@@ -1,4 +1,4 @@
--- The edges of a conditional jump on two ranges: what is left holds the numbers that go that way.
+-- The edges of a conditional jump on two ranges: the narrowed ranges contain the numbers that go this way.
 use Rattle.std.proofs.Common.{◌≡◌, ◌∙◌, ◌≢◌, ℕ, ◌+◌, ◌-◌, ◌^◌, ◌<◌, ◌≤◌, min, max, Bool, true, false, Option, Some, None, refl, sym, ap, ap₂, arith}
 use Rattle.std.specs.Prelude.{◌==◌, ◌&&◌, nat_lt, nat_le, not, int_lt, int_le, ℤ}
 use Rattle.std.proofs.lemmas.Bool.{ltb-true, ltb-false, leb-true, leb-false, eqb-true, eqb-false, lt-ltb, le-leb, and_parts}
@@ -99,7 +99,7 @@ opposite_meets AtMost x y m = lt_of_false y x m
 opposite_meets SignedAtMost x y m = lt_of_false y x m
 opposite_meets AnyBit x y m = refl
 
--- numbers below the limit are compared as they are
+-- Proves that numbers below the limit are compared as unsigned numbers.
 related_meets : (w : Width) (c : Condition) (x y : ℕ) → tells c ≡ true → x < edge_limit w c → y < edge_limit w c → related w c x y ≡ meets c x y
 related_meets w Equal x y t h k = refl
 related_meets w NotEqual x y t h k = refl
@@ -148,7 +148,7 @@ refined_holds w c way p q x y told h k m =
     taken_holds c way p q x y h k (sym (ap₂ (λ (m n : ℕ). related w c m n) s r ∙ related_meets w c x y told a b) ∙ m))
     (λ f. (h, k))
 
--- ---- what is left are intervals of words
+-- ---- the results are ranges of words
 
 pub record AreIntervals (e : Pair) : Type 0 where
   pub first : e.0.0 ≤ e.0.1

@@ -1,4 +1,4 @@
--- The rows of the table of ranges: each interval holds the result of any two numbers, and lies within the width.
+-- The rows of the table of ranges: each interval contains the result for any two numbers, and is within the width.
 use Rattle.std.proofs.Common.{◌≡◌, ◌∙◌, ℕ, ◌+◌, ◌-◌, ◌*◌, ◌/◌, ◌%◌, ◌^◌, ◌<◌, ◌≤◌, min, max, Bool, true, false, refl, arith}
 use Rattle.std.specs.Prelude.{◌==◌, ◌&&◌, nat_lt, nat_le, if◌then◌else◌, bit_and, bit_or, bit_xor}
 use Rattle.std.proofs.lemmas.Bool.{leb-true, ltb-true, eqb-true, eqb-false, and_parts}
@@ -10,7 +10,7 @@ use Rattle.range.specs.Table.{quotients, remainders, common_bits, joined_bits, d
 use Rattle.range.proofs.CoveringOnes.{ones_power, ones_least}
 use Rattle.range.proofs.Growth.{product_within, div_grows}
 
--- the interval holds the number, and lies below the limit
+-- States that the interval contains the number and is below the limit.
 abbrev pub Holds : ℕ → ℕ × ℕ → ℕ → Type 0
 Holds n p z = IsIn p.0 p.1 z × (p.1 < n)
 
@@ -98,7 +98,7 @@ remainders_hold n la ha lb hb x y ka p q =
 pub common_hold : (n la ha lb hb x y : ℕ) → ha < n → IsIn la ha x → IsIn lb hb y → Holds n (common_bits la ha lb hb) (bit_and x y)
 common_hold n la ha lb hb x y ka p q = ((omega arith, omega (arith, and_le_l x y, and_le_r x y, p.1, q.1)), omega arith)
 
--- of two words of so many bits
+-- Proves the claim for two words of k bits.
 pub joined_hold : (k la ha lb hb x y : ℕ) → k ≤ 64 → ha < 2 ^ k → hb < 2 ^ k → IsIn la ha x → IsIn lb hb y → Holds (2 ^ k) (joined_bits la ha lb hb) (bit_or x y)
 joined_hold k la ha lb hb x y few ka kb p q =
     let wide : 2 ^ k ≤ 2 ^ 64 = pow_mono few in

@@ -1,4 +1,4 @@
--- The table of ranges: each operation's interval holds what it makes of any two numbers.
+-- The table of ranges: the interval of each operation contains its result for any two numbers.
 use Rattle.std.proofs.Common.{◌≡◌, ◌∙◌, ℕ, ◌/◌, ◌%◌, ◌^◌, ◌<◌, ◌≤◌, refl, ap₂, arith}
 use Rattle.std.specs.Prelude.{◌==◌, ◌&&◌, nat_lt}
 use Rattle.std.proofs.lemmas.Bool.{ltb-true, eqb-true, and_parts}
@@ -50,7 +50,7 @@ pub taken_same : (w : Width) (x : ℕ) → x < 2 ^ bits_of w → taken w x ≡ x
 taken_same W32 x h = mod-eq_of_lt h
 taken_same W64 x h = refl
 
--- of numbers of the width, one number and one number give the exact result
+-- Proves the claim for numbers of the width, where two single numbers give the exact result.
 used_holds : (w : Width) (operation : Operation) (p q : ℕ × ℕ) (x y : ℕ) → Holds (2 ^ bits_of w) p x → Holds (2 ^ bits_of w) q y →
     Holds (2 ^ bits_of w) (of_used w operation p q) (operated w operation x y)
 unfolding of_used
@@ -69,7 +69,7 @@ used_holds w operation p q x y h k =
     ((omega arith, omega arith), omega arith))
     (λ f. there)
 
--- the table's interval of two intervals of words
+-- Proves the claim for two intervals of words.
 pub table_holds : (w : Width) (operation : Operation) (la ha lb hb x y : ℕ) → ha < 2 ^ 64 → hb < 2 ^ 64 → IsIn la ha x → IsIn lb hb y →
     Holds (2 ^ bits_of w) (table w operation la ha lb hb) (arithmetic w operation x y)
 table_holds w operation la ha lb hb x y k l p q =

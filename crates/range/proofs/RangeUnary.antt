@@ -25,7 +25,7 @@ use Rattle.range.proofs.RangeRows.{Holds, by_test, whole_holds}
 use Rattle.range.proofs.SignedRows.{unsigned_below, some_word}
 use Rattle.range.proofs.RangeTable.{low_holds, taken_same}
 
--- the only number of an interval
+-- Proves what the only number of an interval is.
 only : (n : ℕ) (p : ℕ × ℕ) (x : ℕ) → Holds n p x → (p.0 == p.1) ≡ true → p.0 ≡ x
 only n p x h t = let e : p.0 ≡ p.1 = eqb-true p.0 p.1 t in omega (arith, h.0.0, h.0.1)
 
@@ -49,7 +49,7 @@ used_negated w p x h =
 pub negations_hold : (w : Width) (la ha x : ℕ) → ha < 2 ^ 64 → IsIn la ha x → Holds (2 ^ bits_of w) (negations w la ha) (negated w x)
 negations_hold w la ha x k p = used_negated w (low w la ha) x (low_holds w la ha x k p)
 
--- ---- extension by the sign
+-- ---- sign extension
 
 part_mag : (part : Narrow) (a : ℕ) → mag (signed_part part a) < 2 ^ 32
 part_mag narrow.Byte a = grind (arith, nat_tests)
@@ -77,7 +77,7 @@ used_extended w part p x h =
 pub extensions_hold : (w : Width) (part : Narrow) (la ha x : ℕ) → ha < 2 ^ 64 → IsIn la ha x → Holds (2 ^ bits_of w) (extensions w part la ha) (sign_extended w part x)
 extensions_hold w part la ha x k p = used_extended w part (low w la ha) x (low_holds w la ha x k p)
 
--- ---- bytes in an order
+-- ---- byte order
 
 byte_fits : (i n : ℕ) → byte_at i n < 256
 byte_fits zero n = omega arith

@@ -1,5 +1,6 @@
--- Defines what a conditional jump implies about two intervals p and q on one of its edges. Nothing remains if no pair
--- of numbers takes the edge.
+-- What a conditional jump implies about the two numbers that it compared, which are in the intervals p and q. There
+-- is one edge on which the jump is taken, and one on which it is not. The result is None if no pair of numbers goes
+-- along the edge.
 use Rattle.std.specs.Prelude.{ℕ, ◌+◌, ◌-◌, ◌^◌, min, max, Bool, true, false, not, ◌&&◌, ◌==◌, nat_lt, nat_le, if◌then◌else◌, Option, Some, None}
 use Rattle.word.specs.Arithmetic.{bits_of}
 use Rattle.word.specs.declared.Width.{Width}
@@ -8,11 +9,11 @@ use Rattle.word.specs.declared.Condition.TheVariants.{Equal, Above, AtLeast, Any
 use Rattle.range.specs.Interval.{IsIn}
 use Rattle.range.specs.Table.{sign_limit}
 
--- Two intervals, each given by its ends.
+-- Two intervals, each given by its least and its greatest number.
 abbrev pub Pair : Type 0
 Pair = (ℕ × ℕ) × (ℕ × ℕ)
 
--- Returns both intervals if neither is empty.
+-- Returns both intervals, or None if one of them is empty.
 abbrev pub both : ℕ × ℕ → ℕ × ℕ → Option Pair
 both p q = if nat_lt p.1 p.0 then None else (if nat_lt q.1 q.0 then None else Some (p, q))
 
@@ -21,31 +22,31 @@ abbrev pub exchanged : Option Pair → Option Pair
 exchanged None = None
 exchanged (Some e) = Some (e.1, e.0)
 
--- Removes the only number of q from p, if it is an end of p. If q has several numbers, p stays as it is.
+-- Removes the only number of q from p, if it is an end of p. Returns p if q has several numbers.
 abbrev pub without : ℕ × ℕ → ℕ × ℕ → ℕ × ℕ
 without p q =
     if q.0 == q.1
     then (if p.0 == q.0 then (p.0 + 1, p.1) else (if p.1 == q.0 then (p.0, p.1 - 1) else p))
     else p
 
--- Returns what remains where the first number equals the second.
+-- Narrows both intervals by what is known if the first number equals the second.
 abbrev pub equal : ℕ × ℕ → ℕ × ℕ → Option Pair
 equal p q = both (max p.0 q.0, min p.1 q.1) (max p.0 q.0, min p.1 q.1)
 
--- Returns what remains where the first number differs from the second.
+-- Narrows both intervals by what is known if the first number differs from the second.
 abbrev pub different : ℕ × ℕ → ℕ × ℕ → Option Pair
 different p q = both (without p q) (without q p)
 
--- Returns what remains where the first number is above the second.
+-- Narrows both intervals by what is known if the first number is above the second.
 abbrev pub above : ℕ × ℕ → ℕ × ℕ → Option Pair
 above p q = both (max p.0 (q.0 + 1), p.1) (q.0, min q.1 (p.1 - 1))
 
--- Returns what remains where the first number is at least the second.
+-- Narrows both intervals by what is known if the first number is at least the second.
 abbrev pub at_least : ℕ × ℕ → ℕ × ℕ → Option Pair
 at_least p q = both (max p.0 q.0, p.1) (q.0, min q.1 p.1)
 
--- Returns what remains on the edge on which a condition holds. The numbers of both intervals must have the same value
--- signed and unsigned if the condition is signed.
+-- Narrows both intervals by what is known if a condition holds between their numbers. If the condition is signed, no
+-- number may be negative as signed.
 abbrev pub edge : Condition → ℕ × ℕ → ℕ × ℕ → Option Pair
 edge Equal p q = equal p q
 edge NotEqual p q = different p q
@@ -59,8 +60,8 @@ edge AtMost p q = exchanged (at_least q p)
 edge SignedAtMost p q = exchanged (at_least q p)
 edge AnyBit p q = Some (p, q)
 
--- Checks whether a condition holds of two numbers that have the same value signed and unsigned. For `AnyBit` it is
--- always true, because nothing is concluded from shared bits.
+-- Returns whether a condition holds between two numbers that are not negative as signed. It is always true for
+-- `AnyBit`, because nothing is concluded from shared bits.
 abbrev pub meets : Condition → ℕ → ℕ → Bool
 meets Equal x y = x == y
 meets NotEqual x y = not (x == y)
@@ -74,7 +75,8 @@ meets AtMost x y = nat_le x y
 meets SignedAtMost x y = nat_le x y
 meets AnyBit x y = true
 
--- Returns the condition of the other edge. For `AnyBit` it is `AnyBit`, because neither edge refines anything.
+-- Returns the condition of the other edge, which holds exactly if this one does not. For `AnyBit` it is `AnyBit`,
+-- because neither edge narrows an interval.
 abbrev pub opposite : Condition → Condition
 opposite Equal = NotEqual
 opposite NotEqual = Equal
@@ -88,8 +90,8 @@ opposite SignedAtLeast = SignedBelow
 opposite SignedBelow = SignedAtLeast
 opposite AnyBit = AnyBit
 
--- Returns the limit below which numbers are refined: the numbers of the width, and for signed conditions those that are
--- not negative.
+-- Returns the limit below which numbers are narrowed. For a signed condition it is the least number that is negative
+-- as signed, and otherwise 2^32 or 2^64.
 abbrev pub edge_limit : Width → Condition → ℕ
 edge_limit w SignedAbove = sign_limit w
 edge_limit w SignedAtLeast = sign_limit w
@@ -103,12 +105,12 @@ edge_limit w Below = 2 ^ bits_of w
 edge_limit w AtMost = 2 ^ bits_of w
 edge_limit w AnyBit = 2 ^ bits_of w
 
--- Returns what remains on the edge where a condition holds, or on the other edge.
+-- Narrows both intervals on the edge where a condition holds (true), or on the other edge (false).
 abbrev pub edge_taken : Condition → Bool → ℕ × ℕ → ℕ × ℕ → Option Pair
 edge_taken condition true p q = edge condition p q
 edge_taken condition false p q = edge (opposite condition) p q
 
--- Checks whether a condition says anything about the numbers. That they share a bit says nothing.
+-- Returns whether anything is concluded from a condition. Nothing is concluded from shared bits.
 abbrev pub tells : Condition → Bool
 tells AnyBit = false
 tells Equal = true
@@ -122,19 +124,19 @@ tells SignedAtLeast = true
 tells SignedBelow = true
 tells SignedAtMost = true
 
--- Checks whether a condition refines two intervals.
+-- Returns whether a jump on a condition can narrow these two intervals.
 abbrev pub is_refined : Width → Condition → ℕ × ℕ → ℕ × ℕ → Bool
 is_refined w condition p q =
     (nat_lt p.1 (edge_limit w condition) && nat_lt q.1 (edge_limit w condition)) && tells condition
 
--- Returns what remains of two intervals if a jump on a condition is taken, or is not taken.
+-- Narrows two intervals by what is known if a jump on a condition is taken, or is not taken.
 unfoldable pub refined : Width → Condition → Bool → ℕ × ℕ → ℕ × ℕ → Option Pair
 refined w condition taken p q =
     if nat_lt p.1 (edge_limit w condition) && nat_lt q.1 (edge_limit w condition)
     then edge_taken condition taken p q
     else Some (p, q)
 
--- States that two intervals remain, and they hold the two numbers.
+-- States that two intervals remain, and that they contain the numbers x and y.
 abbrev pub HoldBoth : Option Pair → ℕ → ℕ → Type 0
 HoldBoth None x y = ⊥
 HoldBoth (Some e) x y = IsIn e.0.0 e.0.1 x × IsIn e.1.0 e.1.1 y

@@ -1,11 +1,11 @@
-//! Ranges of the results of AND, OR and XOR.
+//! Computes the ranges of the results of AND, OR and XOR.
 
 ghost use Rattle.std.specs.Prelude.{◌≡◌, ◌≤◌, ◌<◌, ◌^◌, ℕ};
 ghost use Rattle.range.specs.Table.{ones, common_bits, joined_bits, differing_bits};
 
 use crate::range::Range;
 
-/// Returns the range of `x & y` for numbers `x` of `a` and `y` of `b`.
+/// Returns a range that contains `x & y` for all numbers `x` of `a` and `y` of `b`.
 pub(crate) fn and(a: Range, b: Range) -> Range
     ensures exact { result ≡ common_bits a.0 a.1 b.0 b.1 }
     ensures below { result.1 ≤ a.1 }
@@ -16,7 +16,7 @@ pub(crate) fn and(a: Range, b: Range) -> Range
     }
 }
 
-/// Returns the least of 0, 1, 3, 7, 15, ... that is not below `x`.
+/// Returns the least number of the form 2^k - 1 (0, 1, 3, 7 and so on) that is at least `x`.
 pub(crate) fn ones_over(x: u64) -> u64
     ensures exact { result ≡ ones x }
     ensures covers { x ≤ result }
@@ -28,7 +28,7 @@ pub(crate) fn ones_over(x: u64) -> u64
     u64::MAX >> x.leading_zeros()
 }
 
-/// Returns the range of `x | y` for numbers `x` of `a` and `y` of `b`.
+/// Returns a range that contains `x | y` for all numbers `x` of `a` and `y` of `b`.
 pub(crate) fn or(a: Range, b: Range) -> Range
     ensures exact { result ≡ joined_bits a.0 a.1 b.0 b.1 }
     ensures below { (k : ℕ) → a.1 < 2 ^ k → b.1 < 2 ^ k → result.1 < 2 ^ k }
@@ -39,7 +39,7 @@ pub(crate) fn or(a: Range, b: Range) -> Range
     }
 }
 
-/// Returns the range of `x ^ y` for numbers `x` of `a` and `y` of `b`.
+/// Returns a range that contains `x ^ y` for all numbers `x` of `a` and `y` of `b`.
 pub(crate) fn xor(a: Range, b: Range) -> Range
     ensures exact { result ≡ differing_bits a.0 a.1 b.0 b.1 }
     ensures below { (k : ℕ) → a.1 < 2 ^ k → b.1 < 2 ^ k → result.1 < 2 ^ k }

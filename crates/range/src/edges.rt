@@ -1,4 +1,4 @@
-//! Refinement of two ranges by a conditional jump that compared them, where it is taken and where it is not.
+//! Narrows the ranges of the two numbers that a conditional jump compared, where it is taken and where it is not.
 
 ghost use Rattle.std.specs.Prelude.{◌≡◌, ◌≢◌, ◌<◌, ◌≤◌, ◌+◌, ℕ, IsTrue, true};
 ghost use Rattle.word.specs.Arithmetic.{compared};
@@ -9,8 +9,8 @@ use crate::range::Range;
 use crate::width::{greatest, least_negative};
 use word::{Condition, Width};
 
-/// Returns what remains of two ranges if a jump on a condition is taken, or is not taken. Returns `None` if no pair of
-/// their numbers takes that edge.
+/// Narrows two ranges by what is known if a jump on `condition` is taken, or is not taken. Every pair of numbers that
+/// goes this way stays in the results. `None` means that no pair of numbers of `a` and `b` goes this way.
 #[inline(always)]
 pub fn refine(
     width: Width,
@@ -33,7 +33,8 @@ pub fn refine(
     edge_where(other_edge(condition), a, b)
 }
 
-/// Checks whether a jump on the condition can refine the two ranges on its edges.
+/// Checks whether a jump on this condition can narrow the two ranges. It cannot for `AnyBit`, or if a range has
+/// numbers that are too great for this condition.
 #[inline(always)]
 pub fn tells(width: Width, condition: Condition, a: Range, b: Range) -> bool
     ensures { result ≡ is_refined width condition a b }
@@ -42,8 +43,8 @@ pub fn tells(width: Width, condition: Condition, a: Range, b: Range) -> bool
     a.hi <= limit && b.hi <= limit && condition != Condition::AnyBit
 }
 
-/// Returns the greatest number that a condition refines. For a signed condition it is the greatest number that is not
-/// negative.
+/// Returns the greatest number for which a comparison narrows ranges. For a signed condition it is the greatest
+/// number that is not negative as signed, else the greatest number of the width.
 #[inline(always)]
 fn greatest_refined(width: Width, condition: Condition) -> u64
     ensures { result + 1 ≡ edge_limit width condition }
@@ -63,8 +64,8 @@ fn greatest_refined(width: Width, condition: Condition) -> u64
     }
 }
 
-/// Returns the condition that holds exactly where `condition` does not. For `AnyBit`, which refines nothing, it returns
-/// `AnyBit`.
+/// Returns the condition that holds exactly where `condition` does not hold. For `AnyBit`, which narrows no range,
+/// returns `AnyBit`.
 #[inline(always)]
 fn other_edge(condition: Condition) -> Condition
     ensures { result ≡ opposite condition }
@@ -84,8 +85,8 @@ fn other_edge(condition: Condition) -> Condition
     }
 }
 
-/// Returns what remains of two ranges if a condition holds. Their numbers must have the same value signed and unsigned
-/// if the condition is signed.
+/// Narrows two ranges by what is known if a condition holds between their numbers. If the condition is signed, no
+/// number may be negative as signed. `None` means that the condition holds for no pair of their numbers.
 #[inline(always)]
 fn edge_where(condition: Condition, a: Range, b: Range) -> Option<(Range, Range)>
     ensures exact { result ≡ edge condition a b }
@@ -107,7 +108,7 @@ fn edge_where(condition: Condition, a: Range, b: Range) -> Option<(Range, Range)
     }
 }
 
-/// Exchanges the two ranges.
+/// Exchanges the two ranges of a pair.
 fn turned(pair: Option<(Range, Range)>) -> Option<(Range, Range)>
     ensures exact { result ≡ exchanged pair }
     ensures holds { (x y : ℕ) → HoldBoth pair y x → HoldBoth result x y }
@@ -118,7 +119,8 @@ fn turned(pair: Option<(Range, Range)>) -> Option<(Range, Range)>
     }
 }
 
-/// Returns what remains of two ranges if both numbers are equal.
+/// Narrows two ranges by what is known if their numbers are equal: both become the common part. Returns `None` if
+/// they have no number in common.
 #[inline(always)]
 fn where_equal(a: Range, b: Range) -> Option<(Range, Range)>
     ensures exact { result ≡ equal a b }
@@ -133,7 +135,8 @@ fn where_equal(a: Range, b: Range) -> Option<(Range, Range)>
     Some((common, common))
 }
 
-/// Returns what remains of two ranges if the numbers differ.
+/// Narrows two ranges by what is known if their numbers differ. Returns `None` if both have only one number, and it
+/// is the same.
 #[inline(always)]
 fn where_different(a: Range, b: Range) -> Option<(Range, Range)>
     ensures exact { result ≡ different a b }
@@ -145,7 +148,7 @@ fn where_different(a: Range, b: Range) -> Option<(Range, Range)>
     Some((less_number(a, b), less_number(b, a)))
 }
 
-/// Removes the only number of `b` from `a`, if it is an end of `a`. If `b` has several numbers, returns `a`.
+/// Removes the only number of `b` from `a`, if it is an end of `a`. Returns `a` if `b` has several numbers.
 #[inline(always)]
 fn less_number(a: Range, b: Range) -> Range
     requires { a.0 ≡ b.1 → b.0 ≢ a.1 }
@@ -170,7 +173,8 @@ fn less_number(a: Range, b: Range) -> Range
     a
 }
 
-/// Returns what remains of two ranges if the first number is above the second.
+/// Narrows two ranges by what is known if the first number is above the second. Returns `None` if this holds for no
+/// pair of their numbers.
 #[inline(always)]
 fn where_above(a: Range, b: Range) -> Option<(Range, Range)>
     ensures exact { result ≡ above a b }
@@ -190,7 +194,8 @@ fn where_above(a: Range, b: Range) -> Option<(Range, Range)>
     Some((first, second))
 }
 
-/// Returns what remains of two ranges if the first number is at least the second.
+/// Narrows two ranges by what is known if the first number is at least the second. Returns `None` if this holds for
+/// no pair of their numbers.
 #[inline(always)]
 fn where_at_least(a: Range, b: Range) -> Option<(Range, Range)>
     ensures exact { result ≡ at_least a b }

@@ -1,4 +1,4 @@
-//! Ranges of the results of operations with two operands: the table of operations.
+//! Computes the ranges of the results of operations with two operands.
 
 ghost use Rattle.std.specs.Prelude.{◌≡◌, ◌<◌, ◌^◌, ℕ};
 ghost use Rattle.word.specs.Arithmetic.{bits_of, arithmetic};
@@ -11,8 +11,8 @@ use crate::{bit_operations, quotients, shifts, sums};
 use word::arithmetic::{alu32, alu64};
 use word::{Operation, Width};
 
-/// Returns the range of an operation's results for a number of `a` and one of `b`. If each range has one number, it is
-/// exactly their result. The function is not inlined, because its code is long.
+/// Returns a range that contains the operation's results for all numbers of `a` and `b`. If each of these has only
+/// one number, it contains only their result. The function is not inlined, because its code is long.
 #[inline(never)]
 pub fn operate(width: Width, operation: Operation, a: Range, b: Range) -> Range
     ensures exact { result ≡ table width operation a.0 a.1 b.0 b.1 }
@@ -28,7 +28,7 @@ pub fn operate(width: Width, operation: Operation, a: Range, b: Range) -> Range
     by_row(width, operation, a, b)
 }
 
-/// Computes the result of an operation on two words.
+/// Returns the result of an operation on two words, or on their low 32 bits.
 fn computed(width: Width, operation: Operation, a: u64, b: u64) -> u64
     ensures exact { result ≡ arithmetic width operation a b }
     ensures below { result < 2 ^ bits_of width }
@@ -39,7 +39,8 @@ fn computed(width: Width, operation: Operation, a: u64, b: u64) -> u64
     }
 }
 
-/// Returns the range of an operation's results by the operation's row of the table. Both ranges must be of the width.
+/// Returns a range that contains the operation's results for all numbers of `a` and `b`. No number may exceed the
+/// width.
 fn by_row(width: Width, operation: Operation, a: Range, b: Range) -> Range
     requires left { a.1 < 2 ^ bits_of width }
     requires right { b.1 < 2 ^ bits_of width }

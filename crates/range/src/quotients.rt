@@ -1,4 +1,4 @@
-//! Quotients and remainders of ranges of one width.
+//! Computes the ranges of quotients and remainders.
 
 ghost use Rattle.std.specs.Prelude.{◌≡◌, ◌≤◌, ◌<◌, ◌^◌};
 ghost use Rattle.word.specs.Arithmetic.{bits_of};
@@ -8,7 +8,7 @@ use crate::range::Range;
 use crate::width::{least_negative, of_width};
 use word::Width;
 
-/// Returns the range of the quotients. A quotient by 0 is 0.
+/// Returns a range that contains `x / y` for all numbers `x` of `a` and `y` of `b`. A quotient by 0 is 0.
 pub(crate) fn divide(width: Width, a: Range, b: Range) -> Range
     ensures exact { result ≡ quotients a.0 a.1 b.0 b.1 }
     ensures below { result.1 ≤ a.1 }
@@ -26,7 +26,8 @@ pub(crate) fn divide(width: Width, a: Range, b: Range) -> Range
     Range { lo: 0, hi: a.hi }
 }
 
-/// Returns the range of the remainders. The remainder of a number divided by 0 is that number.
+/// Returns a range that contains `x % y` for all numbers `x` of `a` and `y` of `b`. If `y` is 0, the remainder is
+/// `x`.
 pub(crate) fn remain(width: Width, a: Range, b: Range) -> Range
     ensures exact { result ≡ remainders a.0 a.1 b.0 b.1 }
     ensures below { result.1 ≤ a.1 }
@@ -47,7 +48,8 @@ pub(crate) fn remain(width: Width, a: Range, b: Range) -> Range
     Range { lo: 0, hi: a.hi }
 }
 
-/// Returns the range of the signed quotients. If a number may be negative, it is the whole width.
+/// Returns a range that contains the signed quotients of all numbers of `a` and `b`. If any of them is negative as
+/// signed, the range has all numbers of the width.
 pub(crate) fn divide_signed(width: Width, a: Range, b: Range) -> Range
     requires left { a.1 < 2 ^ bits_of width }
     requires right { b.1 < 2 ^ bits_of width }
@@ -61,7 +63,8 @@ pub(crate) fn divide_signed(width: Width, a: Range, b: Range) -> Range
     of_width(width)
 }
 
-/// Returns the range of the signed remainders. If a number may be negative, it is the whole width.
+/// Returns a range that contains the signed remainders of all numbers of `a` and `b`. If any of them is negative as
+/// signed, the range has all numbers of the width.
 pub(crate) fn remain_signed(width: Width, a: Range, b: Range) -> Range
     requires left { a.1 < 2 ^ bits_of width }
     requires right { b.1 < 2 ^ bits_of width }

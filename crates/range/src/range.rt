@@ -1,4 +1,4 @@
-//! Ranges of words: the type, membership and joins.
+//! Defines ranges of words: the type, membership and joins.
 
 ghost use Rattle.std.specs.Prelude.{◌≡◌, ◌↔◌, ◌≤◌, ◌<◌, ◌^◌, ℕ, IsTrue};
 ghost use Rattle.range.specs.Interval.{IsIn};
@@ -7,7 +7,7 @@ ghost use Rattle.range.specs.Table.{single, whole, joined};
 use std::marker::Model;
 use word::Width;
 
-/// The words from `lo` to `hi`, including both.
+/// The range of words from `lo` to `hi`, which includes both.
 #[derive(Clone, Copy)]
 pub struct Range {
     pub lo: u64,
@@ -27,7 +27,7 @@ impl Model for Range {
 }
 
 impl Range {
-    /// Returns the range of all words.
+    /// Returns the range of all 64-bit words.
     pub fn full() -> Range
         ensures exact { result ≡ whole Width.W64 }
         ensures holds { (x : ℕ) → x < 2 ^ 64 → IsIn result.0 result.1 x }
@@ -38,7 +38,7 @@ impl Range {
         }
     }
 
-    /// Returns the range that contains only `n`: its least and its greatest number are `n`.
+    /// Returns the range that contains only `n`.
     pub fn exactly(n: u64) -> Range
         ensures exact { result ≡ single n }
         ensures holds { IsIn result.0 result.1 n }
@@ -46,21 +46,21 @@ impl Range {
         Range { lo: n, hi: n }
     }
 
-    /// Checks whether the range holds a number.
+    /// Checks whether the range contains `x`.
     pub fn contains(self, x: u64) -> bool
         ensures { IsTrue result ↔ IsIn self.0 self.1 x }
     {
         self.lo <= x && x <= self.hi
     }
 
-    /// Checks whether the range holds only one number.
+    /// Checks whether the range contains only one number.
     pub fn is_single(self) -> bool
         ensures { IsTrue result ↔ (self.0 ≡ self.1) }
     {
         self.lo == self.hi
     }
 
-    /// Returns the smallest range that contains every number of both ranges.
+    /// Returns the smallest range that contains all numbers of both ranges.
     pub fn join(self, other: Range) -> Range
         ensures exact { result ≡ joined self.0 self.1 other.0 other.1 }
         ensures left { (x : ℕ) → IsIn self.0 self.1 x → IsIn result.0 result.1 x }

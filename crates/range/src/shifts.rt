@@ -1,4 +1,4 @@
-//! Shifts of ranges of one width.
+//! Computes the ranges of shifted numbers.
 
 ghost use Rattle.std.specs.Prelude.{◌≡◌, ◌≤◌, ◌<◌, ◌^◌};
 ghost use Rattle.word.specs.Arithmetic.{bits_of};
@@ -8,7 +8,8 @@ use crate::range::Range;
 use crate::width::{bit_count, greatest, least_negative, of_width};
 use word::Width;
 
-/// Returns the range of the numbers of `a` shifted left by those of `b`.
+/// Returns a range that contains `x << y`, cut to the width, for all numbers `x` of `a` and `y` of `b`. The count `y`
+/// is taken modulo the width in bits.
 pub(crate) fn shift_left(width: Width, a: Range, b: Range) -> Range
     requires left { a.1 < 2 ^ bits_of width }
     ensures exact { result ≡ left_shifts width a.0 a.1 b.0 b.1 }
@@ -27,7 +28,8 @@ pub(crate) fn shift_left(width: Width, a: Range, b: Range) -> Range
     }
 }
 
-/// Returns the range of the numbers of `a` shifted right by those of `b`. The bits that come in are zeros.
+/// Returns a range that contains `x >> y`, with zeros shifted in, for all numbers `x` of `a` and `y` of `b`. The
+/// count `y` is taken modulo the width in bits.
 pub(crate) fn shift_right(width: Width, a: Range, b: Range) -> Range
     ensures exact { result ≡ right_shifts width a.0 a.1 b.0 b.1 }
     ensures below { result.1 ≤ a.1 }
@@ -42,7 +44,8 @@ pub(crate) fn shift_right(width: Width, a: Range, b: Range) -> Range
     }
 }
 
-/// Returns the range of the numbers of `a` shifted right by those of `b`. The bits that come in are copies of the sign.
+/// Returns a range that contains `x >> y`, with copies of the sign bit shifted in, for all numbers `x` of `a` and `y`
+/// of `b`. The count `y` is taken modulo the width in bits.
 pub(crate) fn shift_signed(width: Width, a: Range, b: Range) -> Range
     requires left { a.1 < 2 ^ bits_of width }
     ensures exact { result ≡ signed_shifts width a.0 a.1 b.0 b.1 }

@@ -1,4 +1,4 @@
-//! Sums, differences and products of ranges of one width.
+//! Computes the ranges of sums, differences and products that wrap at the width.
 
 ghost use Rattle.std.specs.Prelude.{◌≡◌, ◌<◌, ◌^◌};
 ghost use Rattle.word.specs.Arithmetic.{bits_of};
@@ -8,7 +8,7 @@ use crate::range::Range;
 use crate::width::{greatest, of_width};
 use word::Width;
 
-/// Returns the range of the wrapping sums.
+/// Returns a range that contains `x + y`, wrapped at the width, for all numbers `x` of `a` and `y` of `b`.
 pub(crate) fn add(width: Width, a: Range, b: Range) -> Range
     requires left { a.1 < 2 ^ bits_of width }
     requires right { b.1 < 2 ^ bits_of width }
@@ -31,7 +31,7 @@ pub(crate) fn add(width: Width, a: Range, b: Range) -> Range
     of_width(width)
 }
 
-/// Returns the range of the wrapping differences.
+/// Returns a range that contains `x - y`, wrapped at the width, for all numbers `x` of `a` and `y` of `b`.
 pub(crate) fn subtract(width: Width, a: Range, b: Range) -> Range
     requires left { a.1 < 2 ^ bits_of width }
     requires right { b.1 < 2 ^ bits_of width }
@@ -54,7 +54,7 @@ pub(crate) fn subtract(width: Width, a: Range, b: Range) -> Range
     of_width(width)
 }
 
-/// Returns the range of the wrapping products.
+/// Returns a range that contains `x * y`, wrapped at the width, for all numbers `x` of `a` and `y` of `b`.
 pub(crate) fn multiply(width: Width, a: Range, b: Range) -> Range
     requires left { a.1 < 2 ^ bits_of width }
     requires right { b.1 < 2 ^ bits_of width }

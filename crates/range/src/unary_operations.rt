@@ -1,4 +1,4 @@
-//! Ranges of the results of operations with one operand: negation, sign extension and byte swaps.
+//! Computes the ranges of the results of operations with one operand: negation, sign extension and byte swaps.
 
 ghost use Rattle.std.specs.Prelude.{◌≡◌, ◌+◌, ◌<◌, ◌^◌, ◌-◌, ℕ};
 ghost use Rattle.word.specs.Arithmetic.{bits_of, negated, sign_extended, swapped, swapped_bytes};
@@ -9,7 +9,7 @@ use crate::range::Range;
 use crate::width::{of_width, used};
 use word::{ByteOrder, Narrow, SwapSize, Width, arithmetic, swap};
 
-/// Returns the range of the negated numbers.
+/// Returns a range that contains `-x`, wrapped at the width, for all numbers `x` of `a`.
 pub fn negate(width: Width, a: Range) -> Range
     ensures exact { result ≡ negations width a.0 a.1 }
     ensures holds { (x : ℕ) → IsIn a.0 a.1 x → IsIn result.0 result.1 (negated width x) }
@@ -22,7 +22,7 @@ pub fn negate(width: Width, a: Range) -> Range
     of_width(width)
 }
 
-/// Returns the range of the numbers after their low 8, 16 or 32 bits are sign-extended.
+/// Returns a range that contains all numbers of `a` after their low 8, 16 or 32 bits are sign-extended to the width.
 pub fn sign_extend(width: Width, part: Narrow, a: Range) -> Range
     ensures exact { result ≡ extensions width part a.0 a.1 }
     ensures holds { (x : ℕ) → IsIn a.0 a.1 x → IsIn result.0 result.1 (sign_extended width part x) }
@@ -38,7 +38,7 @@ pub fn sign_extend(width: Width, part: Narrow, a: Range) -> Range
     of_width(width)
 }
 
-/// Returns the least number of 8, 16 or 32 bits that is negative as signed.
+/// Returns the least number of 8, 16 or 32 bits that is negative as signed, such as 0x80.
 fn least_negative_part(part: Narrow) -> u64
     ensures { result ≡ 2 ^ (part_bits part - 1) }
 {
@@ -49,7 +49,8 @@ fn least_negative_part(part: Narrow) -> u64
     }
 }
 
-/// Returns the range of the numbers after their low 2, 4 or 8 bytes are put in an order.
+/// Returns a range that contains all numbers of `a` after their low 2, 4 or 8 bytes are put in the given byte order.
+/// The bytes above them become zero.
 pub fn swap(order: ByteOrder, size: SwapSize, a: Range) -> Range
     ensures exact { result ≡ swaps order size a.0 a.1 }
     ensures holds { (x : ℕ) → IsIn a.0 a.1 x → IsIn result.0 result.1 (swapped order size x) }
@@ -65,7 +66,7 @@ pub fn swap(order: ByteOrder, size: SwapSize, a: Range) -> Range
     }
 }
 
-/// Returns the greatest number of 2, 4 or 8 bytes.
+/// Returns the greatest number of 2, 4 or 8 bytes, such as 0xffff.
 fn greatest_of(size: SwapSize) -> u64
     ensures { result + 1 ≡ 256 ^ swapped_bytes size }
 {

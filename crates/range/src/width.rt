@@ -1,4 +1,4 @@
-//! Widths of operations, 32 and 64 bits: their limits, and the ranges of the low bits that they use.
+//! Defines the limits of 32-bit and 64-bit operations, and the ranges of the low bits that they use.
 
 ghost use Rattle.std.specs.Prelude.{◌≡◌, ◌+◌, ◌<◌, ◌^◌, ℕ};
 ghost use Rattle.word.specs.Arithmetic.{bits_of, taken};
@@ -8,7 +8,7 @@ ghost use Rattle.range.specs.Table.{whole, low, sign_limit};
 use crate::range::Range;
 use word::Width;
 
-/// Returns the greatest number of a width.
+/// Returns the greatest number of 32 or 64 bits.
 pub(crate) fn greatest(width: Width) -> u64
     ensures { result + 1 ≡ 2 ^ bits_of width }
 {
@@ -18,7 +18,7 @@ pub(crate) fn greatest(width: Width) -> u64
     }
 }
 
-/// Returns the least number of a width that is negative as signed.
+/// Returns the least number of 32 or 64 bits that is negative as signed, 2^31 or 2^63.
 pub(crate) fn least_negative(width: Width) -> u64
     ensures { result ≡ sign_limit width }
 {
@@ -28,7 +28,7 @@ pub(crate) fn least_negative(width: Width) -> u64
     }
 }
 
-/// Returns the number of bits of a width.
+/// Returns the number of bits of the width, 32 or 64.
 pub(crate) fn bit_count(width: Width) -> u64
     ensures { result ≡ bits_of width }
 {
@@ -38,7 +38,7 @@ pub(crate) fn bit_count(width: Width) -> u64
     }
 }
 
-/// Returns the range of all numbers of a width.
+/// Returns the range of all numbers of 32 or 64 bits.
 pub fn of_width(width: Width) -> Range
     ensures exact { result ≡ whole width }
     ensures holds { (x : ℕ) → x < 2 ^ bits_of width → IsIn result.0 result.1 x }
@@ -50,7 +50,7 @@ pub fn of_width(width: Width) -> Range
     }
 }
 
-/// Returns the range of the low bits that operations of a width use of the numbers.
+/// Returns a range that contains the low 32 or 64 bits, which operations of this width use, of all numbers of `a`.
 pub fn used(width: Width, a: Range) -> Range
     ensures exact { result ≡ low width a.0 a.1 }
     ensures holds { (x : ℕ) → IsIn a.0 a.1 x → IsIn result.0 result.1 (taken width x) }
@@ -62,7 +62,7 @@ pub fn used(width: Width, a: Range) -> Range
     }
 }
 
-/// Returns the range of the low 32 bits of the numbers.
+/// Returns a range that contains the low 32 bits of all numbers of `a`.
 fn low_word(a: Range) -> Range
     ensures exact { result ≡ low Width.W32 a.0 a.1 }
     ensures holds { (x : ℕ) → IsIn a.0 a.1 x → IsIn result.0 result.1 (taken Width.W32 x) }

@@ -1,4 +1,4 @@
--- How many of the generals below the lieutenant are off a child.
+-- How many generals with a lower number than the lieutenant are not on a child of a label.
 use Rattle.std.proofs.Common.{ℕ, ◌+◌, ◌-◌, ◌<◌, ◌≤◌, ◌≡◌, ◌≢◌, false, List, [], ◌∷◌, ◌++◌, length, ap, ◌∙◌, arith, inl, inr, Some}
 use Rattle.std.specs.Prelude.{nat_lt, slice_get, ◌==◌}
 use Rattle.std.proofs.lemmas.Bool.{cases_lt, lt-ltb, le-ltb, cond-true, cond-false, or_parts, eqb-false}
@@ -9,7 +9,7 @@ use Rattle.label.proofs.Below.{absent, turned}
 use Rattle.label.proofs.Ranks.{others-at, others-place}
 use Rattle.resolve.specs.Decided.{child_lower_off}
 
--- the place among the children of one who is not the lieutenant says on which side of him he is
+-- Proves that the index of a general among the children says whether his number is lower than the lieutenant's.
 pub child-below : (n p : ℕ) (w : List ℕ) (i j lower_off : ℕ) → p < n → on w p ≡ false → slice_get (others n (p ∷ w)) i ≡ Some j → on (p ∷ w) j ≡ false → lower_off ≡ length (others p w) → child_lower_off lower_off i ≡ length (others p (w ++ j ∷ []))
 child-below n p w i j lower_off l o at out e =
     let off : on w j ≡ false = (or_parts (p == j) (on w j) out).1 in

@@ -1,4 +1,4 @@
--- The recursion over ranks is that over labels.
+-- The recursion over ranks gives the same decisions as the recursion over labels.
 use Rattle.std.proofs.Common.{ℕ, zero, suc, ◌+◌, ◌-◌, ◌*◌, ◌<◌, ◌≤◌, ◌≡◌, false, not, List, [], ◌∷◌, ◌++◌, map, length, refl, sym, ap, ◌∙◌, arith, inl, inr, Some, None}
 use Rattle.std.specs.Prelude.{insert, filter, slice_get, unwrap_or}
 use Rattle.std.specs.List.{range_with_len}
@@ -20,7 +20,7 @@ use Rattle.label.proofs.Parts.{by_place, wide}
 use Rattle.resolve.proofs.Below.{child-below}
 use Rattle.std.proofs.lemmas.Option.{get_or_from_slice_get}
 
--- what the tree says of a label
+-- Proves which order the tree contains for a label.
 pub order-told : (t : LieutenantTree) (M : Messages) (size rank : ℕ) (w : List ℕ) → IsFilled t M → 0 < size → size ≤ t.bound + 1 → slice_get (labels t.generals t.commander t.general size) rank ≡ Some w → order_at_rank t size rank ≡ taken M w t.general
 order-told t M size rank w f some short at =
     let up : 1 + (size - 1) ≡ size = omega arith in
@@ -29,7 +29,7 @@ order-told t M size rank w f some short at =
     in
     ap order_of (get_or_from_slice_get (level_of t size) rank (M w t.general) None (told-at t.generals t.commander t.general size rank M w (level_of t size) level at))
 
--- the step, with what is known of the children
+-- Proves the step of the recursion from what is known of the children.
 step : (f : List ℕ → ℕ) (t : LieutenantTree) (M : Messages) (k size rank lower_off : ℕ) (w : List ℕ) → IsCampaign t → IsFilled t M → suc size + suc k ≤ t.bound + 1 → slice_get (labels t.generals t.commander t.general (suc size)) rank ≡ Some w → lower_off ≡ length (others t.general w)
     → ((i j : ℕ) → slice_get (labels t.generals t.commander t.general (suc (suc size))) (rank * (t.generals - 1 - suc size) + i) ≡ Some (w ++ j ∷ []) → child_lower_off lower_off i ≡ length (others t.general (w ++ j ∷ [])) → decided f t k (suc (suc size)) (rank * (t.generals - 1 - suc size) + i) (child_lower_off lower_off i) ≡ om f t.generals M k (w ++ j ∷ []) t.general)
     → decided f t (suc k) (suc size) rank lower_off ≡ om f t.generals M (suc k) w t.general
@@ -57,14 +57,14 @@ step f t M k size rank lower_off w is full short at e ih =
     stands_off : (n p : ℕ) (w : List ℕ) (i j : ℕ) → slice_get (others n (p ∷ w)) i ≡ Some j → on (p ∷ w) j ≡ false
     stands_off n p w i j h = (others-on n (p ∷ w) j (on-get (others n (p ∷ w)) i j h)).1
 
--- the recursion over ranks is that over labels
+-- Proves that the recursion over ranks gives the same as the recursion over labels.
 pub decided-om : (f : List ℕ → ℕ) (t : LieutenantTree) (M : Messages) → IsCampaign t → IsFilled t M → (k size rank lower_off : ℕ) (w : List ℕ) → suc size + k ≤ t.bound + 1 → slice_get (labels t.generals t.commander t.general (suc size)) rank ≡ Some w → lower_off ≡ length (others t.general w) → decided f t k (suc size) rank lower_off ≡ om f t.generals M k w t.general
 unfolding decided om
 decided-om f t M is full zero size rank lower_off w short at e = order-told t M (suc size) rank w full (omega arith) (omega arith) at
 decided-om f t M is full (suc k) size rank lower_off w short at e =
     step f t M k size rank lower_off w is full short at e (λ i j stands here. decided-om f t M is full k (suc size) (rank * (t.generals - 1 - suc size) + i) (child_lower_off lower_off i) (w ++ j ∷ []) (omega arith) stands here)
 
--- the commander alone: of those below the lieutenant he may be one
+-- Proves how many lower generals are not on the label of only the commander.
 pub first-place : (c p lower_off : ℕ) → (c < p → lower_off ≡ p - 1) → (p ≤ c → lower_off ≡ p) → lower_off ≡ length (others p (c ∷ []))
 first-place c p lower_off below behind =
     elim (cases_lt c p) [
@@ -79,12 +79,12 @@ first-place c p lower_off below behind =
     none_out [] = refl
     none_out (x ∷ xs) = ap (λ ys. x ∷ ys) (none_out xs)
 
--- and so from the root
+-- Proves the claim for the whole tree.
 pub resolved : (f : List ℕ → ℕ) (t : LieutenantTree) (M : Messages) (lower_off : ℕ) → IsCampaign t → lower_off ≡ length (others t.general (t.commander ∷ [])) → IsFilled t M → decided f t t.bound 1 0 lower_off ≡ om f t.generals M t.bound (t.commander ∷ []) t.general
 resolved f t M lower_off is e full =
     let first : slice_get (labels t.generals t.commander t.general 1) 0 ≡ Some (t.commander ∷ []) = ap (λ ls. slice_get ls 0) (first_label t.generals t.commander t.general is.lieutenant) in
     decided-om f t M is full t.bound 0 0 lower_off (t.commander ∷ []) (omega arith) first e
 
--- the root is there
+-- Proves that the label of only the commander has a rank.
 pub first-there : (t : LieutenantTree) → IsCampaign t → 0 < length (labels t.generals t.commander t.general 1)
 first-there t is = rw (first_label t.generals t.commander t.general is.lieutenant) (omega arith)

@@ -1,4 +1,4 @@
--- The longest labels: no recursion, but a part of their level.
+-- The decisions just above the longest labels: a part of their level instead of recursion.
 use Rattle.std.proofs.Common.{ℕ, zero, suc, ◌+◌, ◌-◌, ◌*◌, ◌≤◌, ◌≡◌, List, ◌∷◌, map, length, get_or, take, drop, refl, sym, ap, ◌∙◌, arith, Option, None}
 use Rattle.std.specs.Prelude.{insert, slice_range, slice_index_or}
 use Rattle.std.specs.List.{range_with_len}
@@ -7,7 +7,7 @@ use Rattle.label.specs.Oral.{order_of}
 use Rattle.tree.specs.LieutenantTree.{LieutenantTree, level_of}
 use Rattle.resolve.specs.Decided.{decided, order_at_rank}
 
--- a part of a level, place by place
+-- Proves that a part of a level is known index by index.
 part : (xs : List (Option ℕ)) (a b n : ℕ) → a + b + n ≤ length xs → map (λ i. order_of (slice_index_or xs (a + i) None)) (range_with_len b n) ≡ map order_of (take n (drop (a + b) xs))
 part xs a b zero l = refl
 part xs a b (suc n) l =
@@ -15,7 +15,7 @@ part xs a b (suc n) l =
     let next : a + (b + 1) ≡ (a + b) + 1 = omega arith in
     rw (more, part xs a (b + 1) n (omega arith), next) refl
 
--- with one relay left
+-- Proves the claim if one more general can extend the label.
 pub step-one : (f : List ℕ → ℕ) (t : LieutenantTree) (k size rank lower_off width own : ℕ) (children : List ℕ) → k ≡ 1 → own ≡ order_at_rank t size rank → width ≡ t.generals - 1 - size → rank * width + width ≤ length (level_of t (size + 1)) → children ≡ slice_range (map order_of (level_of t (size + 1))) (rank * width) (rank * width + width) → f (insert children lower_off own) ≡ decided f t k size rank lower_off
 unfolding decided
 step-one f t k size rank lower_off width own children one eo ew l ec =

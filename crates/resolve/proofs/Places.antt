@@ -1,4 +1,4 @@
--- How many of the generals below the lieutenant are off the label at a rank.
+-- How many generals with a lower number than the lieutenant are not on the label with a given rank.
 use Rattle.std.proofs.Common.{ℕ, zero, suc, ◌+◌, ◌-◌, ◌*◌, ◌/◌, ◌%◌, ◌<◌, ◌≤◌, ◌≡◌, false, List, [], ◌∷◌, ◌++◌, length, get_or, sym, ap, ◌∙◌, arith, Some}
 use Rattle.std.specs.Prelude.{slice_get}
 use Rattle.std.proofs.lemmas.Nat.{div-add-mod', div_below, mod_below}
@@ -16,19 +16,19 @@ use Rattle.resolve.specs.Decided.{child_lower_off}
 use Rattle.resolve.specs.Upward.{label_at, lower_off_at}
 use Rattle.resolve.proofs.Below.{child-below}
 
--- the label at a rank stands there
+-- Proves that the label with a rank has this index in the list.
 stands : (t : LieutenantTree) (size rank : ℕ) → rank < length (labels t.generals t.commander t.general size) → slice_get (labels t.generals t.commander t.general size) rank ≡ Some (label_at t size rank)
 stands t size rank l = slice_get-get_or (labels t.generals t.commander t.general size) rank [] l
 
--- and lacks the lieutenant
+-- Proves that the lieutenant is not on it.
 pub lacking : (t : LieutenantTree) (k rank : ℕ) (w : List ℕ) → IsCampaign t → slice_get (labels t.generals t.commander t.general k) rank ≡ Some w → on w t.general ≡ false
 lacking t k rank w is at = (proved_labels_are_exact.only t.generals t.commander t.general k rank w is.commander is.general is.lieutenant at).1
 
--- who prolongs it is new to it
+-- Proves that a general who extends a label is new to it.
 off-child : (n p : ℕ) (w : List ℕ) (i j : ℕ) → slice_get (others n (p ∷ w)) i ≡ Some j → on (p ∷ w) j ≡ false
 off-child n p w i j h = (others-on n (p ∷ w) j (on-get (others n (p ∷ w)) i j h)).1
 
--- the commander alone
+-- Proves the claim for the label of only the commander.
 pub place-one : (t : LieutenantTree) (size rank lower_off : ℕ) → IsCampaign t → size ≡ 1 → rank < length (labels t.generals t.commander t.general size) → lower_off ≡ length (others t.general (t.commander ∷ [])) → lower_off ≡ lower_off_at t size rank
 unfolding lower_off_at
 place-one t size rank lower_off is one l e =
@@ -38,7 +38,7 @@ place-one t size rank lower_off is one l e =
     let z : rank ≡ 0 = omega arith in
     rw (one, z, first) e
 
--- a longer label, by its parent
+-- States what a label has from the label without its last general.
 pub record Grown (t : LieutenantTree) (size rank width : ℕ) : Type 0 where
   pub some : 0 < width
   pub parent : rank / width < length (labels t.generals t.commander t.general (size - 1))
@@ -77,7 +77,7 @@ grown t (suc (suc k)) rank width is some ew l =
     positive_of a zero r h = absurd (let z : a * 0 ≡ 0 = omega arith in omega arith)
     positive_of a (suc b) r h = omega arith
 
--- the own order has a place among them
+-- Proves that the own order has an index among the decisions about the children.
 pub place-few : (t : LieutenantTree) (size rank : ℕ) → IsCampaign t → 0 < size → rank < length (labels t.generals t.commander t.general size) → lower_off_at t size rank ≤ t.generals - 1 - size
 unfolding lower_off_at
 place-few t zero rank is some l = absurd (omega arith)

@@ -1,4 +1,4 @@
--- From the decisions about the children to those about the labels.
+-- From the decisions about the children of labels to the decisions about the labels.
 use Rattle.std.proofs.Common.{ℕ, zero, suc, ◌+◌, ◌-◌, ◌*◌, ◌<◌, ◌≤◌, ◌≡◌, false, List, [], ◌∷◌, ◌++◌, map, length, get_or, take, drop, refl, sym, ap, ◌∙◌, arith, Some}
 use Rattle.std.specs.Prelude.{insert, slice_get, slice_range}
 use Rattle.std.specs.List.{range_with_len}
@@ -17,12 +17,12 @@ use Rattle.resolve.specs.Upward.{label_at, lower_off_at, children_of, upward, de
 use Rattle.resolve.proofs.Decisions.{order-told}
 use Rattle.resolve.proofs.Places.{lacking}
 
--- one rank
+-- Proves the decision for one rank.
 pub upward-is : (f : List ℕ → ℕ) (t : LieutenantTree) (below : List ℕ) (size rank width lower_off own : ℕ) (children orders : List ℕ) → width ≡ t.generals - 1 - size → children ≡ slice_range below (rank * width) (rank * width + width) → lower_off ≡ lower_off_at t size rank → own ≡ order_at_rank t size rank → orders ≡ insert children lower_off own → f orders ≡ upward f t below size rank
 unfolding upward
 upward-is f t below size rank width lower_off own children orders ew ec ep eo e = rw (e, ec, ep, eo, ew) refl
 
--- a part of a list, by what stands there
+-- Proves that a part of a list is known from its elements.
 part_is : {A : Type 0} (xs : List ℕ) (G : A → ℕ) (js : List A) (a : ℕ) → ((i : ℕ) (j : A) → slice_get js i ≡ Some j → slice_get xs (a + i) ≡ Some (G j)) → take (length js) (drop a xs) ≡ map G js
 part_is xs G [] a same = refl
 part_is xs G (j ∷ js) a same =
@@ -33,7 +33,7 @@ part_is xs G (j ∷ js) a same =
     let rest : take (length js) (drop (a + 1) xs) ≡ map G js = part_is xs G js (a + 1) (λ i x e. let y : (a + 1) + i ≡ a + suc i = omega arith in rw y (same (suc i) x e)) in
     rw (more, read, rest) refl
 
--- the part of a rank is what its children decide
+-- Proves that the part for a rank contains the decisions about the label's children.
 pub upward-om : (f : List ℕ → ℕ) (t : LieutenantTree) (M : Messages) (k size rank : ℕ) (below : List ℕ) (w : List ℕ) → IsCampaign t → IsFilled t M → 0 < size → size + suc k ≤ t.bound + 1 → slice_get (labels t.generals t.commander t.general size) rank ≡ Some w → below ≡ decisions_at f t M k (size + 1) → upward f t below size rank ≡ om f t.generals M (suc k) w t.general
 unfolding upward lower_off_at decisions_at
 upward-om f t M k zero rank below w is full some short at e = absurd (omega arith)
@@ -56,7 +56,7 @@ upward-om f t M k (suc s) rank below w is full some short at e =
     ∙ ap (insert (map (λ j. om f t.generals M k (w ++ j ∷ []) t.general) (others t.generals (t.general ∷ w))) (length (others t.general w))) (order-told t M (suc s) rank w full (omega arith) (omega arith) at)))
     ∙ sym (om-level f t.generals M k w t.general is.general without)
 
--- a level is what is decided about its labels
+-- Proves that a level contains the decisions about its labels.
 pub level-om : (f : List ℕ → ℕ) (t : LieutenantTree) (M : Messages) (k size : ℕ) (below level : List ℕ) → IsCampaign t → IsFilled t M → 0 < size → size + suc k ≤ t.bound + 1 → below ≡ decisions_at f t M k (size + 1) → level ≡ map (upward f t below size) (nat_range 0 (length (labels t.generals t.commander t.general size))) → level ≡ decisions_at f t M (suc k) size
 unfolding decisions_at
 level-om f t M k size below level is full some short e el =
@@ -69,7 +69,7 @@ level-long f t size below level e =
     let z : length (labels t.generals t.commander t.general size) - 0 ≡ length (labels t.generals t.commander t.general size) = omega arith in
     ap length e ∙ (length-map-range_with_len (upward f t below size) 0 (length (labels t.generals t.commander t.general size) - 0) ∙ z)
 
--- the longest labels
+-- Proves the claim for the longest labels.
 pub longest-om : (f : List ℕ → ℕ) (t : LieutenantTree) (M : Messages) (size : ℕ) (orders : List ℕ) → orders ≡ map order_of (level_told t.generals t.commander t.general M size) → orders ≡ decisions_at f t M 0 size
 unfolding decisions_at om
 longest-om f t M size orders e = e ∙ twice (labels t.generals t.commander t.general size)
@@ -78,7 +78,7 @@ longest-om f t M size orders e = e ∙ twice (labels t.generals t.commander t.ge
     twice [] = refl
     twice (w ∷ ws) = ap (λ xs. taken M w t.general ∷ xs) (twice ws)
 
--- the first of the shortest
+-- Proves that the first decision of the shortest level is the lieutenant's decision.
 pub first-om : (f : List ℕ → ℕ) (t : LieutenantTree) (M : Messages) (k order : ℕ) (decisions : List ℕ) → IsCampaign t → decisions ≡ decisions_at f t M k 1 → order ≡ get_or decisions 0 order → order ≡ om f t.generals M k (t.commander ∷ []) t.general
 unfolding decisions_at
 first-om f t M k order decisions is e eo =
@@ -86,7 +86,7 @@ first-om f t M k order decisions is e eo =
     let whole : decisions ≡ om f t.generals M k (t.commander ∷ []) t.general ∷ [] = rw first at e in
     rw whole at eo
 
--- what was taken so far is no longer than that
+-- Proves that the list so far is not too long.
 pub ap-short : (i : ℕ) (orders xs : List ℕ) → orders ≡ take i xs → length orders ≤ i
 ap-short i orders xs e = let h : length orders ≡ length (take i xs) = ap length e in omega (arith, short i xs)
   where

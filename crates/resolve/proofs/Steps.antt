@@ -1,4 +1,4 @@
--- One step of the recursion over ranks, and of its loops.
+-- One step of the recursion over ranks, and the steps of its loops.
 use Rattle.std.proofs.Common.{ℕ, zero, suc, ◌+◌, ◌-◌, ◌*◌, ◌^◌, ◌<◌, ◌≤◌, ◌≡◌, List, [], ◌∷◌, ◌++◌, map, length, get_or, refl, sym, ap, ◌∙◌, arith, Option, None}
 use Rattle.std.specs.Prelude.{insert, nat_lt}
 use Rattle.std.specs.List.{range_with_len}
@@ -17,7 +17,7 @@ get-order [] i = refl
 get-order (o ∷ told) zero = refl
 get-order (o ∷ told) (suc i) = get-order told i
 
--- the order at a rank
+-- Proves which order is read at a rank.
 pub order-read : (t : LieutenantTree) (size rank : ℕ) (level : List ℕ) → level ≡ map order_of (level_of t size) → get_or level rank 0 ≡ order_at_rank t size rank
 order-read t size rank level e = ap (λ (orders : List ℕ). get_or orders rank 0) e ∙ get-order (level_of t size) rank
 
@@ -40,19 +40,19 @@ child_behind : (f : List ℕ → ℕ) (t : LieutenantTree) (k size rank lower_of
 unfolding child
 child_behind f t k size rank lower_off i l = ap (decided f t k (suc size) (rank * (t.generals - 1 - size) + i)) (sym (cond-false (nat_lt i lower_off) (lower_off - 1) lower_off (le-ltb i lower_off l)))
 
--- one child more, before the own order
+-- Proves that one more decision comes before the own order.
 pub more-before : (f : List ℕ → ℕ) (t : LieutenantTree) (k size rank lower_off width i one : ℕ) (orders longer : List ℕ) → width ≡ t.generals - 1 - size → i < lower_off → orders ≡ map (child f t k size rank lower_off) (range_with_len 0 i) → one ≡ decided f t k (size + 1) (rank * width + i) (lower_off - 1) → longer ≡ orders ++ one ∷ []
     → longer ≡ map (child f t k size rank lower_off) (range_with_len 0 (i + 1))
 more-before f t k size rank lower_off width i one orders longer ew l eo e1 el =
     let next : size + 1 ≡ suc size = omega arith in
     rw (el, eo, e1, ew, next, child_before f t k size rank lower_off i l) (sym (map-range_with_len_more (child f t k size rank lower_off) 0 i i (omega arith)))
 
--- the own order behind them
+-- Proves that the own order comes after these decisions.
 pub own-put : (F : ℕ → ℕ) (lower_off i own : ℕ) (orders longer : List ℕ) → i ≡ lower_off → orders ≡ map F (range_with_len 0 i) → longer ≡ orders ++ own ∷ [] → longer ≡ insert (map F (range_with_len 0 lower_off)) lower_off own
 own-put F lower_off i own orders longer ei eo el =
     rw (el, eo, ei) (sym (ap (λ (n : ℕ). insert (map F (range_with_len 0 lower_off)) n own) (sym (length-map-range_with_len F 0 lower_off)) ∙ insert_end (map F (range_with_len 0 lower_off)) own))
 
--- one child more, behind it
+-- Proves that one more decision comes after the own order.
 pub more-behind : (f : List ℕ → ℕ) (t : LieutenantTree) (k size rank lower_off width i one own : ℕ) (orders longer : List ℕ) → width ≡ t.generals - 1 - size → lower_off ≤ i → orders ≡ insert (map (child f t k size rank lower_off) (range_with_len 0 i)) lower_off own → one ≡ decided f t k (size + 1) (rank * width + i) lower_off → longer ≡ orders ++ one ∷ []
     → longer ≡ insert (map (child f t k size rank lower_off) (range_with_len 0 (i + 1))) lower_off own
 more-behind f t k size rank lower_off width i one own orders longer ew l eo e1 el =
@@ -69,7 +69,7 @@ few-behind F i lower_off own orders l e =
     let h : length (map F (range_with_len 0 i)) ≡ i = length-map-range_with_len F 0 i in
     ap length e ∙ (length-insert (map F (range_with_len 0 i)) lower_off own (omega arith) ∙ ap (λ (n : ℕ). n + 1) h)
 
--- ranks have 32 bits
+-- Proves that ranks have 32 bits.
 pub rank-small : (t : LieutenantTree) (size rank : ℕ) → IsCampaign t → 0 < size → size < 14 → rank < length (labels t.generals t.commander t.general size) → rank < 2 ^ 32
 rank-small t zero rank is some short r = absurd (omega arith)
 rank-small t (suc k) rank is some short r =

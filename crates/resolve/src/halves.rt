@@ -1,4 +1,4 @@
-//! Resolves many trees in parallel (fork and join): the decision of each tree's lieutenant.
+//! Resolves many trees in parallel (fork and join): computes what the lieutenant of each tree decides.
 ghost use Rattle.std.specs.Prelude.{IfOk};
 ghost use Rattle.std.specs.List.{AllZip};
 ghost use Rattle.resolve.specs.Decided.{Decides};
@@ -10,7 +10,7 @@ use std::thread;
 use std::thread::Threads;
 use tree::Tree;
 
-/// Returns what the lieutenants of these trees decide, and computes one tree after another.
+/// Returns the decision of each tree's lieutenant. The trees are resolved one after another.
 fn in_turn<C: Combine + Sync, R: Threads + Sync>(
     rt: &R,
     alloc: Global,
@@ -26,12 +26,12 @@ fn in_turn<C: Combine + Sync, R: Threads + Sync>(
     Ok(decisions)
 }
 
-/// Returns what the lieutenants of these trees decide by this rule, in the order of the trees. Each decision is the one
-/// that `resolve` returns for the tree.
+/// Returns the decision of each tree's lieutenant by this rule, in the order of the trees. A decision is the one that
+/// `resolve` returns for the tree.
 ///
-/// The two halves of the list are resolved in parallel by fork and join. If no thread can be started, the caller
-/// resolves both halves. Within a tree the ranks of a level are combined in parallel. Several threads may call the rule
-/// at the same time.
+/// The first and the second half of the trees are resolved in parallel, by fork and join. If no thread can be
+/// started, the caller resolves both halves. Within a tree the labels of a level are combined in parallel. Several
+/// threads may call the rule at the same time.
 ///
 /// # Errors
 ///

@@ -1,4 +1,5 @@
-//! Resolves one tree bottom-up, level by level from the longest labels. The ranks of a level are combined in parallel.
+//! Resolves one tree level by level, from the longest labels to the commander's. The labels of a level are combined
+//! in parallel.
 ghost use Rattle.std.specs.Prelude.{◌≡◌, ◌<◌, ◌≤◌, ◌+◌, ◌-◌, ℕ, List, map, length, IfOk};
 ghost use Rattle.rayon.specs.Numbers.{nat_range};
 ghost use Rattle.label.specs.Labels.{labels};
@@ -15,7 +16,8 @@ use std::alloc::{AllocError, Global};
 use std::thread::Threads;
 use tree::Tree;
 
-/// Returns how many generals with a lower number than the lieutenant are off the label of length `size` at this rank.
+/// Returns how many generals with a lower number than the tree's lieutenant are not on a label. The label has `size`
+/// generals and the rank `rank`.
 fn lower_off(tree: &Tree, size: u8, rank: usize) -> u8
     requires some { 0 < size }
     requires short { size ≤ tree.now.bound + 1 }
@@ -39,8 +41,8 @@ fn lower_off(tree: &Tree, size: u8, rank: usize) -> u8
     }
 }
 
-/// Returns what the lieutenant decides about the label of length `size` at this rank. `below` holds what he decides
-/// about the labels of length `size + 1`, by rank.
+/// Returns what the tree's lieutenant decides about the label with `size` generals and the rank `rank`. `below` holds
+/// his decisions about the labels with `size + 1` generals, by rank.
 fn upward<C: Combine>(tree: &Tree, rule: &C, size: u8, below: &[u32], rank: usize) -> u32
     requires some { 0 < size }
     requires short { size ≤ tree.now.bound }
@@ -61,8 +63,8 @@ fn upward<C: Combine>(tree: &Tree, rule: &C, size: u8, below: &[u32], rank: usiz
     rule.combine(orders.as_slice())
 }
 
-/// Returns what the lieutenant decides about every label of length `size`, by rank. `below` holds what he decides about
-/// the labels of length `size + 1`. The ranks are combined in parallel.
+/// Returns what the tree's lieutenant decides about each label with `size` generals, by rank. `below` holds his
+/// decisions about the labels with `size + 1` generals, by rank. The labels are combined in parallel.
 fn level_at_once<C: Combine + Sync, R: Threads + Sync>(
     rt: &R,
     alloc: Global,
@@ -94,7 +96,7 @@ fn level_at_once<C: Combine + Sync, R: Threads + Sync>(
         .collect(rt, alloc)
 }
 
-/// Returns the orders that the lieutenant received for the longest labels, by rank.
+/// Returns the orders that the tree's lieutenant received for the longest labels, by rank.
 fn longest(alloc: Global, tree: &Tree) -> Result<Vec<u32>, AllocError>
     ensures long { IfOk result
         (λ v. length v.items ≡ length
@@ -106,8 +108,8 @@ fn longest(alloc: Global, tree: &Tree) -> Result<Vec<u32>, AllocError>
     tree.level(tree.bound() + 1).to_vec(alloc)
 }
 
-/// Returns what the lieutenant of the tree decides. The levels are computed one after another, from the longest labels
-/// to the commander's.
+/// Returns what the tree's lieutenant decides. The levels are computed one after another, from the longest labels to
+/// the commander's.
 ///
 /// # Errors
 ///

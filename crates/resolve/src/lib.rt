@@ -1,4 +1,4 @@
-//! What lieutenants decide from the messages in their trees (TOPLAS 1982, algorithm OM(m)).
+//! Computes what lieutenants decide from the messages in their trees (TOPLAS 1982, algorithm OM(m)).
 #![tactic(auto)]
 
 mod halves;

@@ -1,4 +1,4 @@
-//! Resolves one tree by recursion over ranks: the lieutenant's decision by OM(m), without memory.
+//! Resolves one tree by recursion: computes the decision of its lieutenant by OM(m), without allocating memory.
 ghost use Rattle.std.specs.Prelude.{◌≡◌, ◌<◌, ◌≤◌, ◌+◌, ◌-◌, ◌*◌, length, slice_range};
 ghost use Rattle.label.specs.Labels.{labels};
 ghost use Rattle.resolve.specs.Decided.{Decides, decided};
@@ -7,8 +7,8 @@ use arrayvec::ArrayVec;
 use combine::Combine;
 use tree::Tree;
 
-/// Returns what the lieutenant of the tree decides by this rule: the decision of OM(m) from the messages that fill the
-/// tree, where m is the tree's bound. The function allocates no memory and builds no label.
+/// Returns what the tree's lieutenant decides by this rule: the decision of OM(m) from the messages in the tree,
+/// where m is the tree's bound. The function allocates no memory and builds no label.
 pub fn resolve<C: Combine>(tree: &Tree, rule: &C) -> u32
     ensures { Decides (C.combined rule.now) tree.now result }
 {
@@ -21,10 +21,11 @@ pub fn resolve<C: Combine>(tree: &Tree, rule: &C) -> u32
     decide(tree, rule, tree.bound(), 1, 0, lower_off)
 }
 
-/// Returns what the lieutenant decides about the label of length `size` at this rank, with `relays` relays left.
+/// Returns what the tree's lieutenant decides about the label with `size` generals and the rank `rank`, which up to
+/// `relays` further generals can extend.
 ///
-/// `lower_off` is the number of generals with a lower number than the lieutenant that are off the label. The decisions
-/// about that many of the label's children precede his own order in the list that is combined.
+/// `lower_off` is the number of generals who are not on the label and have a lower number than the lieutenant. In the
+/// list that he combines, the decisions about this many extensions of the label come before his own order.
 fn decide<C: Combine>(
     tree: &Tree,
     rule: &C,
@@ -74,8 +75,8 @@ fn decide<C: Combine>(
     rule.combine(orders.as_slice())
 }
 
-/// Returns the part of a level that belongs to the children of the label at this rank of the level above. Each label
-/// has `width` children.
+/// Returns the part of a level that belongs to the children of one label: the labels that extend it by one general.
+/// The label has the rank `rank` on the level above, where each label has `width` children.
 pub(crate) fn children(level: &[u32], width: usize, rank: usize) -> &[u32]
     requires { rank * width + width ≤ length level.now }
     ensures { result.now ≡ slice_range level.now (rank * width) (rank * width + width) }

@@ -5,20 +5,22 @@ use Rattle.logbook.specs.Pages.{Book}
 use Rattle.semantics.specs.declared.request.Request.{Request}
 use Rattle.board.specs.Board.{Access, reply, words_after}
 
--- The prefix of the history that the thread has seen, and the number of accesses served to it.
+-- What a thread knows: the prefix of the history that it has seen, and the number of accesses that it has made.
 pub record Witnessed : Type 0 where
   pub seen : List Access
   pub made : ℕ
 
--- A board that is not shared yet: its opening words, its history, the name of its ledger, and the number of threads.
+-- A board that is not shared yet: its words at the start, its history, the name of the ledger of `std` that counts
+-- accesses, and the number of threads.
 pub record UnsharedSeen : Type 0 where
   pub opening : List ℕ
   pub book : Book
   pub name : ℕ
   pub parts : ℕ
 
--- States that one access with this general, round and request was entered. It comes after all that the thread had seen
--- and all that others have had served since. The answer is the board's reply at this point of the history.
+-- States that exactly one access with this general, round and request was appended to the history. It comes after all
+-- accesses that the thread had seen, and possibly later accesses of others. The answer is the board's reply at this
+-- point of the history.
 pub record Serves (opening : List ℕ) (old : Witnessed) (general round : ℕ) (request : Request) (answer : List ℕ)
     (new : Witnessed) : Type 0 where
   pub before : List Access

@@ -1,4 +1,5 @@
-//! What the lock of a shared board protects: the board, the length of its history, and the count of accesses.
+//! Defines what the lock of a shared board protects: the board, the length of the history of accesses, and a count of
+//! accesses.
 ghost use Rattle.std.specs.Prelude.{◌≡◌, ◌<◌, ◌^◌, ◌++◌, ◌∷◌, [], suc, true, length, IsTrue, IfOk, OnOk, OnErr};
 ghost use mathlib.Core.List.{IsPrefix};
 ghost use Rattle.semantics.specs.Call.{fits};
@@ -19,8 +20,8 @@ use std::marker::Model;
 use std::sync::Wait;
 use std::sync::ledger::Book;
 
-/// The state under the lock: the board, the history that equals its ledger, and the number of accesses that witnesses
-/// made.
+/// What the lock of a shared board protects: the board, the history of its accesses, which equals the board's ledger,
+/// and the number of accesses made by witnesses (the threads' permissions).
 #[derive(Drop)]
 pub(crate) struct Desk<J: Room> {
     pub(crate) board: Board,
@@ -43,8 +44,8 @@ impl<J: Room> Model for Desk<J> {
 }
 
 impl<J: Room> Desk<J> {
-    /// Serves a general's request in a round as the board does, and enters the access into the history. Fails with
-    /// `AllocError` if memory runs out, and then leaves everything as it was.
+    /// Replies to a general's request in a round as the board does, and appends the access to the history. Fails with
+    /// `AllocError` if memory runs out, and then changes nothing.
     pub(crate) fn serve<R: Wait>(
         &mut self,
         rt: &R,
@@ -91,7 +92,8 @@ impl<J: Room> Desk<J> {
         Ok(reply)
     }
 
-    /// Consumes the state and returns the board. Its ledger begins with all accesses that the witness has seen.
+    /// Consumes the state and returns the board. The board's ledger begins with the accesses that the witness, a
+    /// thread's permission to make accesses, has seen.
     pub(crate) fn into_board<R: Wait>(self, rt: &R, witness: Witness<J>) -> Board
         ensures same { result ≡ self }
         ensures opening { result.opening ≡ J.opening }
@@ -115,7 +117,7 @@ impl<J: Room> Desk<J> {
     }
 }
 
-/// Reads the length of the history.
+/// Returns the length of the history, that is, its number of accesses. After that, all of them count as seen.
 fn look(head: &Head, seen: &mut Beginning) -> u64
     requires head { head.now ≡ head_of seen.old.book }
     ensures book { seen.new.book ≡ seen.old.book }
@@ -126,8 +128,8 @@ fn look(head: &Head, seen: &mut Beginning) -> u64
     head.load::<Look, Nothing>(seen, &mut offer)
 }
 
-/// Enters an access into the history after `count` others. Returns `false`, and enters nothing, if the history is
-/// longer.
+/// Appends an access to the history after exactly `count` others. Returns false, and appends nothing, if the history
+/// has another length.
 fn enter(head: &Head, count: u64, seen: &mut Beginning, access: &Access) -> bool
     requires head { head.now ≡ head_of seen.old.book }
     requires count { count < 2 ^ 63 }

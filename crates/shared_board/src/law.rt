@@ -1,8 +1,9 @@
-//! The rule that the history follows, and the steps by which threads enter an access or read the history's length.
+//! Defines the rule that the history of a shared board follows, and the steps that append an access or read the
+//! history's length.
 use board::Access;
 use logbook::{Gain, Plain, Play, Rule, Seen, Word};
 
-/// The rule of the history: the shared word that threads update is the length of the history.
+/// The rule of the history of accesses: the word that threads share is the history's length.
 pub(crate) struct Law;
 
 impl Rule<Access, u64> for Law {
@@ -23,7 +24,7 @@ impl Rule<Access, u64> for Law {
     ghost moves = { λ ask before after answer. Unit {0} };
 }
 
-/// The gain of a step on the history: threads get nothing in return.
+/// What a thread gains from a step on the history: nothing.
 pub(crate) struct Nothing;
 
 impl Gain<Access, u64> for Nothing {
@@ -32,7 +33,7 @@ impl Gain<Access, u64> for Nothing {
     ghost after = { λ names about answer. ftrue };
 }
 
-/// A step that enters an access.
+/// A step that appends an access to the history.
 pub(crate) struct Enter;
 
 impl Play<Access, u64> for Enter {
@@ -41,7 +42,7 @@ impl Play<Access, u64> for Enter {
     ghost then = { Enters };
 }
 
-/// The step asks to enter the given access.
+/// A step of this kind asks to append the given access.
 impl Plain<Access, Access, u64> for Enter {
     ghost use Rattle.std.specs.Prelude.{None};
 
@@ -59,7 +60,7 @@ impl Play<Access, u64> for Look {
     ghost then = { Looks };
 }
 
-/// The step asks for nothing. The access that it names is not entered.
+/// A step of this kind asks for nothing. The access that it names is not appended.
 impl Plain<(), Access, u64> for Look {
     ghost use Rattle.std.specs.Prelude.{None};
     ghost use Rattle.shared_board.specs.History.{no_access};
@@ -69,8 +70,8 @@ impl Plain<(), Access, u64> for Look {
     ghost state = { λ nothing. None };
 }
 
-/// The shared word that counts the accesses of a history.
+/// The word, shared by threads, that holds the number of accesses in the history.
 pub(crate) type Head = Word<Access, u64, Law>;
 
-/// A prefix of the history that has been seen. It takes no bytes.
+/// A prefix of the history that has been seen. It takes no bytes at run time.
 pub(crate) type Beginning = Seen<Access, u64, Law>;

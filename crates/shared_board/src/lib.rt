@@ -1,4 +1,5 @@
-//! The board that threads share, protected by a lock, with one history of all accesses that it has served.
+//! Implements a board that threads share. A lock protects it, and one history has all accesses that it has replied
+//! to.
 #![tactic(auto)]
 
 mod desk;

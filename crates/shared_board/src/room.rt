@@ -1,9 +1,10 @@
-//! The name of a shared board, as a type parameter.
+//! Defines how a type parameter names a shared board.
 use std::marker::Brand;
 use std::sync::ledger::Ledger;
 
-/// The name of one shared board: its history, and the words with which it opens. A function that shares a board picks a
-/// new name in each call. The name is also that of a ledger of `std`, which counts the accesses.
+/// The name of one shared board, used as a type parameter. It determines the history of the board's accesses and the
+/// words at the start. A function that shares a board uses a new name in each call. The same name belongs to a ledger
+/// of `std`, which counts the accesses.
 pub trait Room: Ledger {
     ghost use Rattle.std.specs.Prelude.{ℕ, List};
     ghost use Rattle.logbook.specs.Pages.{Book};
@@ -11,7 +12,7 @@ pub trait Room: Ledger {
     /// The history of the board's accesses.
     ghost book: { Book };
 
-    /// The words with which the board opens.
+    /// The words that the board has before its first access.
     ghost opening: { List ℕ };
 }
 

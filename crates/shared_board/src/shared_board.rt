@@ -1,4 +1,5 @@
-//! The shared board: creating it with a witness for each thread, making accesses, and taking the board back.
+//! Implements the shared board: creates it with a witness (a permission) for each thread, makes accesses, and returns
+//! the board at the end.
 ghost use Rattle.std.specs.Prelude.{◌≡◌, ◌<◌, ◌≤◌, [], true, All, length, IfOk, OnErr};
 ghost use mathlib.Core.List.{IsPrefix};
 ghost use Rattle.semantics.specs.Call.{fits};
@@ -19,7 +20,7 @@ use std::marker::{Model, PhantomData};
 use std::sync::ledger::Blank;
 use std::sync::{Mutex, Wait};
 
-/// A board without accesses, before it is shared. Its history has no name in a type yet.
+/// A board without accesses that is not shared yet. No type names its history.
 #[derive(Drop)]
 pub struct Unshared {
     board: Board,
@@ -46,7 +47,7 @@ impl Model for Unshared {
 }
 
 impl Unshared {
-    /// Prepares a board to be shared by this number of threads. It must not have had an access.
+    /// Prepares a board to be shared by `threads` threads. The board must have had no access.
     pub fn new(board: Board, threads: u8) -> Unshared
         requires { board.ledger ≡ [] }
         ensures opening { result.opening ≡ board.opening }
@@ -62,19 +63,20 @@ impl Unshared {
     }
 }
 
-/// A board that threads share, protected by a lock. Its type names the one history of the accesses that it has served.
-/// Whenever the lock is free, the ledger is that history, and it is legal from the opening words on.
+/// A board that threads share, protected by a lock. Its type names the history of all accesses that it has replied
+/// to. Whenever the lock is free, the board's ledger equals this history and is legal: each answer is the board's.
 #[derive(Drop)]
 pub struct SharedBoard<J: Room> {
     desk: Mutex<Desk<J>>,
 }
 
 impl<J: Room> SharedBoard<J> {
-    /// Shares a board under the name `J`. Returns the shared board, and one witness for each of the `threads` threads.
+    /// Shares a board under the name `J`. Returns the shared board, and one witness (a permission to make accesses)
+    /// for each of the `threads` threads.
     ///
     /// # Errors
     ///
-    /// Returns `AllocError` if the memory for the list of witnesses cannot be allocated.
+    /// Fails with `AllocError` if there is no memory for the list of witnesses.
     pub fn new(
         alloc: Global,
         unshared: Unshared,
@@ -116,14 +118,15 @@ impl<J: Room> SharedBoard<J> {
         ))
     }
 
-    /// Waits for the lock, serves a general's request in a round, and enters the access into the history.
+    /// Waits for the lock, replies to a general's request in a round, and appends the access to the history.
     ///
-    /// Exactly one access is entered, after all accesses that the witness has seen. The reply is the board's at this
+    /// Exactly one access is appended, after all accesses that the witness has seen. The reply is the board's at this
     /// point of the history.
     ///
     /// # Errors
     ///
-    /// Returns `AllocError` if the memory for the reply or the entry cannot be allocated. The board is then as it was.
+    /// Fails with `AllocError` if there is no memory for the reply or the history's entry. The board and the witness
+    /// are then unchanged.
     pub fn apply<R: Wait>(
         &self,
         rt: &R,
@@ -140,8 +143,8 @@ impl<J: Room> SharedBoard<J> {
         self.desk.lock(rt).serve(rt, me, general, round, request)
     }
 
-    /// Consumes the shared board and returns the board with all accesses that it has served. Each reply is the one that
-    /// the words before it determine. The ledger begins with the accesses that the witness has seen.
+    /// Consumes the shared board, and returns the board with the ledger of all its accesses. The ledger is legal:
+    /// each answer is the board's. It begins with the accesses that the witness has seen.
     pub fn into_board<R: Wait>(self, rt: &R, witness: Witness<J>) -> Board
         ensures opening { result.opening ≡ J.opening }
         ensures legal { IsLegal result.opening result.ledger }

@@ -1,4 +1,4 @@
-//! The witness of a thread: its permission to make accesses, and what it knows of the shared board's history.
+//! Defines the witness of a thread: its permission to make accesses, and what it knows of the shared board's history.
 ghost use Rattle.std.specs.Prelude.{◌≡◌};
 ghost use mathlib.Core.List.{IsPrefix};
 
@@ -7,8 +7,8 @@ use crate::room::Room;
 use std::marker::{Model, PhantomData};
 use std::sync::ledger::Share;
 
-/// The permission to make accesses to one shared board. It takes no bytes. Contracts see it as the prefix of the
-/// board's history that it has seen, and the number of accesses made through it.
+/// A thread's permission to make accesses to one shared board. It takes no bytes at run time. Contracts see it as the
+/// prefix of the board's history that it has seen, and the number of accesses made with it.
 #[derive(Drop)]
 pub struct Witness<J: Room> {
     pub(crate) seen: Beginning,
@@ -28,7 +28,7 @@ impl<J: Room> Model for Witness<J> {
 }
 
 impl<J: Room> Witness<J> {
-    /// Adds what another witness of the same board has seen to what this one has seen.
+    /// Adds to this witness what another witness of the same board has seen of the history.
     pub fn learn(&mut self, other: &Witness<J>)
         ensures mine { IsPrefix self.old.seen self.new.seen }
         ensures theirs { IsPrefix other.now.seen self.new.seen }

@@ -1,4 +1,4 @@
--- Each thing that a lieutenant was told has one stroke, in a row of its list.
+-- Proves that each message to a lieutenant has one stroke, in a row of the list of its round.
 use Rattle.std.proofs.Common.{ℕ, zero, suc, ◌+◌, ◌-◌, ◌<◌, ◌≤◌, ◌≡◌, ◌≢◌, Bool, true, false, ◌&&◌, cond, List, [], ◌∷◌, ◌++◌, length, length-append, map, refl, sym, ap, subst, ◌∙◌, arith, inl, inr, Some}
 use Rattle.std.proofs.lemmas.Bool.{and_from, and_parts, and_right, cases_Bool, cond_both, eq-eqb, eqb-true, le-leb, lt-leb, ltb-false, ltb-true, ne_eqb}
 use Rattle.std.proofs.lemmas.List.Elements.{All-from_recursion}
@@ -21,9 +21,9 @@ use Rattle.show_diagram.proofs.OnceLemmas.{count_within_told, told_once}
 use Rattle.show_diagram.proofs.OrderLemmas.{all_filter, all_firsts, any_arranged, count_arranged}
 use Rattle.show_diagram.proofs.RowLemmas.{IsWithin, all_range, all_strokes, any_stroke, count_strokes, count_within, drop_strokes, filters_swap, first_rows, his_list, rows_are, take_strokes}
 
--- ---- what is told at all
+-- ---- all messages to a lieutenant
 
--- rounds and tellers
+-- Proves that the rounds and senders of the messages are within their limits.
 within_below : (t : MessageTable) (k : ℕ) (w : List ℕ) (p rounds : ℕ) → length w + k ≤ rounds → AllByRecursion (IsWithin rounds) (tellings_below t k w p)
 unfolding tellings_below
 within_below t zero w p rounds few = tt
@@ -50,7 +50,7 @@ tellers_all t order p inside = (inside, tellers_below t t.bound (t.commander ∷
 
 -- ---- one list
 
--- each thing once
+-- The messages of a round without repetitions.
 abbrev things : List Telling → ℕ → List Telling
 things T round = filter (is_in round) (firsts is_same [] T)
 
@@ -102,9 +102,9 @@ each_liar t order round p j inside lieutenant present few there =
     ap (list_any (has_lied_as j)) (drawn_first t order round p inside lieutenant)
     ∙ (any_stroke (has_lied_as j) (is_lie_of is_lie teller j) p (numbers T) 0 (take most_rows (arranged is_lie teller list)) (λ x i. refl) ∙ liar_before is_lie teller t.generals j list few below (any_arranged (is_lie_of is_lie teller j) is_lie teller list some))
 
--- ---- one stroke for each thing
+-- ---- one stroke for each message
 
--- what is told in a round is in its list
+-- Proves that a stroke shows each message of a round exactly once.
 once : (t : MessageTable) (order p : ℕ) (q : Telling) → p < t.generals → p ≢ t.commander → count_by (is_of p q) (strokes_of t order) ≡ (if list_any (is_same q) (tellings_of t order p) then 1 else 0)
 once t order p q inside lieutenant =
     let T : List Telling = tellings_of t order p in
@@ -124,7 +124,7 @@ once t order p q inside lieutenant =
         let both = and_parts (st.receiver == p) (is_same q (told_by st)) e in
         and_from (st.round == q.round) (st.receiver == p) (its_round (told_by st) both.1) both.0
 
--- ---- how wide
+-- ---- the number of labels of a stroke
 
 abbrev IsWide : MessageTable → ℕ → Stroke → Type 0
 IsWide t order stroke = stroke.labels ≡ labels_told t order stroke
@@ -142,7 +142,7 @@ all_wide t order =
     (λ k m. all_strokes (IsWide t order) (λ (x : Telling). Unit {0}) p (numbers (tellings_of t order p)) 0 (arranged is_lie teller (things (tellings_of t order p) (k + 1))) (λ x i u. refl)
     (all_of (arranged is_lie teller (things (tellings_of t order p) (k + 1)))))))
 
--- ---- none is lost
+-- ---- drawn and left-out strokes are all strokes
 
 head_count : (f : Stroke → Bool) (x : Stroke) (xs : List Stroke) → count_by f (x ∷ xs) ≡ cond {A = ℕ} (f x) 1 0 + count_by f xs
 head_count f x xs = sum_by-cons (λ y. cond (f y) 1 0) x xs

@@ -1,11 +1,11 @@
--- What is gathered of a list, one of it after another.
+-- Texts that are built element by element from a list.
 use Rattle.std.proofs.Common.{ℕ, suc, ◌+◌, ◌<◌, ◌≤◌, ◌≡◌, List, ◌∷◌, ◌++◌, length, drop, get_or, ap, sym, ◌∙◌, append_assoc, append-nil, arith}
 use Rattle.std.proofs.lemmas.List.{drop_all, drop_more}
 use Rattle.board.specs.Board.{Access}
 use Rattle.show_diagram.specs.Bands.{access_at, accesses_from}
 use Rattle.show_diagram.specs.Layout.{access_top}
 
--- one access more, and all of them
+-- Proves that one more access continues the text of the accesses so far.
 pub access_more : (n round place : ℕ) (xs : List Access) (a : Access) (old new whole : List ℕ) → place < length xs → a ≡ get_or xs place a
     → old ++ accesses_from n xs round place (drop place xs) ≡ whole → new ≡ old ++ access_at n (access_top xs round place) round a
     → new ++ accesses_from n xs round (place + 1) (drop (place + 1) xs) ≡ whole

@@ -1,4 +1,4 @@
--- What stands before the columns, piece by piece.
+-- The head of a diagram, built from its elements.
 use Rattle.std.proofs.Common.{ℕ, ◌≡◌, List, ◌++◌, append_assoc}
 
 regrouped : (s a b c d : List ℕ) → (((s ++ a) ++ b) ++ c) ++ d ≡ s ++ (((a ++ b) ++ c) ++ d)

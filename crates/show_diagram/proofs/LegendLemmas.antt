@@ -1,4 +1,4 @@
--- What the marks of a picture mean, one behind the other.
+-- The rows of a legend, one after another.
 use Rattle.std.proofs.Common.{ℕ, ◌+◌, ◌*◌, ◌≡◌, Bool, true, false, List, ◌++◌, append_assoc, codes, None, Some}
 use Rattle.show_diagram.specs.declared.mark.DiagramMarks.{DiagramMarks}
 use Rattle.show_diagram.specs.Legend.{legend_of, meaning_if, one_if, rows, shape_if, shape_meanings, stroke_meanings, stroke_rows}

@@ -1,4 +1,4 @@
--- Where not all rows are drawn, no honest one is while a lie is left, and of each liar one is.
+-- If not all rows of a list are drawn: no honest row is drawn while a lie is left out, and each liar has a drawn row.
 use Rattle.std.proofs.Common.{ℕ, zero, suc, ◌+◌, ◌-◌, ◌<◌, ◌≤◌, ◌≡◌, Bool, true, false, not, ◌&&◌, ◌||◌, List, [], ◌∷◌, ◌++◌, length, map, refl, sym, ap, ◌∙◌, append_assoc, arith, inl, inr}
 use Rattle.std.proofs.lemmas.Bool.{and_from, cases_Bool, eq-eqb, eqb-true, leb-true, not_from_false, or_cases, or_left, or_right, true≢false}
 use Rattle.std.proofs.lemmas.List.{drop_all, take_all}
@@ -12,9 +12,9 @@ use Rattle.label.proofs.Ranks.{others-count}
 use Rattle.show_diagram.specs.Order.{arranged, firsts, is_by_one, lies_first, most_rows, repeats}
 use Rattle.show_diagram.proofs.OrderLemmas.{all_filter, all_firsts, all_passed, all_repeats, any_of, firsts_any}
 
--- ---- no more tellers than generals
+-- ---- no more senders than generals
 
--- who told something before is not among those that are first of their tellers
+-- Proves that a sender of an earlier element is not among the senders of the first elements.
 not_before : {A : Type 0} (teller : A → ℕ) (j : ℕ) (before xs : List A) → any_of teller j before ≡ true → on (map teller (firsts (is_by_one teller) before xs)) j ≡ false
 unfolding firsts
 not_before teller j before [] there = refl
@@ -69,7 +69,7 @@ few_firsts {A} teller n xs a =
 
 -- ---- lies first
 
--- where one of the others is not among the first so many, all the first are of the one sort
+-- Proves that if an element of the first kind is not among the first k elements, the first k are all of this kind.
 sorted_ahead : {A : Type 0} (lie : A → Bool) (xs ys : List A) (k : ℕ) → AllByRecursion (λ x. lie x ≡ true) xs → AllByRecursion (λ x. not (lie x) ≡ true) ys
     → list_any lie (drop k (xs ++ ys)) ≡ true → AllByRecursion (λ x. lie x ≡ true) (take k (xs ++ ys))
 sorted_ahead lie xs ys zero a b left = tt
@@ -107,7 +107,7 @@ no_honest_before lie teller list left = by_case (nat_le (length list) most_rows)
 
 -- ---- each liar
 
--- a lie of this teller
+-- Returns whether an element is a lie of sender j.
 abbrev pub is_lie_of : {A : Type 0} → (A → Bool) → (A → ℕ) → ℕ → A → Bool
 is_lie_of lie teller j x = lie x && teller x == j
 
@@ -120,7 +120,7 @@ same_number a b = elim (cases_Bool (a == b)) [
   ]
 ]
 
--- his lies are those of all lies that are his
+-- Proves that the list has a lie of j exactly if one of its lies is from j.
 lie_any : {A : Type 0} (lie : A → Bool) (teller : A → ℕ) (j : ℕ) (xs : List A) → list_any (is_lie_of lie teller j) xs ≡ any_of teller j (filter lie xs)
 lie_any lie teller j [] = refl
 lie_any lie teller j (x ∷ xs) = by_case (lie x) (lie_any lie teller j xs)

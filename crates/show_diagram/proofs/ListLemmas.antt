@@ -1,4 +1,4 @@
--- Lists of what was told, one thing after another.
+-- The lists of what a lieutenant received, built message by message.
 use Rattle.std.proofs.Common.{ℕ, ◌+◌, ◌<◌, ◌≤◌, ◌≡◌, not, List, [], ◌∷◌, ◌++◌, length, get_or, suc, refl, sym, ap, ◌∙◌, append_assoc, arith}
 use Rattle.std.proofs.lemmas.List.{length-take, take_all, take_more}
 use Rattle.std.specs.Prelude.{take, filter}
@@ -8,7 +8,7 @@ use Rattle.show_diagram.specs.Lists.{is_in, is_lie, is_same, labels_of, list_beh
 use Rattle.show_diagram.specs.Order.{arranged, firsts, is_by_one, lies_first, repeats}
 use Rattle.show_diagram.proofs.OrderLemmas.{parted_whole}
 
--- lies that are parted, and the honest behind them
+-- Proves that the first lie of each sender, the other lies and the honest messages make up the sorted list.
 pub parted_all : (list xs rows others honest two three : List Telling) (i : ℕ) → length xs ≤ i → xs ≡ filter is_lie list → rows ≡ firsts (is_by_one teller) [] (take i xs) → others ≡ repeats (is_by_one teller) [] (take i xs)
     → honest ≡ filter (λ x. not (is_lie x)) list → two ≡ rows ++ others → three ≡ two ++ honest → three ≡ lies_first is_lie teller list
 parted_all list xs rows others honest two three i past all first other rest one last =
@@ -38,14 +38,14 @@ rows_more p labels xs i x d start old new within is so next =
 pub rows_all : (p : ℕ) (labels : Telling → ℕ) (xs : List Telling) (i : ℕ) (start new : List Stroke) → length xs ≤ i → new ≡ start ++ strokes_from p labels 0 (take i xs) → new ≡ start ++ strokes_from p labels 0 xs
 rows_all p labels xs i start new past so = so ∙ ap (λ ys. start ++ strokes_from p labels 0 ys) (take_all i xs past)
 
--- of labels that are counted alike
+-- Proves that equal numbers of labels give equal strokes.
 pub labels_alike : (p : ℕ) (one other : Telling → ℕ) (row : ℕ) (xs : List Telling) → ((q : Telling) → one q ≡ other q) → strokes_from p one row xs ≡ strokes_from p other row xs
 unfolding strokes_from
 labels_alike p one other row [] alike = refl
 labels_alike p one other row (x ∷ xs) alike =
     ap (λ (k : ℕ). stroke_of p x k row ∷ strokes_from p one (row + 1) xs) (alike x) ∙ ap (λ ys. stroke_of p x (other x) row ∷ ys) (labels_alike p one other (row + 1) xs alike)
 
--- the list of a round, of what was told once and counted
+-- Proves that the strokes of a round's list come from its messages without repetitions and their counts.
 pub list_is : (p round before : ℕ) (T things : List Telling) (counts : Telling → ℕ) (old new : List Stroke) → things ≡ firsts is_same [] T → round ≡ before + 1 → ((q : Telling) → counts q ≡ labels_of T q)
     → new ≡ old ++ strokes_from p counts 0 (arranged is_lie teller (filter (is_in round) things)) → new ≡ old ++ list_behind p T before
 list_is p round before T things counts old new once at alike next =

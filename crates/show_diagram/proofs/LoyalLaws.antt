@@ -1,4 +1,4 @@
--- What is drawn of loyal generals.
+-- Strokes of loyal generals are not drawn in red.
 use Rattle.std.proofs.Common.{ℕ, zero, suc, ◌+◌, ◌<◌, ◌≤◌, ◌≡◌, ◌≢◌, Bool, true, false, not, List, [], ◌∷◌, ◌++◌, length, length-append, refl, sym, ap, subst, ◌∙◌, arith, None, Option, Some}
 use Rattle.std.proofs.lemmas.Bool.{cond_both, eq-eqb, eqb-false, eqb-true, not-false, or_parts}
 use Rattle.std.proofs.lemmas.List.Elements.{All-from_recursion}
@@ -29,37 +29,37 @@ use Rattle.show_diagram.specs.Words.{kind_of}
 use Rattle.show_diagram.proofs.OrderLemmas.{all_arranged, all_filter, all_firsts}
 use Rattle.show_diagram.proofs.RowLemmas.{all_range, all_strokes}
 
--- who tells what he took does not differ
+-- Proves that `differs` is false if the received order is the expected one.
 told_so : (order : ℕ) (o : Option ℕ) → o ≡ Some order → not (is_told order o) ≡ false
 told_so order o e = ap (λ (x : Option ℕ). not (is_told order x)) e ∙ ap not (eq-eqb order order refl)
 
--- of a label that is not empty a general heard what he took
+-- Proves that the order a general took for a label that is not empty is the one that he received.
 took : (M : Messages) (order : ℕ) (w : List ℕ) (g : ℕ) → 0 < length w → heard M order w g ≡ taken M w g
 took M order [] g some = absurd (omega arith)
 took M order (x ∷ xs) g some = refl
 
--- a general who is not on a list is not its first
+-- Proves that a general who is not the commander has another number.
 apart : (c p : ℕ) → (p == c) ≡ false → p ≢ c
 apart c p e = eqb-false p c e
 
--- a stroke of a loyal general is plain
+-- States that a stroke of a loyal general does not differ.
 abbrev IsPlain : (ℕ → Bool) → Stroke → Type 0
 IsPlain traitor stroke = traitor stroke.teller ≡ false → stroke.differs ≡ false
 
--- and so is what he told
+-- States that a message of a loyal general does not differ.
 abbrev IsHonest : (ℕ → Bool) → Telling → Type 0
 IsHonest traitor telling = traitor telling.teller ≡ false → telling.differs ≡ false
 
 drawn_plain : (differs : Bool) (o : Option ℕ) → differs ≡ false → kind_of differs o ≡ codes "told"
 drawn_plain differs o e = ap (λ (b : Bool). kind_of b o) e
 
--- ---- a campaign whose loyal generals are faithful, and its table
+-- ---- a campaign with faithful loyal generals, and its message table
 
 module _ (M : Messages) (order : ℕ) (traitor : ℕ → Bool) (t : MessageTable)
     (same : (w : List ℕ) (p : ℕ) → is_place t w p ≡ true → told t.messages w p ≡ M w p)
     (inside : t.commander < t.generals)
     (faithful : (g : ℕ) → g < t.generals → traitor g ≡ false → IsFaithful t.generals t.commander t.bound order M g) where
-  -- what a loyal general tells of a label
+  -- Proves that a loyal general sends the order that he took for a label.
   tells_so : (w : List ℕ) (j p : ℕ) → length w ≤ t.bound → j < t.generals → is_place t (w ++ j ∷ []) p ≡ true → traitor j ≡ false → told t.messages (w ++ j ∷ []) p ≡ Some (heard M order w j)
   tells_so w j p short general place loyal =
       let own = place_of_tree t M (w ++ j ∷ []) p place in
@@ -111,7 +111,7 @@ weaker : {A : Type 0} (P Q : A → Type 0) (xs : List A) → ((x : A) → P x �
 weaker P Q [] h a = tt
 weaker P Q (x ∷ xs) h a = (h x a.0, weaker P Q xs h a.1)
 
--- of the table of such messages
+-- Proves that in the table of such messages no stroke of a loyal general is drawn in red.
 pub blamed : (s : Scenario) (M : Messages) (t : MessageTable) → s.commander < s.generals
     → ((g : ℕ) → g < s.generals → is_traitor s g ≡ false → IsFaithful s.generals s.commander s.bound s.order M g) → IsTableOf M s.generals s.bound s.commander s.rule t
     → BlamesTraitors s t

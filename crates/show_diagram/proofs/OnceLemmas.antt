@@ -1,4 +1,4 @@
--- Each thing that was told counts once.
+-- Each message counts once in a list without repetitions.
 use Rattle.std.proofs.Common.{ℕ, ◌+◌, ◌≡◌, Bool, true, false, ◌||◌, cond, List, [], ◌∷◌, ◌++◌, refl, sym, ap, ◌∙◌, arith, inl, inr}
 use Rattle.std.proofs.lemmas.Bool.{cases_Bool, true≢false}
 use Rattle.std.proofs.lemmas.List.Folds.{list_any-append}
@@ -13,7 +13,7 @@ use Rattle.show_diagram.proofs.Sameness.{same_is}
 count_append : (f : Telling → Bool) (xs ys : List Telling) → count_by f (xs ++ ys) ≡ count_by f xs + count_by f ys
 count_append f xs ys = sum_by-append (λ x. cond {A = ℕ} (f x) 1 0) xs ys
 
--- a test that none passes outside a round counts in it
+-- Proves that a test that only elements of a round pass counts the same in the round as in the whole list.
 pub count_within_told : (f g : Telling → Bool) (xs : List Telling) → ((x : Telling) → f x ≡ true → g x ≡ true) → count_by f xs ≡ count_by f (filter g xs)
 count_within_told f g [] h = refl
 count_within_told f g (x ∷ xs) h =
@@ -33,9 +33,9 @@ count_within_told f g (x ∷ xs) h =
           omega arith
     ]
 
--- ---- each thing once
+-- ---- each message once
 
--- how many there are of what is not among those before, or is
+-- Returns how often an element occurs among the first occurrences: once if it is in the list but not before it.
 abbrev new_if : Bool → Bool → ℕ
 new_if true same = 0
 new_if false true = 1
@@ -65,7 +65,7 @@ none_new : (b : Bool) → 0 ≡ new_if b false
 none_new true = refl
 none_new false = refl
 
--- of what was not told before there is one, where it was told
+-- Proves that the first occurrences contain each element of the list exactly once, unless it occurred before.
 once_from : (q : Telling) (before xs : List Telling) → count_by (is_same q) (firsts is_same before xs) ≡ new_if (list_any (is_same q) before) (list_any (is_same q) xs)
 unfolding firsts
 once_from q before [] = none_new (list_any (is_same q) before)

@@ -1,4 +1,4 @@
--- Rows in their order: one after another, and none is lost.
+-- The order of rows: sorting them keeps all of them.
 use Rattle.std.proofs.Common.{ℕ, suc, ◌+◌, ◌<◌, ◌≤◌, ◌≡◌, Bool, true, false, not, ◌||◌, cond, List, [], ◌∷◌, ◌++◌, length, get_or, refl, sym, ap, ◌∙◌, append_assoc, append-nil, arith, inl, inr}
 use Rattle.std.proofs.lemmas.Bool.{cases_Bool, cond_both, eqb-true, or_cases, or_left, or_right}
 use Rattle.std.proofs.lemmas.List.{take_more}
@@ -15,7 +15,7 @@ or_none : (b : Bool) → (b || false) ≡ b
 or_none true = refl
 or_none false = refl
 
--- ---- one more behind the others
+-- ---- one more element at the end
 
 pub firsts_push : {A : Type 0} (same : A → A → Bool) (before xs : List A) (x : A)
     → firsts same before (xs ++ x ∷ []) ≡ firsts same before xs ++ (if list_any (same x) (before ++ xs) then [] else x ∷ [])
@@ -39,7 +39,7 @@ repeats_push {A} same before (y ∷ ys) x =
     ∙ (sym (append_assoc head (repeats same (before ++ y ∷ []) ys) (if list_any (same x) ((before ++ y ∷ []) ++ ys) then x ∷ [] else []))
     ∙ ap (λ zs. (head ++ repeats same (before ++ y ∷ []) ys) ++ (if list_any (same x) zs then x ∷ [] else [])) (append_assoc before (y ∷ []) ys))
 
--- those of the first so many
+-- Proves that one more element continues the first occurrences among the elements so far.
 pub firsts_more : {A : Type 0} (same : A → A → Bool) (xs : List A) (i : ℕ) (x d : A) (b : Bool) (old new : List A) → i < length xs → x ≡ get_or xs i d
     → b ≡ list_any (same x) (take i xs) → old ≡ firsts same [] (take i xs) → new ≡ old ++ cond b [] (x ∷ []) → new ≡ firsts same [] (take (i + 1) xs)
 firsts_more same xs i x d b old new within is known so next =
@@ -56,9 +56,9 @@ repeats_more same xs i x d b old new within is known so next =
     ∙ (ap (λ ys. ys ++ cond (list_any (same x) (take i xs)) (x ∷ []) []) so
     ∙ sym (ap (repeats same []) (take_more xs i d within ∙ ap (λ y. take i xs ++ y ∷ []) (sym is)) ∙ repeats_push same [] (take i xs) x)))
 
--- ---- the first of each teller
+-- ---- the first element of each sender
 
--- one of this teller is among some
+-- Returns whether one of the elements is from sender j.
 abbrev pub any_of : {A : Type 0} → (A → ℕ) → ℕ → List A → Bool
 any_of teller j xs = list_any (λ z. j == teller z) xs
 
@@ -93,11 +93,11 @@ firsts_any_from {A} teller j before (y ∷ ys) =
     or_assoc true b c = refl
     or_assoc false b c = refl
 
--- whoever told one of these told one of those that are first of their tellers
+-- Proves that the first elements of all senders have the same senders as the whole list.
 pub firsts_any : {A : Type 0} (teller : A → ℕ) (j : ℕ) (xs : List A) → any_of teller j (firsts (is_by_one teller) [] xs) ≡ any_of teller j xs
 firsts_any teller j xs = firsts_any_from teller j [] xs
 
--- ---- what holds of all
+-- ---- what holds of all elements
 
 all_if : {A : Type 0} (P : A → Type 0) (b : Bool) (xs ys : List A) → AllByRecursion P xs → AllByRecursion P ys → AllByRecursion P (if b then xs else ys)
 all_if P true xs ys a b = a
@@ -137,7 +137,7 @@ all_arranged {A} P lie teller list a =
     (all-append P (firsts by [] lies) (repeats by [] lies) (all_firsts P by [] lies his) (all_repeats P by [] lies his))
     (all_filter P (λ x. not (lie x)) list a))
 
--- ---- how many
+-- ---- numbers of elements
 
 count_append : {A : Type 0} (f : A → Bool) (xs ys : List A) → count_by f (xs ++ ys) ≡ count_by f xs + count_by f ys
 count_append f xs ys = sum_by-append (λ x. cond {A = ℕ} (f x) 1 0) xs ys
@@ -146,7 +146,7 @@ one_apart : {A : Type 0} (f : A → Bool) (b : Bool) (x : A) → count_by f (if 
 one_apart f true x = omega arith
 one_apart f false x = omega arith
 
--- those that are first and those that are not are all
+-- Proves that first and repeated elements together are all elements.
 count_parted : {A : Type 0} (f : A → Bool) (same : A → A → Bool) (before xs : List A) → count_by f (firsts same before xs) + count_by f (repeats same before xs) ≡ count_by f xs
 unfolding firsts repeats
 count_parted f same before [] = refl
@@ -173,7 +173,7 @@ pub count_arranged : {A : Type 0} (f lie : A → Bool) (teller : A → ℕ) (lis
 count_arranged f lie teller list =
     cond_both (nat_le (length list) most_rows) list (lies_first lie teller list) (λ xs. count_by f xs ≡ count_by f list) (λ e. refl) (λ e. count_lies_first f lie teller list)
 
--- what passes a test among what is arranged was there
+-- Proves that an element of the sorted list that passes a test is in the given list, too.
 any_count : {A : Type 0} (f : A → Bool) (xs : List A) → list_any f xs ≡ true → 0 < count_by f xs
 any_count f [] there = absurd cc
 any_count f (x ∷ xs) there =
@@ -199,13 +199,13 @@ any_arranged f lie teller list there =
     let same = count_arranged f lie teller list in
     count_any f list (omega arith)
 
--- ---- lies that are parted
+-- ---- lies that are separated
 
 swapped : {A : Type 0} (b : Bool) (xs ys : List A) → cond (not b) xs ys ≡ cond b ys xs
 swapped true xs ys = refl
 swapped false xs ys = refl
 
--- one lie more: it is the first of its teller, or another
+-- Proves that one more lie is either the first of its sender or a further one.
 pub parted_more : {A : Type 0} (teller : A → ℕ) (xs : List A) (i : ℕ) (x d : A) (b : Bool) (seen rows others new_rows new_others : List A) → i < length xs → x ≡ get_or xs i d
     → seen ≡ rows → b ≡ list_any (is_by_one teller x) seen → rows ≡ firsts (is_by_one teller) [] (take i xs) → others ≡ repeats (is_by_one teller) [] (take i xs)
     → new_rows ≡ rows ++ cond (not b) (x ∷ []) [] → new_others ≡ others ++ cond b (x ∷ []) []
@@ -216,7 +216,7 @@ parted_more teller xs i x d b seen rows others new_rows new_others within is sam
       repeats_more (is_by_one teller) xs i x d b others new_others within is known other two,
     )
 
--- one stroke more, a lie or not
+-- Proves that one more element, a lie or not, continues the three lists.
 pub parted_push : {A : Type 0} (lie : A → Bool) (teller : A → ℕ) (xs : List A) (x : A) (rows others honest new_rows new_others new_honest : List A)
     → rows ≡ firsts (is_by_one teller) [] (filter lie xs) → others ≡ repeats (is_by_one teller) [] (filter lie xs) → honest ≡ filter (λ y. not (lie y)) xs
     → new_rows ≡ rows ++ cond (lie x) (cond (list_any (is_by_one teller x) rows) [] (x ∷ [])) []
@@ -256,7 +256,7 @@ parted_push lie teller xs x rows others honest new_rows new_others new_honest fi
           rest_more false e eh,
         )
 
--- and all of them
+-- Proves that the three lists together are the sorted list.
 pub parted_whole : {A : Type 0} (lie : A → Bool) (teller : A → ℕ) (list xs rows others honest two three : List A) → xs ≡ list
     → rows ≡ firsts (is_by_one teller) [] (filter lie xs) → others ≡ repeats (is_by_one teller) [] (filter lie xs) → honest ≡ filter (λ y. not (lie y)) xs
     → two ≡ rows ++ others → three ≡ two ++ honest → three ≡ lies_first lie teller list

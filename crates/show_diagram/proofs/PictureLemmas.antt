@@ -1,4 +1,4 @@
--- A picture, piece by piece.
+-- A picture, built from its elements.
 use Rattle.std.proofs.Common.{ℕ, ◌+◌, ◌≡◌, Bool, List, ◌++◌, append_assoc, codes}
 use Rattle.board.specs.Board.{Access}
 use Rattle.book.specs.Table.{MessageTable}

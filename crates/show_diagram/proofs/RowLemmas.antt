@@ -1,4 +1,4 @@
--- The list to a lieutenant of a round among all strokes, and its rows.
+-- A lieutenant's list for a round, found among all strokes, and the rows of the list.
 use Rattle.std.proofs.Common.{ℕ, zero, suc, ◌+◌, ◌-◌, ◌<◌, ◌≤◌, ◌≡◌, ◌≢◌, Bool, true, false, not, ◌&&◌, ◌||◌, cond, List, [], ◌∷◌, ◌++◌, length, map, refl, sym, ap, subst, ◌∙◌, append_assoc, append-nil, arith, inl, inr}
 use Rattle.std.proofs.lemmas.Bool.{and_from, and_left, and_right, cases_Bool, cond-false, cond_both, eq-eqb, eqb-false, eqb-true, le-ltb, lt-ltb, ltb-false, ltb-true, ne_eqb, true≢false}
 use Rattle.std.proofs.lemmas.List.Concat.{flat_map-append}
@@ -22,7 +22,7 @@ range_next n = range_push 0 n ∙ ap (λ (i : ℕ). range_with_len 0 n ++ i ∷ 
 flat_next : {A : Type 0} (g : ℕ → List A) (n : ℕ) → flat_map g (range_with_len 0 (suc n)) ≡ flat_map g (range_with_len 0 n) ++ g n
 flat_next g n = ap (flat_map g) (range_next n) ∙ (flat_map-append g (range_with_len 0 n) (n ∷ []) ∙ ap (λ xs. flat_map g (range_with_len 0 n) ++ xs) (append-nil (g n)))
 
--- a list for each number, with that of one number more
+-- Proves that the lists of n receivers and the list of the next one are the lists of n + 1.
 pub lists_more : (g : ℕ → List Stroke) (n : ℕ) (start old new : List Stroke) → old ≡ start ++ flat_map g (range_with_len 0 n) → new ≡ old ++ g n → new ≡ start ++ flat_map g (range_with_len 0 (n + 1))
 lists_more g n start old new so next =
     next
@@ -30,7 +30,7 @@ lists_more g n start old new so next =
     ∙ (append_assoc start (flat_map g (range_with_len 0 n)) (g n)
     ∙ ap (λ xs. start ++ xs) (sym (flat_next g n) ∙ ap (λ (k : ℕ). flat_map g (range_with_len 0 k)) (let e : suc n ≡ n + 1 = omega arith in e))))
 
--- what holds of all of each holds of all
+-- Proves that what holds of the elements of each list holds of the elements of all lists.
 pub all_range : {A : Type 0} (P : A → Type 0) (g : ℕ → List A) (n : ℕ) → ((i : ℕ) → i < n → AllByRecursion P (g i)) → AllByRecursion P (flat_map g (range_with_len 0 n))
 all_range P g zero h = tt
 all_range P g (suc n) h =
@@ -65,7 +65,7 @@ pub none_kept : {A : Type 0} (f : A → Bool) (xs : List A) → AllByRecursion (
 none_kept f [] a = refl
 none_kept f (x ∷ xs) a = ap (λ b. if b then x ∷ filter f xs else filter f xs) a.0 ∙ none_kept f xs a.1
 
--- what holds of the strokes of all that was told
+-- Proves that what holds of all messages holds of the strokes that show them.
 pub all_strokes : (P : Stroke → Type 0) (Q : Telling → Type 0) (p : ℕ) (labels : Telling → ℕ) (row : ℕ) (xs : List Telling) → ((x : Telling) (i : ℕ) → Q x → P (stroke_of p x (labels x) i)) → AllByRecursion Q xs
     → AllByRecursion P (strokes_from p labels row xs)
 unfolding strokes_from
@@ -73,7 +73,7 @@ all_strokes P Q p labels row [] h a = tt
 all_strokes P Q p labels row (x ∷ xs) h a = (h x row a.0, all_strokes P Q p labels (row + 1) xs h a.1)
 
 module _ (p r : ℕ) (T : List Telling) where
-  -- those of another round
+  -- Proves that the list of another round has no stroke of this round.
   other_round : (k : ℕ) → k + 1 ≢ r → filter (is_to r p) (list_behind p T k) ≡ []
   other_round k apart =
       none_kept (is_to r p) (list_behind p T k)
@@ -89,7 +89,7 @@ module _ (p r : ℕ) (T : List Telling) where
       (all_arranged (λ x. is_in (k + 1) x ≡ true) is_lie teller (filter (is_in (k + 1)) (firsts is_same [] T)) (all_passed (is_in (k + 1)) (firsts is_same [] T))))
       ∙ ap (list_of p T) e
 
--- those to another
+-- Proves that strokes to another receiver are not in this list.
 other_receiver : (p r q : ℕ) (labels : Telling → ℕ) (row : ℕ) (xs : List Telling) → q ≢ p → filter (is_to r p) (strokes_from q labels row xs) ≡ []
 unfolding strokes_from
 other_receiver p r q labels row [] apart = refl
@@ -97,7 +97,7 @@ other_receiver p r q labels row (x ∷ xs) apart =
     let rest : List Stroke = filter (is_to r p) (strokes_from q labels (row + 1) xs) in
     ap (λ b. if b then stroke_of q x (labels x) row ∷ rest else rest) (and_right (x.round == r) (q == p) (ne_eqb q p apart)) ∙ other_receiver p r q labels (row + 1) xs apart
 
--- all that was told was told in these rounds
+-- States that a message was sent in one of the first `rounds` rounds.
 abbrev pub IsWithin : ℕ → Telling → Type 0
 IsWithin rounds x = (0 < x.round) × (x.round ≤ rounds)
 
@@ -109,7 +109,7 @@ weaken : (P Q : Telling → Type 0) (xs : List Telling) → ((x : Telling) → P
 weaken P Q [] h a = tt
 weaken P Q (x ∷ xs) h a = (h x a.0, weaken P Q xs h a.1)
 
--- in no other round there is a list
+-- Proves that there is no list for any other round.
 no_list : (p r rounds : ℕ) (T : List Telling) → AllByRecursion (IsWithin rounds) T → ((x : Telling) → IsWithin rounds x → x.round ≢ r) → list_of p T r ≡ []
 unfolding strokes_from
 no_list p r rounds T a out =
@@ -145,7 +145,7 @@ his_list n c rounds p r T inside lieutenant a =
     ∙ none_of (λ k. filter (is_to r p) (list_behind q (T q) k)) rounds (λ k l. other_receiver p r q (labels_of (T q)) 0 (arranged is_lie teller (filter (is_in (k + 1)) (firsts is_same [] (T q)))) apart)))
     ∙ (ap (filter (is_to r p)) (cond-false (p == c) [] (lists_of p (T p) rounds) (ne_eqb p c lieutenant)) ∙ lists_hold p r rounds (T p) a))
 
--- ---- rows of a list
+-- ---- the rows of a list
 
 pub rows_are : (p : ℕ) (labels : Telling → ℕ) (row : ℕ) (xs : List Telling) → map (λ (x : Stroke). x.row) (strokes_from p labels row xs) ≡ range_with_len row (length (strokes_from p labels row xs))
 unfolding strokes_from
@@ -183,7 +183,7 @@ drop_strokes p labels row zero xs = ap (λ (i : ℕ). strokes_from p labels i xs
 drop_strokes p labels row (suc k) [] = refl
 drop_strokes p labels row (suc k) (x ∷ xs) = drop_strokes p labels (row + 1) k xs ∙ ap (λ (i : ℕ). strokes_from p labels i (drop k xs)) (let e : row + 1 + k ≡ row + suc k = omega arith in e)
 
--- tests of what was told
+-- Proves that a test of strokes has the same result as a test of their messages.
 pub any_stroke : (f : Stroke → Bool) (g : Telling → Bool) (p : ℕ) (labels : Telling → ℕ) (row : ℕ) (xs : List Telling) → ((x : Telling) (i : ℕ) → f (stroke_of p x (labels x) i) ≡ g x)
     → list_any f (strokes_from p labels row xs) ≡ list_any g xs
 unfolding strokes_from
@@ -203,7 +203,7 @@ count_strokes f g p labels row (x ∷ xs) h =
     let rest = count_strokes f g p labels (row + 1) xs h in
     omega arith
 
--- what passes both tests
+-- Proves that two filters can be exchanged.
 pub filters_swap : {A : Type 0} (f g : A → Bool) (xs : List A) → filter f (filter g xs) ≡ filter g (filter f xs)
 filters_swap f g [] = refl
 filters_swap {A} f g (x ∷ xs) = by_case (f x) (g x) refl refl (filters_swap f g xs)
@@ -217,7 +217,7 @@ filters_swap {A} f g (x ∷ xs) = by_case (f x) (g x) refl refl (filters_swap f 
     by_case false true ea eb rest = kept f (filter g xs) false ea ∙ rest
     by_case false false ea eb rest = rest
 
--- a test that none passes outside a list counts in it
+-- Proves that a test that only elements of a list pass counts the same in the list as in the whole.
 pub count_within : (f g : Stroke → Bool) (xs : List Stroke) → ((x : Stroke) → f x ≡ true → g x ≡ true) → count_by f xs ≡ count_by f (filter g xs)
 count_within f g [] h = refl
 count_within f g (x ∷ xs) h =

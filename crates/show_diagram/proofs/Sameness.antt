@@ -1,4 +1,4 @@
--- What is the same is equal.
+-- Messages that are the same are equal.
 use Rattle.std.proofs.Common.{ℕ, ◌≡◌, Bool, true, false, ◌&&◌, refl, sym, ap, ◌∙◌, inl, inr, Option, Some, None}
 use Rattle.std.proofs.lemmas.Bool.{and_parts, cases_Bool, eq-eqb, eqb-true}
 use Rattle.std.specs.Bool.{beq}
@@ -47,7 +47,7 @@ own_same x =
     (both (x.teller == x.teller) (option_eq nat_eq x.told x.told && beq x.differs x.differs) (eq-eqb x.teller x.teller refl)
     (both (option_eq nat_eq x.told x.told) (beq x.differs x.differs) (told_same x.told) (bool_same x.differs)))
 
--- and the other way round
+-- Proves that sameness is symmetric.
 pub same_back : (x y : Telling) → is_same x y ≡ is_same y x
 same_back x y =
     let back : (a b : Telling) → is_same a b ≡ true → is_same b a ≡ true = λ a b e. ap (λ z. is_same z a) (sym (same_is a b e)) ∙ own_same a in

@@ -1,4 +1,4 @@
--- How often each thing was told.
+-- How often each message occurs.
 use Rattle.std.proofs.Common.{ℕ, [], ◌+◌, ◌<◌, ◌≤◌, ◌≡◌, ◌≢◌, Bool, true, false, not, ◌||◌, cond, List, ◌∷◌, ◌++◌, length, drop, get_or, ap, sym, refl, ◌∙◌, arith, inl, inr, None}
 use Rattle.std.proofs.lemmas.Bool.{cases_Bool}
 use Rattle.std.proofs.lemmas.List.{length-take}
@@ -16,11 +16,11 @@ cond_or true false = refl
 cond_or false true = refl
 cond_or false false = refl
 
--- what stands in the place of what is behind the end
+-- The message that is read beyond the end of a list.
 abbrev pub nothing_told : Telling
 nothing_told = record { round = 0; teller = 0; told = None; differs = false }
 
--- one label more is counted
+-- Proves that one more message is counted.
 pub count_more : (q d : Telling) (xs : List Telling) (i old new here more : ℕ) → i < length xs
     → old ≡ count_by (is_same q) (take i xs) → here ≡ count_by (is_same (get_or xs i d)) (take i xs) → more ≡ here + 1
     → (is_same (get_or xs i d) q ≡ true → new ≡ more) → (is_same (get_or xs i d) q ≡ false → new ≡ old)
@@ -39,14 +39,14 @@ count_more q d xs i old new here more within so there one to_more to_old =
           omega arith
     ]
 
--- so many are fewer than there are
+-- Proves that a message occurs at most as often as there are messages.
 pub count_small : (x : Telling) (xs : List Telling) (i here : ℕ) → here ≡ count_by (is_same x) (take i xs) → here ≤ length xs
 count_small x xs i here is =
     let few = count_by-le-length (is_same x) (take i xs) in
     let short = length-take i xs in
     omega arith
 
--- one more was seen
+-- Proves that one more message is added to the set of messages seen.
 pub seen_more : (q d : Telling) (xs : List Telling) (i : ℕ) (old new : Bool) → i < length xs
     → old ≡ list_any (is_same q) (take i xs) → new ≡ cond (is_same (get_or xs i d) q) true old → new ≡ list_any (is_same q) (take (i + 1) xs)
 seen_more q d xs i old new within so e =
@@ -54,7 +54,7 @@ seen_more q d xs i old new within so e =
     e ∙ (ap (λ b. cond b true old) (same_back x q) ∙ (ap (λ b. cond (is_same q x) true b) so ∙ (cond_or (is_same q x) (list_any (is_same q) (take i xs))
     ∙ sym (list_any_more (is_same q) xs i d within))))
 
--- whether it was seen before
+-- Proves that a message that was not added had been seen before.
 pub was_seen : (seen added : Bool) → added ≡ not seen → added ≡ false → seen ≡ true
 was_seen true added e f = refl
 was_seen false added e f = absurd cc

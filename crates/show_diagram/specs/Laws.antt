@@ -20,27 +20,28 @@ use Rattle.show_diagram.specs.Order.{most_rows}
 use Rattle.show_diagram.specs.Svg.{svg_text}
 use Rattle.show_diagram.specs.Words.{kind}
 
--- States that each diagram is one XML element, followed by a line feed.
+-- States that every diagram is one XML element followed by a line feed.
 abbrev pub DiagramsAreElements : Type 0
 DiagramsAreElements =
     (t : MessageTable) (c : Chronicle) → (text : List ℕ) × IsElement text × (svg_text t c ≡ text ++ codes "\n")
 
--- States that t is the message table of a finished campaign of s, and has its messages at all places.
+-- States that t is the message table of a finished campaign of the scenario s, with all messages of its letters.
 pub record IsFinishedTable (s : Scenario) (events : List Event) (t : MessageTable) : Type 0 where
   pub scenario : IsScenario s
   pub finished : IsFinished (run (opening s) events)
   pub table : IsTableOf (messages (run (opening s) events).closed) s.generals s.bound s.commander s.rule t
 
--- States that the stroke is drawn as that of an honest relay, and not in red.
+-- States that the stroke is marked as one that a faithful general would send, so that it is not drawn in red.
 abbrev pub IsDrawnHonest : Stroke → Type 0
 IsDrawnHonest stroke = (stroke.differs ≡ false) × (kind stroke ≡ codes "told")
 
--- States that all strokes of a loyal general are drawn as honest, so that only strokes of traitors are red.
+-- States that no stroke of a loyal general is drawn in red.
 abbrev pub BlamesTraitors : Scenario → MessageTable → Type 0
 BlamesTraitors s t = All (λ stroke. is_traitor s stroke.teller ≡ false → IsDrawnHonest stroke) (strokes_of t s.order)
 
--- States that in a finished campaign only strokes of traitors are red. A message has `differs` false exactly if it is
--- as it should be: the commander sends his order, and another general sends what he received.
+-- States that in a finished campaign only strokes of traitors are drawn in red. A message's `differs` is false
+-- exactly if it has the right order: from the commander the order that he was given, and from another general the
+-- order that he took.
 pub record OnlyTraitorsDiffer : Type 0 where
   pub drawn : (s : Scenario) (events : List Event) (t : MessageTable) → IsFinishedTable s events t →
       BlamesTraitors s t
@@ -50,21 +51,21 @@ pub record OnlyTraitorsDiffer : Type 0 where
       ((telling_at t w j p).differs ≡ false)
       ↔ (told t.messages (w ++ j ∷ []) p ≡ Some (taken (told t.messages) w j))
 
--- Returns the message that a stroke stands for at each of its labels, and whether a stroke is the one for a message to
--- p.
+-- Returns the message that a stroke shows.
 abbrev pub told_by : Stroke → Telling
 told_by stroke = record { round = stroke.round; teller = stroke.teller; told = stroke.told; differs = stroke.differs }
 
+-- Returns whether a stroke shows the given message to p.
 abbrev pub is_of : ℕ → Telling → Stroke → Bool
 is_of p telling stroke = stroke.receiver == p && is_same telling (told_by stroke)
 
--- For how many labels the receiver was sent the message of a stroke.
+-- Returns the number of labels for which the receiver of a stroke received its message.
 abbrev pub labels_told : MessageTable → ℕ → Stroke → ℕ
 labels_told t order stroke = labels_of (tellings_of t order stroke.receiver) (told_by stroke)
 
--- States that there is exactly one stroke for each message to lieutenant p, where messages with the same round, sender,
--- order and value of `differs` are the same, and none for any other message. A stroke's `labels` is the number of
--- labels for which its receiver was sent its message.
+-- States that there is exactly one stroke for each message to lieutenant p, and none for other messages. Messages
+-- with the same round, sender, order and `differs` count as one. A stroke's `labels` is the number of labels for
+-- which its receiver received its message.
 pub record StrokesAreExact : Type 0 where
   pub once : (t : MessageTable) (order p : ℕ) (telling : Telling) → p < t.generals → p ≢ t.commander →
       count_by (is_of p telling) (strokes_of t order)
@@ -72,23 +73,26 @@ pub record StrokesAreExact : Type 0 where
   pub wide : (t : MessageTable) (order : ℕ) →
       All (λ stroke. stroke.labels ≡ labels_told t order stroke) (strokes_of t order)
 
--- Returns the list of what a lieutenant received in a round.
+-- Returns the strokes in the list of what lieutenant p received in a round.
 abbrev pub list_in : MessageTable → ℕ → ℕ → ℕ → List Stroke
 list_in t order round p = list_to round p (strokes_of t order)
 
--- Returns the strokes of a lieutenant's list of a round that are drawn.
+-- Returns the strokes in the list of what lieutenant p received in a round that are drawn.
 abbrev pub drawn_in : MessageTable → ℕ → ℕ → ℕ → List Stroke
 drawn_in t order round p = list_to round p (with_rows (strokes_of t order))
 
+-- Returns whether a stroke is a lie: a faithful general would send something else.
 abbrev pub has_lied : Stroke → Bool
 has_lied stroke = stroke.differs
 
+-- Returns whether a stroke is a lie of general j.
 abbrev pub has_lied_as : ℕ → Stroke → Bool
 has_lied_as j stroke = stroke.differs && stroke.teller == j
 
--- States that the rows of a lieutenant's list are numbered, and the first are drawn. If a lie is left out, no honest
--- row is drawn. Each liar has a row that is drawn. The strokes that are drawn and those that are counted as left out
--- are all strokes, and the same holds for the lies.
+-- States which rows of the list of what a lieutenant received in a round are drawn. The rows are numbered from 0, and
+-- the first 24 are drawn. If a lie is not drawn, all drawn rows are lies. Each general who lies has a drawn row. The
+-- number of drawn strokes and the reported number of others add up to the number of all strokes, and likewise for the
+-- lies.
 pub record RowsAreExact : Type 0 where
   pub numbered : (t : MessageTable) (order round p : ℕ) → p < t.generals → p ≢ t.commander →
       map (λ (stroke : Stroke). stroke.row) (list_in t order round p)

@@ -1,5 +1,6 @@
-//! Draws the bands of a diagram, one for each round, with its accesses, its strokes and its lists. Every function here
-//! that returns a `Result` fails only if memory runs out.
+//! Draws the bands of a diagram. The band of a round shows the accesses to the board, the strokes (lines that show
+//! messages), and below them a list for each lieutenant of what he received. Functions that return a `Result` fail
+//! only if memory runs out.
 ghost use Rattle.std.specs.Prelude.{◌≡◌, ◌++◌, ◌+◌, ◌<◌, ◌≤◌, ◌^◌, codes, length, flat_map, string_bytes, OnOk};
 ghost use Rattle.std.specs.List.{range_with_len};
 ghost use Rattle.show_diagram.specs.Shapes.{text_at, title};
@@ -18,7 +19,7 @@ use crate::words::{kind, outline, put_access_words, put_row_words, put_shown, pu
 use board::Access;
 use std::alloc::AllocError;
 
-/// Appends the bands of the first `rounds` rounds.
+/// Appends the bands of the first `rounds` rounds. `wide` is the x coordinate at which the rule above each band ends.
 pub(crate) fn put_bands(
     out: &mut String,
     generals: u8,
@@ -37,7 +38,7 @@ pub(crate) fn put_bands(
     Ok(())
 }
 
-/// Appends the band of the round that follows the first `before` rounds of an oral campaign.
+/// Appends the band of round `before + 1` of a campaign with oral messages.
 fn put_band(
     out: &mut String,
     generals: u8,
@@ -63,7 +64,7 @@ fn put_band(
     Ok(())
 }
 
-/// Appends the contents of a round's band in an oral campaign's diagram.
+/// Appends the contents of a round's band: its heading, the vertical lines, the accesses, the strokes and the lists.
 fn put_inside(
     out: &mut String,
     generals: u8,
@@ -87,7 +88,7 @@ fn put_inside(
     put_strokes(out, generals, strokes, accesses, round)
 }
 
-/// Appends the number of a round, at the left of its band.
+/// Appends the heading of a round, such as `round 2`, at the left of its band.
 ///
 /// # Errors
 ///
@@ -101,7 +102,7 @@ pub fn put_round_text(out: &mut String, round: u32) -> Result<(), AllocError>
     put_text_end(out)
 }
 
-/// Appends the number of a round in words.
+/// Appends a round's heading in words, such as `round 2`.
 #[tactic(auto, unfolding(crate::specs::Bands::round_words))]
 fn put_round(out: &mut String, round: u32) -> Result<(), AllocError>
     ensures { OnOk result (string_bytes out.new ≡ string_bytes out.old ++ round_words round) }
@@ -109,7 +110,8 @@ fn put_round(out: &mut String, round: u32) -> Result<(), AllocError>
     write!(out, "round {round}")
 }
 
-/// Appends the vertical line of each general, and that of the board if there are accesses.
+/// Appends the vertical lines of a band, `height` SVG units long. There is one for each general, and one for the
+/// board unless `accesses` is empty.
 pub fn put_lives(
     out: &mut String,
     generals: u8,
@@ -122,7 +124,7 @@ pub fn put_lives(
     put_general_lives(out, generals, height)
 }
 
-/// Appends the vertical line of each general.
+/// Appends a vertical line for each general, `height` SVG units long.
 fn put_general_lives(out: &mut String, generals: u8, height: u128) -> Result<(), AllocError>
     ensures { OnOk result (string_bytes out.new ≡ string_bytes out.old
         ++ flat_map (general_life height) (range_with_len 0 generals)) }
@@ -133,21 +135,21 @@ fn put_general_lives(out: &mut String, generals: u8, height: u128) -> Result<(),
     Ok(())
 }
 
-/// Appends the vertical line of a general.
+/// Appends the vertical line in a general's column, `height` SVG units long.
 fn put_general_life(out: &mut String, general: u8, height: u128) -> Result<(), AllocError>
     ensures { OnOk result (string_bytes out.new ≡ string_bytes out.old ++ general_life height general) }
 {
     put_life(out, column(u32::from(general)), height)
 }
 
-/// Appends a vertical line through the band.
+/// Appends a vertical line at the x coordinate `x`, from the top of a band `height` SVG units down.
 fn put_life(out: &mut String, x: u128, height: u128) -> Result<(), AllocError>
     ensures { OnOk result (string_bytes out.new ≡ string_bytes out.old ++ life x height) }
 {
     put_line(out, "life", x, 0, x, height)
 }
 
-/// Appends the vertical line of the board, if there are accesses.
+/// Appends the vertical line in the board's column, `height` SVG units long. Appends nothing if `accesses` is empty.
 fn put_board(
     out: &mut String,
     generals: u8,
@@ -162,7 +164,7 @@ fn put_board(
     }
 }
 
-/// Appends the accesses of a round, in the order in which the board received them.
+/// Appends the accesses to the board in round `round`, in the order in which the board received them.
 pub fn put_accesses(
     out: &mut String,
     generals: u8,
@@ -179,7 +181,7 @@ pub fn put_accesses(
     Ok(())
 }
 
-/// Appends an access at the height `top` of the band, if it belongs to this round.
+/// Appends an access, `top` SVG units below the top of its band. Appends nothing for an access of another round.
 fn put_access(
     out: &mut String,
     generals: u8,
@@ -198,8 +200,8 @@ fn put_access(
     put_group_end(out)
 }
 
-/// Appends the drawing of an access: its title, its point, the line to the board at distance `far` to the right, and
-/// the words next to the board.
+/// Appends the drawing of an access: a title, a line to the board `far` SVG units to the right, a point in the
+/// general's column, and the words next to the board.
 fn put_point(out: &mut String, far: u128, access: &Access) -> Result<(), AllocError>
     requires { far < 2 ^ 100 }
     ensures { OnOk result (string_bytes out.new ≡ string_bytes out.old ++ point far access.now) }
@@ -210,7 +212,7 @@ fn put_point(out: &mut String, far: u128, access: &Access) -> Result<(), AllocEr
     put_access_text(out, far + 12, access)
 }
 
-/// Appends the title of an access, which a reader sees by pointing at it.
+/// Appends the title of an access, which a browser shows if the reader points at the access.
 fn put_access_title(out: &mut String, access: &Access) -> Result<(), AllocError>
     ensures { OnOk result (string_bytes out.new ≡ string_bytes out.old ++ title (access_words access.now)) }
 {
@@ -219,7 +221,7 @@ fn put_access_title(out: &mut String, access: &Access) -> Result<(), AllocError>
     put_title_end(out)
 }
 
-/// Appends the words that are written next to the board for an access.
+/// Appends the words for an access next to the board, at the x coordinate `x`.
 fn put_access_text(out: &mut String, x: u128, access: &Access) -> Result<(), AllocError>
     ensures { OnOk result (string_bytes out.new ≡ string_bytes out.old
         ++ text_at (codes "small") x 4 (shown_words access.now)) }
@@ -229,7 +231,7 @@ fn put_access_text(out: &mut String, x: u128, access: &Access) -> Result<(), All
     put_text_end(out)
 }
 
-/// Appends the strokes of a round of an oral campaign.
+/// Appends the strokes of round `round`, and for each a row in the receiver's list.
 fn put_strokes(
     out: &mut String,
     generals: u8,
@@ -248,8 +250,8 @@ fn put_strokes(
     Ok(())
 }
 
-/// Appends a stroke of an oral campaign and its row in the receiver's list, if it belongs to this round. The strokes
-/// begin at the height `top`, and the lists at `below`.
+/// Appends a stroke and its row in the receiver's list. Appends nothing for a stroke of another round. In the band of
+/// the round the strokes begin at the y coordinate `top`, and the lists at `below`.
 fn put_drawn(
     out: &mut String,
     generals: u8,
@@ -270,7 +272,8 @@ fn put_drawn(
     put_row(out, below, stroke)
 }
 
-/// Appends the line of a stroke, which begins at the height `top`. Its width is its number of labels, up to 5.
+/// Appends the line of a stroke from the sender's column, at the y coordinate `top`, to the receiver's. Its width is
+/// the number of labels, but at most 5.
 fn put_stroke(out: &mut String, generals: u8, top: u128, stroke: &Stroke) -> Result<(), AllocError>
     requires { top < 2 ^ 100 }
     ensures { OnOk result (string_bytes out.new ≡ string_bytes out.old ++ stroke_line generals top stroke.now) }
@@ -288,7 +291,7 @@ fn put_stroke(out: &mut String, generals: u8, top: u128, stroke: &Stroke) -> Res
     put_stroke_end(out)
 }
 
-/// Appends the title of an oral campaign's stroke, which a reader sees by pointing at it.
+/// Appends the title of a stroke, which a browser shows if the reader points at the stroke.
 fn put_stroke_title(out: &mut String, stroke: &Stroke) -> Result<(), AllocError>
     ensures { OnOk result (string_bytes out.new ≡ string_bytes out.old ++ title (stroke_words stroke.now)) }
 {
@@ -297,7 +300,7 @@ fn put_stroke_title(out: &mut String, stroke: &Stroke) -> Result<(), AllocError>
     put_title_end(out)
 }
 
-/// Appends the text of an oral campaign's stroke in the receiver's list.
+/// Appends the text of a stroke's row in the receiver's list, such as `from 2: 1, 3 labels`.
 fn put_row_text(out: &mut String, stroke: &Stroke) -> Result<(), AllocError>
     ensures { OnOk result (string_bytes out.new ≡ string_bytes out.old
         ++ text_at (codes "small") 12 4 (row_words stroke.now)) }
@@ -307,7 +310,8 @@ fn put_row_text(out: &mut String, stroke: &Stroke) -> Result<(), AllocError>
     put_text_end(out)
 }
 
-/// Appends the row of an oral campaign's stroke in the receiver's list, which begins at the height `top`.
+/// Appends the row of a stroke in the receiver's list: its title, mark and text. The list begins at the y coordinate
+/// `top`.
 fn put_row(out: &mut String, top: u128, stroke: &Stroke) -> Result<(), AllocError>
     requires { top < 2 ^ 100 }
     ensures { OnOk result (string_bytes out.new ≡ string_bytes out.old ++ row top stroke.now) }

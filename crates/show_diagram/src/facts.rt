@@ -9,9 +9,10 @@ use crate::told_orders::tellings;
 use book::Heard;
 use std::alloc::{AllocError, Global};
 
-/// Returns the strokes of a campaign in which the commander was given `order`, by receiver and then by round. One
-/// stroke stands for all labels of a round for which one general sent the same. If a list is too long to be drawn, its
-/// lies come first; otherwise it is sorted by label.
+/// Returns the strokes of a campaign whose commander was given `order`, sorted by receiver and then by round. A
+/// stroke combines equal messages that one general sent another in a round, for any number of labels. A receiver's
+/// strokes of a round are sorted by their first label. If there are more than 24 of them, those that a faithful
+/// general would not send come first.
 ///
 /// # Errors
 ///
@@ -27,7 +28,7 @@ pub fn strokes<H: Heard>(alloc: Global, table: &H, order: u32) -> Result<Vec<Str
     Ok(strokes)
 }
 
-/// Appends the strokes to a general, if he is a lieutenant.
+/// Appends the strokes that show what general `receiver` received. Appends nothing for the commander.
 fn push_received<H: Heard>(
     alloc: Global,
     strokes: &mut Vec<Stroke>,

@@ -14,8 +14,8 @@ use round::Scenario;
 use std::alloc::AllocError;
 use world::{Chronicle, Verdict};
 
-/// Appends the foot of an oral campaign's diagram: the decisions, the verdict and the meanings of these marks. The foot
-/// begins at the height `top`.
+/// Appends the foot of a diagram for oral messages: the decisions, the verdict and the legend of `marks`. The foot
+/// begins at the y coordinate `top`, and the rule above it ends at the x coordinate `wide`.
 pub(crate) fn put_foot(
     out: &mut String,
     chronicle: &Chronicle,
@@ -35,7 +35,8 @@ pub(crate) fn put_foot(
     put_group_end(out)
 }
 
-/// Appends the decision of each lieutenant.
+/// Appends the decision of each lieutenant in his column. `decisions` has an entry for each general but the
+/// commander.
 ///
 /// # Errors
 ///
@@ -53,7 +54,7 @@ pub fn put_decisions(
     Ok(())
 }
 
-/// Appends the decision of a general, if he is a lieutenant.
+/// Appends a lieutenant's decision in his column. Appends nothing for the commander.
 fn put_decided(
     out: &mut String,
     scenario: &Scenario,
@@ -73,7 +74,7 @@ fn put_decided(
     }
 }
 
-/// Returns the index of a lieutenant's decision in the list of decisions, which leaves out the commander.
+/// Returns the index of a lieutenant's decision in a list that has an entry for each general but the commander.
 pub fn place_of(commander: u8, general: u8) -> usize
     ensures { result ≡ place_of commander general }
 {
@@ -84,7 +85,7 @@ pub fn place_of(commander: u8, general: u8) -> usize
     }
 }
 
-/// Appends a decision in the column of its general.
+/// Appends a decision in the column of its general, next to his shape.
 fn put_decided_at(
     out: &mut String,
     general: u8,
@@ -101,7 +102,7 @@ fn put_decided_at(
     put_group_end(out)
 }
 
-/// Appends the words of a decision.
+/// Appends a decision in words, such as `decides 1`.
 #[tactic(auto, unfolding(crate::specs::Foot::decides_words))]
 fn put_decides(out: &mut String, order: u32) -> Result<(), AllocError>
     ensures { OnOk result (string_bytes out.new ≡ string_bytes out.old ++ decides_words order) }
@@ -109,7 +110,8 @@ fn put_decides(out: &mut String, order: u32) -> Result<(), AllocError>
     write!(out, "decides {order}")
 }
 
-/// Appends the verdict on an oral campaign, with a line for each of its parts.
+/// Appends the verdict in three lines: whether the loyal lieutenants decide alike, whether they obey a loyal
+/// commander, and whether the bound for oral messages holds.
 fn put_verdict(out: &mut String, verdict: Verdict) -> Result<(), AllocError>
     ensures { OnOk result (string_bytes out.new ≡ string_bytes out.old ++ verdict_lines verdict) }
 {
@@ -141,8 +143,8 @@ pub fn obeyed_words(obeyed: Option<bool>) -> &'static str
     }
 }
 
-/// Returns the sentence that says whether the bound for oral messages holds, under which the algorithm promises
-/// agreement.
+/// Returns the sentence that says whether the bound for oral messages holds. The algorithm promises agreement only if
+/// it does.
 pub fn bound_words(bound: bool) -> &'static str
     ensures { result.now ≡ bound_words bound }
 {

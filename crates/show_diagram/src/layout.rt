@@ -1,4 +1,4 @@
-//! Computes the positions of a diagram's parts, in units of SVG: a column for each general, and a band for each round.
+//! Computes where a diagram's columns, bands, accesses, strokes and lists are, in SVG units.
 ghost use Rattle.std.specs.Prelude.{◌≡◌, ◌<◌, ◌+◌, ◌-◌, ◌*◌, ◌^◌, count_by, IfOk};
 ghost use Rattle.show_diagram.specs.Layout.{board, column, fan_top, height, is_earlier, is_in, most, reach, rows_top, room, top_of, widest, width};
 
@@ -7,24 +7,26 @@ use crate::words::put_shown;
 use board::Access;
 use std::alloc::{AllocError, Global};
 
-/// The least width of a diagram in units, at which the words above and below its columns are not cut.
+/// The least width of a diagram in SVG units, which leaves room for the headline and the legend.
 const LEAST: u128 = 760;
 
-/// Returns the x coordinate of a general's column. Columns are as far apart as the longest row of a list is wide.
+/// Returns the x coordinate of a general's column in SVG units. Columns are 208 units apart, which is room for a
+/// list's longest row.
 pub fn column(general: u32) -> u128
     ensures { result ≡ column general }
 {
     120 + 208 * u128::from(general)
 }
 
-/// Returns the x coordinate of the board's column, to the right of the columns of `generals` generals.
+/// Returns the x coordinate of the board's column in SVG units, to the right of the columns of `generals` generals.
 pub(crate) fn board(generals: u8) -> u128
     ensures { result ≡ board generals }
 {
     120 + 208 * u128::from(generals)
 }
 
-/// Returns the width of a diagram, with room to the right of the board for the words of its accesses.
+/// Returns the width of a diagram in SVG units. It leaves room for the words of the accesses, to the right of the
+/// board.
 ///
 /// # Errors
 ///
@@ -36,7 +38,7 @@ pub fn width(alloc: Global, generals: u8, accesses: &[Access]) -> Result<u128, A
     Ok(LEAST.max(board(generals) + widest(alloc, accesses)?))
 }
 
-/// Returns the width of the widest access text, to the right of the board.
+/// Returns the room in SVG units that the longest words of an access need, or 0 if there are no accesses.
 fn widest(alloc: Global, accesses: &[Access]) -> Result<u128, AllocError>
     ensures value { IfOk result (λ width. width ≡ widest accesses.now) }
     ensures small { IfOk result (λ width. width < 2 ^ 100) }
@@ -48,7 +50,7 @@ fn widest(alloc: Global, accesses: &[Access]) -> Result<u128, AllocError>
     Ok(widest)
 }
 
-/// Returns the width of an access text: 28 units, and 7 for each byte of it.
+/// Returns the room that the words of an access need: 28 SVG units, and 7 for each byte.
 fn room(alloc: Global, access: &Access) -> Result<u128, AllocError>
     ensures value { IfOk result (λ width. width ≡ room access.now) }
     ensures small { IfOk result (λ width. width < 2 ^ 100) }
@@ -58,29 +60,29 @@ fn room(alloc: Global, access: &Access) -> Result<u128, AllocError>
     Ok(28 + 7 * text.len() as u128)
 }
 
-/// Returns the number of accesses in a round.
+/// Returns the number of accesses in round `round`.
 fn accesses_in(accesses: &[Access], round: u32) -> usize
     ensures { result ≡ count_by (is_in round) accesses.now }
 {
     accesses.iter().filter(|x| x.round == round).count()
 }
 
-/// Returns the number of accesses in earlier rounds.
+/// Returns the number of accesses in the rounds before `round`.
 pub(crate) fn accesses_before(accesses: &[Access], round: u32) -> usize
     ensures { result ≡ count_by (is_earlier round) accesses.now }
 {
     accesses.iter().filter(|x| x.round < round).count()
 }
 
-/// Returns the height at which an access is drawn in the band of its round. `place` is its place among all accesses,
-/// and `before` is the number of accesses in earlier rounds.
+/// Returns the y coordinate of an access within its round's band. `place` is its index among all accesses, and
+/// `before` is the number of accesses in earlier rounds.
 pub(crate) fn access_top(before: usize, place: usize) -> u128
     ensures { result ≡ 16 + 20 * (place - before) }
 {
     16 + 20 * place.saturating_sub(before) as u128
 }
 
-/// Returns the height in a round's band at which its strokes begin.
+/// Returns the y coordinate within a round's band at which its strokes begin, below its accesses.
 pub fn fan_top(accesses: &[Access], round: u32) -> u128
     ensures value { result ≡ fan_top accesses.now round }
     ensures small { result < 2 ^ 80 }
@@ -88,7 +90,7 @@ pub fn fan_top(accesses: &[Access], round: u32) -> u128
     24 + 20 * accesses_in(accesses, round) as u128
 }
 
-/// Returns the height in a round's band at which its lists begin, which say what each lieutenant received.
+/// Returns the y coordinate within a round's band at which the lists of what each lieutenant received begin.
 pub fn rows_top(generals: u8, accesses: &[Access], round: u32) -> u128
     ensures value { result ≡ rows_top generals accesses.now round }
     ensures small { result < 2 ^ 81 }
@@ -96,7 +98,7 @@ pub fn rows_top(generals: u8, accesses: &[Access], round: u32) -> u128
     fan_top(accesses, round) + 72 + 16 * u128::from(generals)
 }
 
-/// Returns the length of a round's longest list.
+/// Returns the number of rows in the longest list of round `round`. A list shows what one lieutenant received.
 fn most(strokes: &[Stroke], round: u32) -> u128
     ensures value { result ≡ most round strokes.now }
     ensures small { result < 2 ^ 65 }
@@ -108,7 +110,7 @@ fn most(strokes: &[Stroke], round: u32) -> u128
     most
 }
 
-/// Returns the least length of the list that has this stroke as a row, or 0 if the stroke is not of this round.
+/// Returns how many rows a list needs to show this stroke, or 0 if the stroke is not of round `round`.
 fn reach(stroke: &Stroke, round: u32) -> u128
     ensures value { result ≡ reach round stroke.now }
     ensures small { result < 2 ^ 65 }
@@ -120,7 +122,7 @@ fn reach(stroke: &Stroke, round: u32) -> u128
     }
 }
 
-/// Returns the height of a round's band.
+/// Returns the height of a round's band in SVG units. It grows with the number of accesses and the longest list.
 pub fn height(generals: u8, strokes: &[Stroke], accesses: &[Access], round: u32) -> u128
     ensures value { result ≡ height generals strokes.now accesses.now round }
     ensures small { result < 2 ^ 82 }
@@ -128,7 +130,7 @@ pub fn height(generals: u8, strokes: &[Stroke], accesses: &[Access], round: u32)
     rows_top(generals, accesses, round) + 20 + 18 * most(strokes, round)
 }
 
-/// Returns the y coordinate at which the band after the first `rounds` rounds begins.
+/// Returns the y coordinate at which the band of round `rounds + 1` begins: 80 plus the heights of the earlier bands.
 #[tactic(auto, using(crate::proofs::LayoutLemmas::none_above, crate::proofs::LayoutLemmas::one_above))]
 pub fn top_of(generals: u8, strokes: &[Stroke], accesses: &[Access], rounds: u8) -> u128
     ensures value { result ≡ top_of generals strokes.now accesses.now rounds }

@@ -1,5 +1,5 @@
-//! Draws the legend of a diagram, below its foot: a row for each mark that occurs in the diagram. Every function here
-//! that returns a `Result` fails only if memory runs out.
+//! Draws the legend in a diagram's foot: a row for each mark that occurs in the diagram. Functions that return a
+//! `Result` fail only if memory runs out.
 ghost use Rattle.std.specs.Prelude.{◌≡◌, ◌≤◌, ◌<◌, ◌^◌, ◌++◌, string_bytes, OnOk};
 ghost use Rattle.std.specs.List.{list_any};
 ghost use Rattle.show_diagram.specs.Legend.{differs_meaning, foot_height, has_circle, has_cross, has_diamond, legend, legend_of, marks_of, meaning_at, meaning_if, missing_meaning, one_if, rows, shape_at, shape_if, shape_key, shape_meanings, stroke_meanings, stroke_rows, told_meaning, wide_meaning};
@@ -17,7 +17,7 @@ use round::Scenario;
 use std::alloc::AllocError;
 use world::judgement::traitors;
 
-/// Returns which marks occur in the diagram of these strokes and accesses.
+/// Returns which marks occur in a diagram with the given accesses and strokes.
 pub fn marks(scenario: &Scenario, accesses: &[Access], strokes: &[Stroke]) -> DiagramMarks
     ensures { result ≡ marks_of scenario.now accesses.now strokes.now }
 {
@@ -32,49 +32,50 @@ pub fn marks(scenario: &Scenario, accesses: &[Access], strokes: &[Stroke]) -> Di
     }
 }
 
-/// Checks whether one of these strokes has a circle.
+/// Checks whether the mark of any of these strokes is a circle: a faithful general would send the same.
 fn any_circle(strokes: &[Stroke]) -> bool
     ensures { result ≡ list_any has_circle strokes.now }
 {
     strokes.iter().any(|stroke| has_circle(stroke))
 }
 
-/// Checks whether one of these strokes has a diamond.
+/// Checks whether the mark of any of these strokes is a diamond: an order that a faithful general would not send.
 fn any_diamond(strokes: &[Stroke]) -> bool
     ensures { result ≡ list_any has_diamond strokes.now }
 {
     strokes.iter().any(|stroke| has_diamond(stroke))
 }
 
-/// Checks whether one of these strokes has a cross.
+/// Checks whether the mark of any of these strokes is a cross: nothing was sent, but a faithful general sends an
+/// order.
 fn any_cross(strokes: &[Stroke]) -> bool
     ensures { result ≡ list_any has_cross strokes.now }
 {
     strokes.iter().any(|stroke| has_cross(stroke))
 }
 
-/// Checks whether a stroke has a circle: an honest relay would send the same.
+/// Checks whether a stroke is marked with a circle: a faithful general would send the same.
 fn has_circle(stroke: &Stroke) -> bool
     ensures { result ≡ has_circle stroke.now }
 {
     !stroke.differs
 }
 
-/// Checks whether a stroke has a diamond: an order was sent, and an honest relay would send something else.
+/// Checks whether a stroke is marked with a diamond: an order was sent that a faithful general would not send.
 fn has_diamond(stroke: &Stroke) -> bool
     ensures { result ≡ has_diamond stroke.now }
 {
     stroke.differs && stroke.told.is_some()
 }
 
-/// Checks whether a stroke has a cross: nothing was sent where something should have been sent.
+/// Checks whether a stroke is marked with a cross: nothing was sent, but a faithful general sends an order.
 fn has_cross(stroke: &Stroke) -> bool
     ensures { result ≡ has_cross stroke.now }
 {
     stroke.differs && !stroke.told.is_some()
 }
 
-/// Returns 1 if the condition holds, else 0.
+/// Returns 1 if `stands` is true, else 0.
 fn one_if(stands: bool) -> u128
     ensures value { result ≡ one_if stands }
     ensures few { result ≤ 1 }
@@ -82,7 +83,7 @@ fn one_if(stands: bool) -> u128
     if stands { 1 } else { 0 }
 }
 
-/// Returns how many of the marks circle, diamond and cross occur, at most 3. Each has a row in the legend.
+/// Returns the number of rows that the legend needs for circle, diamond and cross, the marks of strokes: from 0 to 3.
 fn stroke_rows(marks: DiagramMarks) -> u128
     ensures value { result ≡ stroke_rows marks }
     ensures few { result ≤ 3 }
@@ -90,7 +91,7 @@ fn stroke_rows(marks: DiagramMarks) -> u128
     one_if(marks.circle) + one_if(marks.diamond) + one_if(marks.cross)
 }
 
-/// Returns how many of all marks occur, at most 6. Each has a row in the legend.
+/// Returns the number of rows that the legend needs for all marks: from 0 to 6, one for each mark that occurs.
 fn rows(marks: DiagramMarks) -> u128
     ensures value { result ≡ rows marks }
     ensures few { result ≤ 6 }
@@ -98,8 +99,8 @@ fn rows(marks: DiagramMarks) -> u128
     stroke_rows(marks) + one_if(marks.square) + one_if(marks.loyal) + one_if(marks.point)
 }
 
-/// Returns the height of the diagram's foot in SVG user units: 152, and 20 for each legend row that these marks need.
-/// There are at most 6 rows, so the result is at most 272.
+/// Returns the height of a diagram's foot: 152 SVG units, and 20 for each mark that occurs. There are at most 6
+/// marks, so the result is at most 272.
 pub fn foot_height(marks: DiagramMarks) -> u128
     ensures value { result ≡ foot_height marks }
     ensures few { result ≤ 272 }
@@ -107,8 +108,8 @@ pub fn foot_height(marks: DiagramMarks) -> u128
     152 + 20 * rows(marks)
 }
 
-/// Appends the meanings of those marks that occur in the diagram. `told`, `differs` and `missing` describe a stroke
-/// that is as it should be, one that differs, and one that is missing. `wide` describes the width of a line.
+/// Appends a legend with a row for each mark that occurs in the diagram. The words `told`, `differs` and `missing`
+/// explain a circle, a diamond and a cross, and `wide` explains the width of a line.
 ///
 /// # Errors
 ///
@@ -132,7 +133,7 @@ pub fn put_legend_of(
     Ok(())
 }
 
-/// Appends the meanings of the marks of strokes.
+/// Appends the legend's rows for circle, diamond and cross. Each row explains its mark with the given words.
 fn put_stroke_meanings(
     out: &mut String,
     marks: DiagramMarks,
@@ -154,7 +155,8 @@ fn put_stroke_meanings(
     Ok(())
 }
 
-/// Appends the meanings of the marks of generals and accesses. Their rows begin at the row number `place`.
+/// Appends the legend's rows for traitors, loyal generals and accesses. The first of them is row `place`, counted
+/// from 0.
 fn put_shape_meanings(out: &mut String, marks: DiagramMarks, place: u128) -> Result<(), AllocError>
     requires { place < 2 ^ 99 }
     ensures { OnOk result (string_bytes out.new ≡ string_bytes out.old ++ shape_meanings marks place) }
@@ -184,7 +186,8 @@ fn put_shape_meanings(out: &mut String, marks: DiagramMarks, place: u128) -> Res
     Ok(())
 }
 
-/// Appends a sample stroke with its mark and its meaning in the row `place`, if the mark occurs in the diagram.
+/// Appends row `place` of the legend: a sample stroke with a mark, and its meaning. Appends nothing if `stands` is
+/// false.
 fn put_meaning_if(
     out: &mut String,
     stands: bool,
@@ -204,7 +207,7 @@ fn put_meaning_if(
     }
 }
 
-/// Appends a mark without a stroke and its meaning in the row `place`, if the mark occurs in the diagram.
+/// Appends row `place` of the legend: a mark without a stroke, and its meaning. Appends nothing if `stands` is false.
 fn put_shape_if(
     out: &mut String,
     stands: bool,
@@ -224,7 +227,7 @@ fn put_shape_if(
     }
 }
 
-/// Appends a sample stroke with its mark and its meaning at the height `y`.
+/// Appends a row of the legend at the y coordinate `y`: a sample stroke with a mark, and its meaning.
 fn put_meaning(
     out: &mut String,
     y: u128,
@@ -243,7 +246,7 @@ fn put_meaning(
     put_group_end(out)
 }
 
-/// Appends a mark without a stroke and its meaning at the height `y`.
+/// Appends a row of the legend at the y coordinate `y`: a mark without a stroke, and its meaning.
 fn put_shape(
     out: &mut String,
     y: u128,
@@ -259,7 +262,7 @@ fn put_shape(
     put_group_end(out)
 }
 
-/// Appends a short sample stroke with a title.
+/// Appends a short horizontal sample stroke, with `words` as its title.
 fn put_sample(out: &mut String, kind: &str, words: &str) -> Result<(), AllocError>
     ensures { OnOk result (string_bytes out.new ≡ string_bytes out.old ++ stroke_at kind.now 2 0 0 36 0 words.now) }
 {
@@ -270,7 +273,7 @@ fn put_sample(out: &mut String, kind: &str, words: &str) -> Result<(), AllocErro
     put_stroke_end(out)
 }
 
-/// Appends the meanings of the marks of generals and accesses, for readers who do not see the diagram.
+/// Appends sentences that explain the marks of generals and accesses, for readers who cannot see the diagram.
 pub fn put_shape_key(out: &mut String, marks: DiagramMarks) -> Result<(), AllocError>
     ensures { OnOk result (string_bytes out.new ≡ string_bytes out.old ++ shape_key marks) }
 {
@@ -284,7 +287,7 @@ pub fn put_shape_key(out: &mut String, marks: DiagramMarks) -> Result<(), AllocE
     Ok(())
 }
 
-/// Appends the meanings of the marks of a campaign with oral messages.
+/// Appends the legend of a diagram for oral messages.
 pub(crate) fn put_legend(out: &mut String, marks: DiagramMarks) -> Result<(), AllocError>
     ensures { OnOk result (string_bytes out.new ≡ string_bytes out.old ++ legend marks) }
 {
@@ -298,7 +301,7 @@ pub(crate) fn put_legend(out: &mut String, marks: DiagramMarks) -> Result<(), Al
     )
 }
 
-/// Returns the meaning of a stroke that an honest relay would send.
+/// Returns the legend's words for a circle: a stroke that a faithful general would send.
 #[tactic(auto, unfolding(crate::specs::Legend::told_meaning))]
 fn told_meaning() -> &'static str
     ensures { result.now ≡ told_meaning }
@@ -306,7 +309,7 @@ fn told_meaning() -> &'static str
     "sent as an honest relay sends it"
 }
 
-/// Returns the meaning of a stroke for which an honest relay would send something else.
+/// Returns the legend's words for a diamond: a stroke for which a faithful general would send something else.
 #[tactic(auto, unfolding(crate::specs::Legend::differs_meaning))]
 fn differs_meaning() -> &'static str
     ensures { result.now ≡ differs_meaning }
@@ -314,7 +317,7 @@ fn differs_meaning() -> &'static str
     "sent, but an honest relay would send something else"
 }
 
-/// Returns the meaning of a stroke that is missing.
+/// Returns the legend's words for a cross: nothing was sent, although a faithful general sends an order.
 #[tactic(auto, unfolding(crate::specs::Legend::missing_meaning))]
 fn missing_meaning() -> &'static str
     ensures { result.now ≡ missing_meaning }
@@ -322,8 +325,7 @@ fn missing_meaning() -> &'static str
     "nothing sent, but an order should be sent"
 }
 
-/// Returns the legend's words about the width of a line in an oral campaign's diagram, which is the stroke's number of
-/// labels, up to 5.
+/// Returns the legend's words about the width of a stroke's line: it is the number of labels, but at most 5.
 #[tactic(auto, unfolding(crate::specs::Legend::wide_meaning))]
 fn wide_meaning() -> &'static str
     ensures { result.now ≡ wide_meaning }

@@ -1,5 +1,5 @@
-//! Draws a campaign in SVG as a space-time diagram, with a column for each general and the board, and a band for each
-//! round. The parts of the diagram are public, so that other crates can draw other kinds of campaigns.
+//! Draws a campaign as a space-time diagram in SVG. The diagram has a column for each general, one for the board, and
+//! a band for each round. Other crates use its public modules to draw other kinds of campaigns.
 #![tactic(auto)]
 
 pub mod bands;

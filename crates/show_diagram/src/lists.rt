@@ -1,5 +1,5 @@
-//! Builds the lists of what a lieutenant received, one for each round, with a row for each stroke. Every function here
-//! that returns a `Result` fails only if memory runs out.
+//! Builds the lists of what a lieutenant received. There is one list for each round, and one row for each stroke
+//! (equal messages from one general). Functions that return a `Result` fail only if memory runs out.
 ghost use Rattle.std.specs.Prelude.{ℕ, ◌≡◌, ◌+◌, ◌<◌, ◌^◌, ◌++◌, [], false, IfOk, OnOk, count_by, filter};
 ghost use Rattle.show_diagram.specs.Lists.{count_of, is_in, is_lie, is_same, lists_of, stroke_of, strokes_from, teller};
 ghost use Rattle.show_diagram.specs.Order.{arranged, firsts};
@@ -11,8 +11,8 @@ use crate::told_order::Telling;
 use std::alloc::{AllocError, Global};
 use std::collections::{HashMap, HashSet};
 
-/// Appends the strokes for what a lieutenant received in the first `rounds` rounds, sorted by round. The list of a
-/// round has one row for each different message.
+/// Appends the strokes that show what a lieutenant received in the first `rounds` rounds, sorted by round. Equal
+/// messages of a round make one stroke.
 ///
 /// # Errors
 ///
@@ -35,7 +35,8 @@ pub(crate) fn push_lists(
     Ok(())
 }
 
-/// Appends the strokes of a round's list. `counts` says for how many labels each message was sent.
+/// Appends the strokes of a lieutenant's list for round `round`. `things` are the messages to him without
+/// repetitions, and `counts` says for how many labels each was sent.
 fn push_list(
     alloc: Global,
     strokes: &mut Vec<Stroke>,
@@ -51,7 +52,8 @@ fn push_list(
     push_rows(strokes, receiver, counts, list.as_slice())
 }
 
-/// Appends a stroke for each of these messages, with rows numbered from 0.
+/// Appends a stroke for each message of `list`, with rows numbered from 0. `counts` says for how many labels each was
+/// sent.
 #[tactic(auto, unfolding(crate::specs::Lists::strokes_from))]
 fn push_rows(
     strokes: &mut Vec<Stroke>,
@@ -69,7 +71,7 @@ fn push_rows(
     Ok(())
 }
 
-/// Returns the stroke for a message that was sent for `labels` labels, in the given row.
+/// Returns the stroke that shows a message sent for `labels` labels, as row `row` of the receiver's list.
 fn stroke_of(receiver: u8, telling: &Telling, labels: usize, row: usize) -> Stroke
     ensures { result ≡ stroke_of receiver telling.now labels row }
 {
@@ -99,7 +101,7 @@ fn told_once(alloc: Global, tellings: &[Telling]) -> Result<Vec<Telling>, AllocE
     Ok(things)
 }
 
-/// Counts for how many labels each message was sent.
+/// Returns for each message how many labels it was sent for, which is how often it occurs in `tellings`.
 fn counted(alloc: Global, tellings: &[Telling]) -> Result<HashMap<Telling, usize>, AllocError>
     ensures { IfOk result (λ counts. (q : Telling) → count_of counts q ≡ count_by (is_same q) tellings.now) }
 {
@@ -110,7 +112,7 @@ fn counted(alloc: Global, tellings: &[Telling]) -> Result<HashMap<Telling, usize
     Ok(counts)
 }
 
-/// Adds one to the number of labels for which a message was sent.
+/// Adds one to the number of labels for which `telling` was sent. A message that is not in `counts` yet counts as 0.
 fn count_one(counts: &mut HashMap<Telling, usize>, telling: &Telling) -> Result<(), AllocError>
     requires { count_of counts.old telling.now + 1 < 2 ^ 64 }
     ensures counted { OnOk result (count_of counts.new telling.now ≡ count_of counts.old telling.now + 1) }

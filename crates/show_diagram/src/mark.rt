@@ -1,18 +1,19 @@
-//! The marks that occur in a diagram, which its legend explains.
+//! Defines the kinds of marks in a diagram, which its legend explains.
 
-/// The marks that occur in a diagram.
+/// Which kinds of marks occur in a diagram, so that its legend explains these and no others.
 #[derive(Clone, Copy, Drop)]
 pub struct DiagramMarks {
-    /// A circle and a plain line: the message is as it should be.
+    /// Whether circles with plain lines occur: messages that are as they should be.
     pub circle: bool,
-    /// A diamond and dashes: an order was sent that should have been another.
+    /// Whether diamonds with dashed lines occur: orders that were sent, although something else should have been
+    /// sent.
     pub diamond: bool,
-    /// A cross and dots: nothing was sent where something should have been sent.
+    /// Whether crosses with dotted lines occur: nothing was sent, although something should have been sent.
     pub cross: bool,
-    /// A square: the general is a traitor.
+    /// Whether squares occur: they mark traitors.
     pub square: bool,
-    /// A circle at a name: the general is loyal.
+    /// Whether circles occur at names: they mark loyal generals.
     pub loyal: bool,
-    /// A point: an access to the board.
+    /// Whether points occur: they mark accesses to the board.
     pub point: bool,
 }

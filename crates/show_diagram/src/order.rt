@@ -1,5 +1,5 @@
-//! Sorts the rows of a list. A list that is too long to be drawn begins with the lies. Every function here that returns
-//! a `Result` fails only if memory runs out.
+//! Sorts a list of the messages that a lieutenant received. If there are more than 24, the lies come first: messages
+//! that a faithful general would not send. Functions that return a `Result` fail only if memory runs out.
 ghost use Rattle.std.specs.Prelude.{◌≡◌, ◌++◌, ◌∷◌, [], cond, filter, not, IfOk, OnOk};
 ghost use Rattle.std.specs.List.{list_any};
 ghost use Rattle.show_diagram.specs.Lists.{is_in, is_lie, teller};
@@ -8,11 +8,12 @@ ghost use Rattle.show_diagram.specs.Order.{arranged, firsts, is_by_one, lies_fir
 use crate::told_order::Telling;
 use std::alloc::{AllocError, Global};
 
-/// The largest number of rows of a list that are drawn.
+/// The largest number of rows that are drawn of a list. The diagram says how many more rows the list has.
 pub const MOST: usize = 24;
 
-/// Returns the list in the order of its rows. A list of at most `MOST` rows keeps its order. A longer one has the first
-/// lie of each sender, then the other lies, then the honest messages.
+/// Returns the messages of a list in the order in which their rows are drawn. A list of at most `MOST` messages is
+/// returned as it is. A longer one begins with the first lie of each sender, followed by the other lies and the
+/// honest messages. A lie is a message that a faithful general would not send.
 ///
 /// # Errors
 ///
@@ -26,7 +27,8 @@ pub(crate) fn arranged(alloc: Global, list: Vec<Telling>) -> Result<Vec<Telling>
     lies_first(alloc, list.as_slice())
 }
 
-/// Returns the first lie of each sender, then the other lies, then the honest messages.
+/// Returns the messages of a list sorted: the first lie of each sender, then the other lies, then the honest
+/// messages.
 #[tactic(auto, unfolding(crate::specs::Order::firsts, crate::specs::Order::repeats))]
 fn lies_first(alloc: Global, list: &[Telling]) -> Result<Vec<Telling>, AllocError>
     ensures { IfOk result (λ rows. rows.items ≡ lies_first is_lie teller list.now) }
@@ -45,14 +47,14 @@ fn lies_first(alloc: Global, list: &[Telling]) -> Result<Vec<Telling>, AllocErro
     Ok(rows)
 }
 
-/// Checks whether one of these messages has the same sender as the given one.
+/// Checks whether one of the messages `tellings` has the same sender as `telling`.
 fn is_by_one_of(tellings: &[Telling], telling: &Telling) -> bool
     ensures { result ≡ list_any (is_by_one teller telling.now) tellings.now }
 {
     tellings.iter().any(|x| telling.teller == x.teller)
 }
 
-/// Returns the messages of a list that an honest relay would not send.
+/// Returns the lies of a list: the messages that a faithful general would not send.
 fn lies(alloc: Global, list: &[Telling]) -> Result<Vec<Telling>, AllocError>
     ensures { IfOk result (λ kept. kept.items ≡ filter is_lie list.now) }
 {
@@ -63,7 +65,7 @@ fn lies(alloc: Global, list: &[Telling]) -> Result<Vec<Telling>, AllocError>
     Ok(kept)
 }
 
-/// Returns the messages of a list that an honest relay would send.
+/// Returns the honest messages of a list: those that a faithful general would send.
 fn honest(alloc: Global, list: &[Telling]) -> Result<Vec<Telling>, AllocError>
     ensures { IfOk result (λ kept. kept.items ≡ filter (λ x. not (is_lie x)) list.now) }
 {
@@ -74,7 +76,7 @@ fn honest(alloc: Global, list: &[Telling]) -> Result<Vec<Telling>, AllocError>
     Ok(kept)
 }
 
-/// Returns the messages that were sent in a round.
+/// Returns the messages that were sent in round `round`.
 pub(crate) fn told_in(
     alloc: Global,
     tellings: &[Telling],
@@ -89,7 +91,7 @@ pub(crate) fn told_in(
     Ok(kept)
 }
 
-/// Appends the message if it is wanted.
+/// Appends the message if `is_wanted` is true.
 fn push_if(kept: &mut Vec<Telling>, telling: Telling, is_wanted: bool) -> Result<(), AllocError>
     ensures { OnOk result (kept.new.items ≡ kept.old.items ++ cond is_wanted (telling ∷ []) []) }
 {

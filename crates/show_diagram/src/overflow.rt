@@ -1,4 +1,4 @@
-//! Decides which strokes a diagram has room for, and writes how many are left out.
+//! Selects the strokes that a diagram has room for, 24 in each list, and writes how many others there are.
 ghost use Rattle.std.specs.Prelude.{◌≡◌, ◌<◌, ◌++◌, ◌∷◌, [], codes, cond, count_by, string_bytes, IfOk, OnOk};
 ghost use Rattle.std.specs.List.{list_any};
 ghost use Rattle.show_diagram.specs.Shapes.{said_if, text_at, title};
@@ -14,7 +14,7 @@ use crate::stroke::Stroke;
 use board::Access;
 use std::alloc::{AllocError, Global};
 
-/// Returns the strokes that are drawn.
+/// Returns the strokes that are drawn: those with a row number below `MOST`, 24.
 ///
 /// # Errors
 ///
@@ -29,28 +29,29 @@ pub(crate) fn with_rows(alloc: Global, strokes: &[Stroke]) -> Result<Vec<Stroke>
     Ok(drawn)
 }
 
-/// Checks whether a stroke has a row in its list, and so is drawn.
+/// Checks whether a stroke is drawn: its row number in its list is below `MOST`, 24.
 pub fn has_row(stroke: &Stroke) -> bool
     ensures { result ≡ has_row stroke.now }
 {
     stroke.row < MOST
 }
 
-/// Checks whether one of these strokes is not drawn.
+/// Checks whether at least one of these strokes is not drawn, because its row number in its list is `MOST`, 24, or
+/// more.
 pub fn is_cut(strokes: &[Stroke]) -> bool
     ensures { result ≡ is_cut strokes.now }
 {
     strokes.iter().any(|stroke| is_past(stroke))
 }
 
-/// Checks whether a stroke is not drawn because its row is past the last that is drawn.
+/// Checks whether a stroke is not drawn, because its row number in its list is `MOST`, 24, or more.
 fn is_past(stroke: &Stroke) -> bool
     ensures { result ≡ is_past stroke.now }
 {
     stroke.row >= MOST
 }
 
-/// Appends the stroke if it is drawn.
+/// Appends the stroke if `is_drawn` is true.
 fn push_if(drawn: &mut Vec<Stroke>, stroke: Stroke, is_drawn: bool) -> Result<(), AllocError>
     ensures { OnOk result (drawn.new.items ≡ drawn.old.items ++ cond is_drawn (stroke ∷ []) []) }
 {
@@ -60,7 +61,8 @@ fn push_if(drawn: &mut Vec<Stroke>, stroke: Stroke, is_drawn: bool) -> Result<()
     Ok(())
 }
 
-/// Appends how many strokes are left out, below the lists of each of the first `rounds` bands.
+/// Appends texts that say how many strokes are left out. They are below the lists of each of the first `rounds`
+/// rounds. `drawn` are the strokes that are drawn, and `strokes` are all.
 ///
 /// # Errors
 ///
@@ -83,7 +85,7 @@ pub fn put_mores(
     Ok(())
 }
 
-/// Appends how many strokes are left out of the band that follows the first `before` rounds.
+/// Appends how many strokes of round `before + 1` are left out, below each list of that round.
 fn put_mores_in(
     out: &mut String,
     generals: u8,
@@ -106,7 +108,7 @@ fn put_mores_in(
     Ok(())
 }
 
-/// Returns the y coordinate of the text that says how many strokes are left out of a band.
+/// Returns the y coordinate of the texts that say how many strokes of round `before + 1` are left out.
 fn more_top(generals: u8, drawn: &[Stroke], accesses: &[Access], before: u8) -> u128
     requires { before < 255 }
     ensures { result ≡ more_top generals drawn.now accesses.now before }
@@ -116,7 +118,7 @@ fn more_top(generals: u8, drawn: &[Stroke], accesses: &[Access], before: u8) -> 
         + (12 + 18 * MOST as u128)
 }
 
-/// Appends how many strokes of a round are left out for each general, at the height `top`.
+/// Appends for each general how many strokes of round `round` are left out of his list, at the y coordinate `top`.
 fn put_mores_of(
     out: &mut String,
     generals: u8,
@@ -132,7 +134,7 @@ fn put_mores_of(
     Ok(())
 }
 
-/// Appends how many strokes of a round are left out for a general.
+/// Appends how many strokes of round `round` are left out of a general's list, at the y coordinate `top`.
 fn put_more_of(
     out: &mut String,
     strokes: &[Stroke],
@@ -147,7 +149,7 @@ fn put_more_of(
     put_more_at(out, top, round, general, left, lies)
 }
 
-/// Returns how many strokes of a round to this receiver are not drawn.
+/// Returns how many strokes to this receiver in this round are left out.
 fn count_left(strokes: &[Stroke], round: usize, receiver: u8) -> usize
     ensures { result ≡ count_by (is_left round receiver) strokes.now }
 {
@@ -157,7 +159,8 @@ fn count_left(strokes: &[Stroke], round: usize, receiver: u8) -> usize
         .count()
 }
 
-/// Returns how many of the strokes that are not drawn differ from what a loyal general would send.
+/// Returns how many strokes to this receiver in this round are left out although they are lies: messages that a
+/// faithful general would not send.
 fn count_left_lies(strokes: &[Stroke], round: usize, receiver: u8) -> usize
     ensures { result ≡ count_by (is_left_lie round receiver) strokes.now }
 {
@@ -167,7 +170,8 @@ fn count_left_lies(strokes: &[Stroke], round: usize, receiver: u8) -> usize
         .count()
 }
 
-/// Appends how many strokes are left out, unless there are none.
+/// Appends that `left` strokes of a general's list are left out, and that `lies` of them are lies. Appends nothing if
+/// `left` is 0.
 fn put_more_at(
     out: &mut String,
     top: u128,
@@ -186,7 +190,8 @@ fn put_more_at(
     put_group_end(out)
 }
 
-/// Appends how many strokes are left out, as a title and as a text.
+/// Appends, as a title and as a text, how many strokes of a general's list are left out and how many of them are
+/// lies.
 fn put_more_told(
     out: &mut String,
     general: u8,
@@ -200,7 +205,7 @@ fn put_more_told(
     put_left_text(out, left, lies)
 }
 
-/// Appends the title that says how many strokes are left out, which a reader sees by pointing at the text.
+/// Appends the title that says how many strokes are left out, which a browser shows if the reader points at the text.
 fn put_left_title(
     out: &mut String,
     general: u8,
@@ -216,7 +221,8 @@ fn put_left_title(
     put_title_end(out)
 }
 
-/// Appends a full sentence that says how many strokes are left out.
+/// Appends a sentence that says how many strokes of a general's list are left out, and in how many of them a loyal
+/// general would send something else.
 #[tactic(auto, unfolding(crate::specs::Left::left_in_full))]
 fn put_left_in_full(
     out: &mut String,
@@ -234,7 +240,7 @@ fn put_left_in_full(
     )
 }
 
-/// Appends the text below a list that says how many strokes are left out.
+/// Appends the text below a list that says how many strokes are left out, such as `and 3 more, 1 dishonest`.
 fn put_left_text(out: &mut String, left: usize, lies: usize) -> Result<(), AllocError>
     ensures { OnOk result (string_bytes out.new ≡ string_bytes out.old
         ++ text_at (codes "small") 12 4 (left_words left lies)) }
@@ -244,7 +250,7 @@ fn put_left_text(out: &mut String, left: usize, lies: usize) -> Result<(), Alloc
     put_text_end(out)
 }
 
-/// Appends the numbers of strokes and of lies that are left out, in a few words.
+/// Appends how many strokes are left out and how many of them are lies, such as `and 3 more, 1 dishonest`.
 #[tactic(auto, unfolding(crate::specs::Left::left_words))]
 fn put_left_words(out: &mut String, left: usize, lies: usize) -> Result<(), AllocError>
     ensures { OnOk result (string_bytes out.new ≡ string_bytes out.old ++ left_words left lies) }
@@ -252,7 +258,8 @@ fn put_left_words(out: &mut String, left: usize, lies: usize) -> Result<(), Allo
     write!(out, "and {left} more, {lies} dishonest")
 }
 
-/// Appends a note for readers who do not see the diagram, if strokes are left out.
+/// Appends a note about lists with more than 24 rows, for readers who cannot see the diagram. Appends nothing if
+/// `is_cut` is false.
 ///
 /// # Errors
 ///
@@ -264,7 +271,8 @@ pub fn put_cut(out: &mut String, is_cut: bool) -> Result<(), AllocError>
     if is_cut { put_cut_words(out) } else { Ok(()) }
 }
 
-/// Appends the note that a list has a largest number of rows, and which rows come first.
+/// Appends the note that a list has at most 24 rows, which rows come first, and where the number of rows that are not
+/// drawn is written.
 #[tactic(auto, unfolding(crate::specs::Left::cut_words))]
 fn put_cut_words(out: &mut String) -> Result<(), AllocError>
     ensures { OnOk result (string_bytes out.new ≡ string_bytes out.old ++ cut_words) }

@@ -1,5 +1,5 @@
-//! Writes the SVG elements of a diagram: texts, lines, strokes, groups, marks and titles. Every function here that
-//! returns a `Result` fails only if memory runs out.
+//! Writes the SVG elements of a diagram: texts, lines, strokes, groups, marks and titles. Coordinates are in SVG
+//! units. Functions that return a `Result` fail only if memory runs out.
 ghost use Rattle.std.specs.Prelude.{◌≡◌, ◌++◌, string_bytes, OnOk};
 ghost use Rattle.show_diagram.specs.Shapes.{group_end, group_start, line, mark, said_if, shape_of, sort_of, stroke_end, stroke_open, stroke_start, stroke_way, text_at, text_end, text_start, title_end, title_start};
 
@@ -17,14 +17,14 @@ pub fn put_text_start(out: &mut String, class: &str, x: u128, y: u128) -> Result
     write!(out, "<text class=\"{class}\" x=\"{x}\" y=\"{y}\">")
 }
 
-/// Appends the end of a text.
+/// Appends the end tag of a text.
 pub fn put_text_end(out: &mut String) -> Result<(), AllocError>
     ensures { OnOk result (string_bytes out.new ≡ string_bytes out.old ++ text_end) }
 {
     out.push_str("</text>\n")
 }
 
-/// Appends words at the point (`x`, `y`).
+/// Appends the given words as a text at the point (`x`, `y`).
 pub fn put_words(
     out: &mut String,
     class: &str,
@@ -54,7 +54,8 @@ pub fn put_line(
     write!(out, "<path class=\"{class}\" d=\"M{x} {y}L{u} {v}\"/>\n")
 }
 
-/// Appends the start of a stroke from (`x`, `y`) to (`u`, `v`).
+/// Appends the start of a stroke, a line from (`x`, `y`) to (`u`, `v`) that is `width` units wide. Its title and
+/// `put_stroke_end` follow.
 pub fn put_stroke_start(
     out: &mut String,
     kind: &str,
@@ -70,7 +71,7 @@ pub fn put_stroke_start(
     put_way(out, x, y, u, v)
 }
 
-/// Appends the class and the width of a stroke.
+/// Appends the start of a stroke's opening tag, with the class and the width.
 #[tactic(auto, unfolding(crate::specs::Shapes::stroke_open))]
 fn put_stroke_open(out: &mut String, kind: &str, width: u128) -> Result<(), AllocError>
     ensures { OnOk result (string_bytes out.new ≡ string_bytes out.old ++ stroke_open kind.now width) }
@@ -81,7 +82,7 @@ fn put_stroke_open(out: &mut String, kind: &str, width: u128) -> Result<(), Allo
     )
 }
 
-/// Appends the path of a stroke from (`x`, `y`) to (`u`, `v`), and ends its opening tag.
+/// Appends the path from (`x`, `y`) to (`u`, `v`) to a stroke's opening tag, and ends the tag.
 #[tactic(auto, unfolding(crate::specs::Shapes::stroke_way))]
 fn put_way(out: &mut String, x: u128, y: u128, u: u128, v: u128) -> Result<(), AllocError>
     ensures { OnOk result (string_bytes out.new ≡ string_bytes out.old ++ stroke_way x y u v) }
@@ -89,14 +90,14 @@ fn put_way(out: &mut String, x: u128, y: u128, u: u128, v: u128) -> Result<(), A
     write!(out, "M{x} {y}L{u} {v}\">")
 }
 
-/// Appends the end of a stroke.
+/// Appends the end tag of a stroke.
 pub fn put_stroke_end(out: &mut String) -> Result<(), AllocError>
     ensures { OnOk result (string_bytes out.new ≡ string_bytes out.old ++ stroke_end) }
 {
     out.push_str("</path>\n")
 }
 
-/// Appends the start of a group that is moved to the point (`x`, `y`).
+/// Appends the start of a group. The point (`x`, `y`) is the origin of the coordinates within it.
 #[tactic(auto, unfolding(crate::specs::Shapes::group_start))]
 pub fn put_group_start(out: &mut String, x: u128, y: u128) -> Result<(), AllocError>
     ensures { OnOk result (string_bytes out.new ≡ string_bytes out.old ++ group_start x y) }
@@ -104,14 +105,14 @@ pub fn put_group_start(out: &mut String, x: u128, y: u128) -> Result<(), AllocEr
     write!(out, "<g transform=\"translate({x} {y})\">\n")
 }
 
-/// Appends the end of a group.
+/// Appends the end tag of a group.
 pub fn put_group_end(out: &mut String) -> Result<(), AllocError>
     ensures { OnOk result (string_bytes out.new ≡ string_bytes out.old ++ group_end) }
 {
     out.push_str("</g>\n")
 }
 
-/// Appends a mark with the given outline, which is path data.
+/// Appends a mark with the CSS class `kind` and the path data `outline`.
 #[tactic(auto, unfolding(crate::specs::Shapes::mark))]
 pub fn put_mark(out: &mut String, kind: &str, outline: &str) -> Result<(), AllocError>
     ensures { OnOk result (string_bytes out.new ≡ string_bytes out.old ++ mark kind.now outline.now) }
@@ -119,21 +120,21 @@ pub fn put_mark(out: &mut String, kind: &str, outline: &str) -> Result<(), Alloc
     write!(out, "<path class=\"mark {kind}\" d=\"{outline}\"/>\n")
 }
 
-/// Appends the start of a title.
+/// Appends the start tag of a title.
 pub fn put_title_start(out: &mut String) -> Result<(), AllocError>
     ensures { OnOk result (string_bytes out.new ≡ string_bytes out.old ++ title_start) }
 {
     out.push_str("<title>")
 }
 
-/// Appends the end of a title.
+/// Appends the end tag of a title.
 pub fn put_title_end(out: &mut String) -> Result<(), AllocError>
     ensures { OnOk result (string_bytes out.new ≡ string_bytes out.old ++ title_end) }
 {
     out.push_str("</title>\n")
 }
 
-/// Returns the CSS class of a general's shape.
+/// Returns the CSS class of a general's shape: `traitor` or `loyal`.
 pub(crate) fn sort_of(is_traitor: bool) -> &'static str
     ensures { result.now ≡ sort_of is_traitor }
 {
@@ -151,7 +152,7 @@ pub(crate) fn shape_of(is_traitor: bool) -> &'static str
     }
 }
 
-/// Appends these words if the condition holds.
+/// Appends `words` if `stands` is true.
 #[tactic(auto, unfolding(crate::specs::Shapes::said_if))]
 pub fn put_if(out: &mut String, stands: bool, words: &str) -> Result<(), AllocError>
     ensures { OnOk result (string_bytes out.new ≡ string_bytes out.old ++ said_if stands words.now) }

@@ -1,20 +1,20 @@
-//! A stroke of a diagram: equal messages from one general to another in one round.
+//! Defines the strokes of a diagram, which show what one general sent another in a round.
 
-/// A stroke: what one general sent another in a round, for all labels for which he sent the same.
+/// A stroke, drawn as a line: equal messages that one general sent another in one round.
 #[derive(Clone, Copy, Drop)]
 pub struct Stroke {
     /// The round, counted from 1.
     pub round: usize,
-    /// The general who sent it.
+    /// The general who sent the messages.
     pub teller: u8,
-    /// The general who received it.
+    /// The general who received them.
     pub receiver: u8,
-    /// The order that was sent, if any. 0 is RETREAT.
+    /// The order that was sent, or `None` if none was sent. 0 is RETREAT.
     pub told: Option<u32>,
-    /// Whether an honest relay would have sent something else.
+    /// Whether a faithful general would have sent something else.
     pub differs: bool,
-    /// The number of labels for which it was sent, or in a signed campaign the number of chains.
+    /// The number of labels for which this was sent, or in a signed campaign the number of chains.
     pub labels: usize,
-    /// The number of strokes of this round and receiver that come before it.
+    /// The index of the stroke in the list of its round and receiver, counted from 0.
     pub row: usize,
 }

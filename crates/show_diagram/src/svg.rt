@@ -1,5 +1,4 @@
-//! Draws a campaign with oral messages in SVG. Every function here that returns a `Result` fails only if memory runs
-//! out.
+//! Draws a campaign with oral messages in SVG. Functions that return a `Result` fail only if memory runs out.
 ghost use Rattle.std.specs.Prelude.{◌≡◌, ◌<◌, ◌++◌, codes, flat_map, string_bytes, IfOk, OnOk};
 ghost use Rattle.std.specs.List.{range_with_len};
 ghost use Rattle.show_diagram.specs.Shapes.{text_at, title};
@@ -25,7 +24,7 @@ use round::Scenario;
 use std::alloc::{AllocError, Global};
 use world::Chronicle;
 
-/// Returns the campaign of a chronicle as a diagram in SVG. `table` is the message table of the chronicle's letters.
+/// Returns the diagram of a finished campaign in SVG. `table` is the message table of the chronicle's letters.
 ///
 /// # Errors
 ///
@@ -73,7 +72,7 @@ pub fn campaign_svg<H: Heard>(
     Ok(text)
 }
 
-/// Returns the text with which every diagram begins.
+/// Returns the first attributes of every diagram's `svg` element, from `<svg` on.
 #[tactic(auto, unfolding(crate::specs::Svg::start))]
 pub fn start() -> &'static str
     ensures { result.now ≡ start }
@@ -81,7 +80,8 @@ pub fn start() -> &'static str
     "<svg xmlns=\"http://www.w3.org/2000/svg\" role=\"graphics-document document\""
 }
 
-/// Appends the size of a diagram and its view box, which has the same units, and ends the opening tag.
+/// Appends the width and the height of a diagram in SVG units and the view box of that size, and ends the opening
+/// tag.
 ///
 /// # Errors
 ///
@@ -96,8 +96,7 @@ pub fn put_box(out: &mut String, width: u128, height: u128) -> Result<(), AllocE
     )
 }
 
-/// Appends what comes before the columns of an oral campaign's diagram: the title, the description, the style sheet and
-/// the headline.
+/// Appends the head of a diagram for oral messages: the title, the description, the style sheet and the headline.
 fn put_head(
     out: &mut String,
     scenario: &Scenario,
@@ -115,7 +114,7 @@ fn put_head(
     Ok(())
 }
 
-/// Appends the title of an oral campaign's diagram, which describes the campaign.
+/// Appends the title of a diagram, which describes the campaign in a sentence.
 fn put_title_of(out: &mut String, scenario: &Scenario) -> Result<(), AllocError>
     ensures { OnOk result (string_bytes out.new ≡ string_bytes out.old
         ++ title (campaign_words scenario.now.generals scenario.now.bound scenario.now.commander scenario.now.order)) }
@@ -131,7 +130,7 @@ fn put_title_of(out: &mut String, scenario: &Scenario) -> Result<(), AllocError>
     put_title_end(out)
 }
 
-/// Appends the headline above the columns, which describes the campaign.
+/// Appends the headline above the columns, which describes the campaign in a sentence.
 fn put_headline(out: &mut String, scenario: &Scenario) -> Result<(), AllocError>
     ensures { OnOk result (string_bytes out.new ≡ string_bytes out.old ++ text_at (codes "head") 16 28
         (campaign_words scenario.now.generals scenario.now.bound scenario.now.commander scenario.now.order)) }
@@ -147,7 +146,7 @@ fn put_headline(out: &mut String, scenario: &Scenario) -> Result<(), AllocError>
     put_text_end(out)
 }
 
-/// Appends a description of a campaign: its number of generals, its bound, its commander and his order.
+/// Appends a description of a campaign: the number of generals, the bound, the commander and his order.
 #[tactic(auto, unfolding(crate::specs::Svg::campaign_words))]
 pub fn put_campaign(
     out: &mut String,
@@ -165,8 +164,8 @@ pub fn put_campaign(
     )
 }
 
-/// Appends a description for readers who do not see the diagram. It includes the accesses for whose words the diagram
-/// has no room.
+/// Appends a description of a diagram for readers who cannot see it. It includes the full words of each access that
+/// copies words, for which the diagram has no room.
 fn put_description(
     out: &mut String,
     accesses: &[Access],
@@ -183,14 +182,14 @@ fn put_description(
     put_key_end(out)
 }
 
-/// Appends the end of a description.
+/// Appends the end tag of a description.
 pub fn put_key_end(out: &mut String) -> Result<(), AllocError>
     ensures { OnOk result (string_bytes out.new ≡ string_bytes out.old ++ key_end) }
 {
     out.push_str("</desc>\n")
 }
 
-/// Returns the start of the description of an oral campaign's diagram, which explains columns, bands and lines.
+/// Returns the start of the description of a diagram for oral messages. It explains columns, bands and lines.
 #[tactic(auto, unfolding(crate::specs::Svg::key_start))]
 fn key_start() -> &'static str
     ensures { result.now ≡ key_start }
@@ -200,7 +199,7 @@ fn key_start() -> &'static str
      column of the receiver, is what he received."
 }
 
-/// Appends the meanings of the marks of strokes in an oral campaign's diagram.
+/// Appends sentences that explain circles, diamonds and crosses, if they occur in a diagram for oral messages.
 fn put_stroke_key(out: &mut String, marks: DiagramMarks) -> Result<(), AllocError>
     ensures { OnOk result (string_bytes out.new ≡ string_bytes out.old ++ stroke_key marks) }
 {
@@ -222,7 +221,7 @@ fn put_stroke_key(out: &mut String, marks: DiagramMarks) -> Result<(), AllocErro
     Ok(())
 }
 
-/// Returns the style sheet of a diagram: for paper, and for a dark background if the reader prefers one.
+/// Returns the style sheet of a diagram. The background is white, or dark if the reader prefers a dark one.
 #[tactic(auto, unfolding(crate::specs::Svg::look))]
 pub fn look() -> &'static str
     ensures { result.now ≡ look }
@@ -241,7 +240,7 @@ pub fn look() -> &'static str
      .mark.traitor{fill:#ff8095}}</style>\n"
 }
 
-/// Appends the heads of the columns, which say to whom each belongs.
+/// Appends the heads of the columns: each general's name and role, and `board` unless `accesses` is empty.
 pub fn put_heads(
     out: &mut String,
     scenario: &Scenario,
@@ -264,7 +263,7 @@ fn put_general_heads(out: &mut String, scenario: &Scenario) -> Result<(), AllocE
     Ok(())
 }
 
-/// Appends the head of a general's column, with his role in the scenario.
+/// Appends the head of a general's column: his shape, name and role in the scenario.
 fn put_head_of(out: &mut String, scenario: &Scenario, general: u8) -> Result<(), AllocError>
     requires { general < scenario.now.generals }
     ensures { OnOk result (string_bytes out.new ≡ string_bytes out.old ++ head_of scenario.now general) }
@@ -273,7 +272,7 @@ fn put_head_of(out: &mut String, scenario: &Scenario, general: u8) -> Result<(),
     put_general_head(out, general, is_commander, scenario.is_traitor(general))
 }
 
-/// Appends the head of the board's column, if there are accesses.
+/// Appends the head of the board's column. Appends nothing if `accesses` is empty.
 fn put_board_head(out: &mut String, generals: u8, accesses: &[Access]) -> Result<(), AllocError>
     ensures { OnOk result (string_bytes out.new ≡ string_bytes out.old ++ board_head generals accesses.now) }
 {

@@ -1,15 +1,15 @@
-//! A message that a lieutenant received for one label.
+//! Defines a message that a lieutenant received for one label.
 
-/// A message: what one general sent another about a label. The message's own label is that label followed by the
-/// sender.
+/// A message that one general sent another for one label, or did not send. It does not contain the label, so messages
+/// for different labels can be equal.
 #[derive(Clone, Copy, PartialEq, Eq, Hash, Drop)]
 pub struct Telling {
     /// The round, counted from 1.
     pub round: usize,
-    /// The general who sent it.
+    /// The general who sent the message, or should have sent it.
     pub teller: u8,
-    /// The order that was sent, if any. 0 is RETREAT.
+    /// The order that was sent, or `None` if none was sent. 0 is RETREAT.
     pub told: Option<u32>,
-    /// Whether an honest relay would have sent something else.
+    /// Whether a faithful general would have sent something else.
     pub differs: bool,
 }

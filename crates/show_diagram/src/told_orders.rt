@@ -9,8 +9,8 @@ use book::Heard;
 use label::Label;
 use std::alloc::{AllocError, Global};
 
-/// Returns the messages that a lieutenant received for each label of his tree, if the commander was given `order`. Each
-/// label comes before those that extend it.
+/// Returns the message that the lieutenant `general` received for each label of his tree. `order` is the order that
+/// the commander was given. A label comes before the labels that extend it.
 ///
 /// # Errors
 ///
@@ -33,7 +33,8 @@ pub(crate) fn tellings<H: Heard>(
     Ok(tellings)
 }
 
-/// Returns the commander's message to the lieutenant. It differs if it is not the order that the commander was given.
+/// Returns the commander's message to the lieutenant `general`. The message's `differs` is true if `order`, the order
+/// that the commander was given, was not sent.
 fn first<H: Heard>(table: &H, order: u32, general: u8, label: &Label) -> Telling
     requires label { label.now ≡ (H.seen table.now).commander ∷ [] }
     requires place { is_place (H.seen table.now) label.now general ≡ true }
@@ -48,7 +49,7 @@ fn first<H: Heard>(table: &H, order: u32, general: u8, label: &Label) -> Telling
     }
 }
 
-/// Returns the message of general `teller` to the lieutenant about a label. The label `next` is `label` followed by
+/// Returns the message that `general` received for the label `next`, which is `label` followed by the sender
 /// `teller`.
 fn telling<H: Heard>(table: &H, general: u8, label: &Label, teller: u8, next: &Label) -> Telling
     requires next { next.now ≡ label.now ++ teller ∷ [] }
@@ -66,7 +67,7 @@ fn telling<H: Heard>(table: &H, general: u8, label: &Label, teller: u8, next: &L
     }
 }
 
-/// Checks whether the order received is this order.
+/// Checks whether the received order `told` is `order`. Returns false if nothing was received.
 fn is_told(order: u32, told: Option<u32>) -> bool
     ensures { result ≡ is_told order told }
 {
@@ -76,7 +77,8 @@ fn is_told(order: u32, told: Option<u32>) -> bool
     }
 }
 
-/// Appends the messages that the lieutenant received for the labels that extend this one, with `relays` relays left.
+/// Appends the messages that the lieutenant `general` received for the labels that extend `label` by 1 to `relays`
+/// generals.
 fn push_below<H: Heard>(
     tellings: &mut Vec<Telling>,
     table: &H,

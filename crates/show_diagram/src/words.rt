@@ -1,4 +1,4 @@
-//! The words of a diagram: for strokes, for accesses to the board, and for the roles of generals.
+//! Writes the words of a diagram: for strokes, for accesses to the board, and for the roles of generals.
 ghost use Rattle.std.specs.Prelude.{◌≡◌, ◌++◌, decimal, flat_map, map, slice_index_or, string_bytes, OnOk};
 ghost use Rattle.semantics.specs.Replies.{words_in};
 ghost use Rattle.show_diagram.specs.Words.{answer_words, answered_words, access_words, asked_words, copied_words, differs_words, kind, labels_words, order_words, outline, from_words, general_words, is_copy, kind_of, outline_of, piece_words, role_words, row_words, shown_words, stroke_words, tells_words, word_words};
@@ -18,7 +18,7 @@ fn put_order(out: &mut String, told: Option<u32>) -> Result<(), AllocError>
     }
 }
 
-/// Appends a number of labels, or nothing if it is 1.
+/// Appends a number of labels, such as `, 3 labels`, or nothing if the number is 1.
 fn put_labels(out: &mut String, labels: usize) -> Result<(), AllocError>
     ensures { OnOk result (string_bytes out.new ≡ string_bytes out.old ++ labels_words labels) }
 {
@@ -29,7 +29,8 @@ fn put_labels(out: &mut String, labels: usize) -> Result<(), AllocError>
     }
 }
 
-/// Returns the words for a stroke that an honest relay would not send, or nothing for any other.
+/// Returns words that mark a stroke as one that a faithful general would not send, or the empty text if `differs` is
+/// false.
 fn differs_words(differs: bool) -> &'static str
     ensures { result.now ≡ differs_words differs }
 {
@@ -40,8 +41,8 @@ fn differs_words(differs: bool) -> &'static str
     }
 }
 
-/// Appends the full words of a stroke: the sender, the receiver, the order, the number of labels, and whether it
-/// differs.
+/// Appends the full words of a stroke: the sender, the receiver, the order, the number of labels, and whether a
+/// faithful general would send something else.
 pub(crate) fn put_stroke_words(out: &mut String, stroke: &Stroke) -> Result<(), AllocError>
     ensures { OnOk result (string_bytes out.new ≡ string_bytes out.old ++ stroke_words stroke.now) }
 {
@@ -51,7 +52,7 @@ pub(crate) fn put_stroke_words(out: &mut String, stroke: &Stroke) -> Result<(), 
     out.push_str(differs_words(stroke.differs))
 }
 
-/// Appends the sender and the receiver of a message.
+/// Appends the sender and the receiver of a message, such as `general 2 sends general 3: `.
 #[tactic(auto, unfolding(crate::specs::Words::tells_words))]
 fn put_tells(out: &mut String, teller: u8, receiver: u8) -> Result<(), AllocError>
     ensures { OnOk result (string_bytes out.new ≡ string_bytes out.old ++ tells_words teller receiver) }
@@ -68,7 +69,7 @@ pub(crate) fn put_row_words(out: &mut String, stroke: &Stroke) -> Result<(), All
     put_labels(out, stroke.labels)
 }
 
-/// Appends the sender of a message.
+/// Appends the sender of a message, such as `from 2: `.
 #[tactic(auto, unfolding(crate::specs::Words::from_words))]
 fn put_from(out: &mut String, teller: u8) -> Result<(), AllocError>
     ensures { OnOk result (string_bytes out.new ≡ string_bytes out.old ++ from_words teller) }
@@ -76,14 +77,15 @@ fn put_from(out: &mut String, teller: u8) -> Result<(), AllocError>
     write!(out, "from {teller}: ")
 }
 
-/// Returns the CSS class of a stroke: `told`, `lie` or `none`.
+/// Returns the CSS class of a stroke: `told` if a faithful general would send the same. Otherwise it is `lie` if an
+/// order was sent, and `none` if none was sent.
 pub fn kind(stroke: &Stroke) -> &'static str
     ensures { result.now ≡ kind stroke.now }
 {
     kind_of(stroke.differs, stroke.told)
 }
 
-/// Returns the CSS class for an order that differs, or does not differ, from what an honest relay sends.
+/// Returns the CSS class of a stroke: `told` if `differs` is false, else `lie` for an order and `none` for no order.
 fn kind_of(differs: bool, told: Option<u32>) -> &'static str
     ensures { result.now ≡ kind_of differs told }
 {
@@ -94,15 +96,16 @@ fn kind_of(differs: bool, told: Option<u32>) -> &'static str
     }
 }
 
-/// Returns the outline of a stroke's mark as path data: a circle, a diamond or a cross.
+/// Returns the path data of a stroke's mark: a circle if a faithful general would send the same. Otherwise it is a
+/// diamond if an order was sent, and a cross if none was sent.
 pub fn outline(stroke: &Stroke) -> &'static str
     ensures { result.now ≡ outline stroke.now }
 {
     outline_of(stroke.differs, stroke.told)
 }
 
-/// Returns the outline of a mark as path data: a circle if an honest relay would send the same, a diamond for another
-/// order, and a cross if no order was sent.
+/// Returns the path data of a stroke's mark: a circle if `differs` is false, else a diamond for an order and a cross
+/// for no order.
 pub(crate) fn outline_of(differs: bool, told: Option<u32>) -> &'static str
     ensures { result.now ≡ outline_of differs told }
 {
@@ -113,7 +116,7 @@ pub(crate) fn outline_of(differs: bool, told: Option<u32>) -> &'static str
     }
 }
 
-/// Appends the request of an access to the board, as a sentence.
+/// Appends a request to the board as a sentence, such as `copies 2 words from word 0`.
 ///
 /// # Errors
 ///
@@ -125,7 +128,8 @@ pub fn put_asked(out: &mut String, request: &Request) -> Result<(), AllocError>
     put_sentence(out, worded(request).sentence, &numbers[..count])
 }
 
-/// Appends the pieces of a sentence. Each piece is followed by the number whose place it names.
+/// Appends a sentence. After each piece comes the number that has the piece's index in `numbers`, or 0 if there is no
+/// such number.
 fn put_sentence(
     out: &mut String,
     sentence: &[(&'static str, usize)],
@@ -140,14 +144,14 @@ fn put_sentence(
     Ok(())
 }
 
-/// Appends a piece of a sentence, and the number after it.
+/// Appends a piece of a sentence, followed by a number.
 fn put_piece(out: &mut String, piece: &str, number: u64) -> Result<(), AllocError>
     ensures { OnOk result (string_bytes out.new ≡ string_bytes out.old ++ (piece.now ++ decimal number)) }
 {
     write!(out, "{piece}{number}")
 }
 
-/// Returns the number at this place, or 0 if there is none.
+/// Returns the number at index `place`, or 0 if there is none.
 fn number_at(numbers: &[u64], place: usize) -> u64
     ensures { result ≡ slice_index_or numbers.now place 0 }
 {
@@ -157,7 +161,7 @@ fn number_at(numbers: &[u64], place: usize) -> u64
     }
 }
 
-/// Appends the answer of the board.
+/// Appends the answer of the board, such as `; answer 5`.
 fn put_answer(out: &mut String, reply: &Reply) -> Result<(), AllocError>
     ensures { OnOk result (string_bytes out.new ≡ string_bytes out.old ++ answer_words (words_in reply.now)) }
 {
@@ -196,7 +200,7 @@ fn put_all(out: &mut String, words: &[u64]) -> Result<(), AllocError>
     Ok(())
 }
 
-/// Appends the full words of an access: the general, his request, and the board's answer.
+/// Appends the full words of an access to the board: the general, his request and the answer.
 ///
 /// # Errors
 ///
@@ -210,15 +214,15 @@ pub fn put_access_words(out: &mut String, access: &Access) -> Result<(), AllocEr
     put_answer(out, access.reply())
 }
 
-/// Appends a general's name.
+/// Appends the name of a general, such as `general 2`.
 pub(crate) fn put_general(out: &mut String, general: u32) -> Result<(), AllocError>
     ensures { OnOk result (string_bytes out.new ≡ string_bytes out.old ++ general_words general) }
 {
     write!(out, "general {general}")
 }
 
-/// Appends the words of an access next to the board. They leave out its general, and the answer of a request that
-/// copies words.
+/// Appends the words that are drawn next to the board for an access: the request and the answer. The answer is left
+/// out if the request copies words.
 pub(crate) fn put_shown(out: &mut String, access: &Access) -> Result<(), AllocError>
     ensures { OnOk result (string_bytes out.new ≡ string_bytes out.old ++ shown_words access.now) }
 {
@@ -229,7 +233,7 @@ pub(crate) fn put_shown(out: &mut String, access: &Access) -> Result<(), AllocEr
     put_answer(out, access.reply())
 }
 
-/// Checks whether a request copies words.
+/// Checks whether a request copies words of the board.
 #[tactic(auto, unfolding(crate::specs::Words::is_copy))]
 fn is_copy(request: &Request) -> bool
     ensures { result ≡ is_copy request.now }
@@ -237,8 +241,7 @@ fn is_copy(request: &Request) -> bool
     worded(request).copies
 }
 
-/// Appends the words for which the diagram has no room: a sentence with the full words of each access that copies
-/// words.
+/// Appends the full words of each access that copies words, as a sentence. The diagram itself has no room for them.
 ///
 /// # Errors
 ///
@@ -252,7 +255,7 @@ pub fn put_copied(out: &mut String, accesses: &[Access]) -> Result<(), AllocErro
     Ok(())
 }
 
-/// Appends a sentence with the full words of an access, if it copies words.
+/// Appends the full words of an access as a sentence, if its request copies words.
 fn put_copied_by(out: &mut String, access: &Access) -> Result<(), AllocError>
     ensures { OnOk result (string_bytes out.new ≡ string_bytes out.old ++ copied_words access.now) }
 {
@@ -264,7 +267,7 @@ fn put_copied_by(out: &mut String, access: &Access) -> Result<(), AllocError>
     out.push_str(".")
 }
 
-/// Returns a general's role, and whether he is loyal or a traitor.
+/// Returns the role of a general and whether he is loyal, such as `commander, loyal`.
 pub(crate) fn role_words(is_commander: bool, is_traitor: bool) -> &'static str
     ensures { result.now ≡ role_words is_commander is_traitor }
 {

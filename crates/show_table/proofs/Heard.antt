@@ -1,4 +1,4 @@
--- What the trees of the lieutenants tell together are the messages.
+-- The trees of all lieutenants together contain the messages of the letters.
 use Rattle.std.proofs.Common.{ℕ, zero, suc, ◌+◌, ◌-◌, ◌<◌, ◌≤◌, ◌≡◌, ◌≢◌, true, false, List, [], ◌∷◌, length, take, refl, sym, ap, subst, ◌∙◌, arith, inl, inr, None, Some}
 use Rattle.std.specs.Prelude.{◌==◌, find, nat_lt, slice_get}
 use Rattle.std.proofs.lemmas.Bool.{cases_lt, cases_order, cond-true, cond-false, ne_eqb, lt-ltb, le-ltb}
@@ -15,7 +15,7 @@ use Rattle.round.specs.Told.{IsTreeOf, ToldSeen, WasTold, lieutenant_at}
 use Rattle.book.specs.Hearing.{heard}
 use Rattle.book.proofs.Hearing.{heard_at, value_told}
 
--- none of the first trees is the general's
+-- Proves that none of the first trees is the general's.
 none_upto : (p : ℕ) (trees : List LieutenantTree) (i : ℕ) → ((j : ℕ) (t : LieutenantTree) → j < i → slice_get trees j ≡ Some t → (t.general == p) ≡ false) → find (λ t. t.general == p) (take i trees) ≡ None
 none_upto p [] zero h = refl
 none_upto p [] (suc i) h = refl
@@ -35,7 +35,7 @@ below c i l = cond-true (nat_lt i c) i (i + 1) (lt-ltb i c l)
 above : (c i : ℕ) → c ≤ i → lieutenant_at c i ≡ i + 1
 above c i l = cond-false (nat_lt i c) i (i + 1) (le-ltb i c l)
 
--- where a lieutenant stands among those under the commander
+-- States which index a lieutenant has in the list of lieutenants.
 record IsIndexOf (n c p i : ℕ) : Type 0 where
   within : i + 1 < n
   there : lieutenant_at c i ≡ p
@@ -60,7 +60,7 @@ index_of n c p lc l ne = elim (cases_order p c) [
 ]
 
 module _ (s : Scenario) (before : List (List Letter)) (h : ToldSeen) (inside : IsScenario s) (told : WasTold s before h) where
-  -- the tree of a lieutenant
+  -- Proves that the tree of a lieutenant belongs to the campaign.
   tree_campaign : (g : ℕ) (t : LieutenantTree) → IsTreeOf s before g t → IsCampaign t
   tree_campaign g t is =
       let few = inside.few in
@@ -97,7 +97,7 @@ module _ (s : Scenario) (before : List (List Letter)) (h : ToldSeen) (inside : I
       in
       heard_at h.trees w p i t none at is.general ∙ (value_told t (messages before) w (tree_campaign p t is) is.filled (tree_place p t w is place) ∙ ap (messages before w) is.general)
 
-  -- they tell the messages
+  -- Proves that the trees contain the messages.
   pub heard_is : (w : List ℕ) (p : ℕ) → is_place_of s.generals s.bound s.commander w p ≡ true → heard h.trees w p ≡ messages before w p
   heard_is w p place =
       let table : MessageTable = record { generals = s.generals; bound = s.bound; commander = s.commander; rule = Majority; messages = [] } in

@@ -1,4 +1,4 @@
--- The chronicle of a complete run is whole.
+-- The chronicle of a complete run is whole: it has the letters of all rounds.
 use Rattle.std.proofs.Common.{ℕ, zero, suc, ◌+◌, ◌≡◌, List, [], ◌∷◌, ◌++◌, length, length-append, take, drop, refl, sym, ap, subst, ◌∙◌, arith, zero-add, Option, None, Some}
 use Rattle.std.specs.Prelude.{slice_get, sum_by}
 use Rattle.insn.specs.declared.insn.Insn.{Insn}
@@ -27,7 +27,7 @@ whose s before g (Some p) l h = (
   ap (λ (x : Letter). x.outbox.relay.shape) h.2 ∙ ap (λ (k : ℕ). shape_of s k (suc (length before))) (sym (ap (λ (x : Letter). x.general) h.2)),
 )
 
--- the letters of an accounted round are of that round
+-- Proves that the letters of an accounted round are letters of that round.
 letters_are : (s : Scenario) (before : List (List Letter)) (piece : List Access) (row : List Letter) → IsAccountedRound s before piece row → AreLettersOf s (suc (length before)) row
 letters_are s before piece row h i l at = whose s before i (program_of s i) l (h.each i l at).0
 
@@ -43,20 +43,20 @@ rounds_from s before (letters ∷ rows) ledger h (suc i) row at =
     let e : suc (length (before ++ letters ∷ []) + i) ≡ suc (length before + suc i) = omega (arith, length-append before (letters ∷ [])) in
     (let A : ℕ → Type 0 = λ n. AreLettersOf s n row in subst A e (rounds_from s (before ++ letters ∷ []) rows (drop (sum_by (λ l. length l.transcript) letters) ledger) h.1 i row at))
 
--- the letters of each accounted round are of that round
+-- Proves this for each accounted round.
 rounds_are : (s : Scenario) (ledger : List Access) (rows : List (List Letter)) → AreAccounted s [] ledger rows → AreRoundsOf s rows
 rounds_are s ledger rows h i row at =
     let e : suc (0 + i) ≡ suc i = omega arith in
     (let A : ℕ → Type 0 = λ n. AreLettersOf s n row in subst A e (rounds_from s [] rows ledger h i row at))
 
--- all rounds are accounted for
+-- Proves that all rounds are accounted for.
 rounds_long : (s : Scenario) (before rows : List (List Letter)) (ledger : List Access) → AreAccounted s before ledger rows → length before + length rows ≡ suc s.bound
 rounds_long s before [] ledger h = let all = h.0 in omega arith
 rounds_long s before (letters ∷ rows) ledger h =
     let rest = rounds_long s (before ++ letters ∷ []) rows (drop (sum_by (λ l. length l.transcript) letters) ledger) h.1 in
     omega (arith, length-append before (letters ∷ []))
 
--- the law, as specs/Laws states it
+-- Proves the law that specs/Laws states.
 pub proved_runs_are_whole : RunsAreWhole
 proved_runs_are_whole s events inside complete =
     let w : World = run (opening s) events in
@@ -68,10 +68,10 @@ proved_runs_are_whole s events inside complete =
       decisions = refl;
     }
 
--- that of a campaign by a schedule
+-- Proves that the chronicle of a campaign played by a schedule is whole.
 pub played_whole : (s : Scenario) (lines : List (List ℕ)) (c : Chronicle) → IsScenario s → c ≡ chronicle_of (run (opening s) (listed s lines)) → IsWhole c
 played_whole s lines c inside is = subst IsWhole (sym is) (proved_runs_are_whole s (listed s lines) inside ((lists_are_complete oral_kind oral_campaigns).listed s lines inside))
 
--- and that of a replay
+-- Proves that the chronicle of a replay is whole.
 pub replayed_whole : (s : Scenario) (names : List (List ℕ)) (c : Chronicle) → IsScenario s → c ≡ chronicle_of (run (opening s) (replayed s names)) → IsWhole c
 replayed_whole s names c inside is = subst IsWhole (sym is) (proved_runs_are_whole s (replayed s names) inside ((lists_are_complete oral_kind oral_campaigns).replayed s names inside))

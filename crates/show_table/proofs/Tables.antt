@@ -1,4 +1,4 @@
--- The table of a whole chronicle.
+-- The message table of a whole chronicle.
 use Rattle.std.proofs.Common.{ℕ, ◌<◌, ◌≡◌, ◌≢◌, true, false, List, [], ◌∷◌, map, sym, ap, subst, ◌∙◌, Ok, Err, IfOk, Result, String, string_bytes}
 use Rattle.std.specs.declared.alloc.AllocError.{AllocError}
 use Rattle.std.specs.declared.alloc.Global.{Global}
@@ -27,14 +27,14 @@ use Rattle.book.proofs.Reread.{decides_same}
 use Rattle.show_table.specs.Retold.{IsRetold, IsWhole}
 use Rattle.show_table.proofs.Heard.{heard_is}
 
--- a scenario's numbers are those of a table
+-- Proves that the numbers of a scenario can be those of a table.
 pub numbers_within : (s : Scenario) → IsScenario s → AreNumbersWithin s.generals s.bound s.commander
 numbers_within s inside = record { few = inside.few; rounds = inside.rounds; relays = inside.enough; present = inside.commander }
 
 off_commander : (c p : ℕ) → on (c ∷ []) p ≡ false → p ≢ c
 off_commander c p off same = true≢false (sym (or_left (c == p) false (eq-eqb c p (sym same))) ∙ off)
 
--- what a table with these numbers decides
+-- Proves what is decided from a table with these numbers.
 same_decisions : (t : MessageTable) (M : Messages) (n m c : ℕ) (rule : Rule) → t.generals ≡ n → t.commander ≡ c → ((p : ℕ) → p < n → p ≢ c → decision_of t p ≡ om (combined_by rule) n M m (c ∷ []) p)
     → decisions_of t ≡ map (λ p. om (combined_by rule) n M m (c ∷ []) p) (lieutenants n c)
 unfolding decisions_of
@@ -48,7 +48,7 @@ decided : (c : Chronicle) (ds : List ℕ) → ds ≡ map (decision c.scenario (m
 unfolding decisions
 decided c ds is whole = is ∙ sym whole
 
--- the table of what the trees of its lieutenants tell is that of a chronicle
+-- Proves that the table written from the lieutenants' trees is that of the chronicle.
 pub retold : (c : Chronicle) (h : ToldSeen) (text : List ℕ) → IsScenario c.scenario → IsWhole c → WasTold c.scenario c.letters h
     → text ≡ table_text (heard h.trees) c.scenario.generals c.scenario.bound c.scenario.commander c.scenario.rule
     → ((t : MessageTable) × (table_told text ≡ Ok t) × IsTableOf (heard h.trees) c.scenario.generals c.scenario.bound c.scenario.commander c.scenario.rule t) → IsRetold c text
@@ -70,7 +70,7 @@ retold c h text inside whole told written read =
           whole.decisions;
     }
 
--- the same of what writing it has given, by what is known of its arguments
+-- Proves the same for the result of writing the table, from what is known of the arguments.
 pub retold_or_error : (c : Chronicle) (h : ToldSeen) (s : Scenario) (letters : List (List Letter)) (trees : List LieutenantTree) (n m k : ℕ) (by : Rule)
     → IsScenario s → s ≡ c.scenario → letters ≡ c.letters → trees ≡ h.trees → n ≡ s.generals → m ≡ s.bound → k ≡ s.commander → by ≡ s.rule → IsWhole c → WasTold s letters h
     → (r : Result (String Global) AllocError) → IfOk r (λ text. string_bytes text ≡ table_text (heard trees) n m k by)

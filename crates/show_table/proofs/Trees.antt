@@ -1,4 +1,4 @@
--- The explanation of a whole chronicle, by its lieutenants' trees.
+-- The explanation of a whole chronicle, by the trees of its lieutenants.
 use Rattle.std.proofs.Common.{ℕ, suc, ◌+◌, ◌-◌, ◌<◌, ◌≤◌, ◌≡◌, true, inl, inr, List, [], ◌∷◌, length, map, refl, sym, ap, subst, ◌∙◌, arith, Option, None, Some, Ok, Err, IfOk, Result, String, string_bytes}
 use Rattle.std.specs.declared.alloc.AllocError.{AllocError}
 use Rattle.std.specs.declared.alloc.Global.{Global}
@@ -27,7 +27,7 @@ use Rattle.book.proofs.Flattened.{tables_same}
 use Rattle.show_table.specs.Retold.{Explains, ExplainsAsked, explained_of, table_of, traitors_of}
 use Rattle.show_table.proofs.Heard.{heard_is}
 
--- lists that are the same at each place
+-- Proves that lists with equal elements at each index are equal.
 list_same : {A : Type 0} (xs ys : List A) → length xs ≡ length ys → ((i : ℕ) (x : A) → slice_get xs i ≡ Some x → slice_get ys i ≡ Some x) → xs ≡ ys
 list_same [] [] long same = refl
 list_same [] (y ∷ ys) long same = absurd (omega arith)
@@ -42,7 +42,7 @@ below c i l = cond-true (nat_lt i c) i (i + 1) (lt-ltb i c l)
 above : (c i : ℕ) → c ≤ i → lieutenant_at c i ≡ i + 1
 above c i l = cond-false (nat_lt i c) i (i + 1) (le-ltb i c l)
 
--- the place of a lieutenant
+-- Proves the index of a lieutenant in the list of lieutenants.
 his_place : (c i : ℕ) → i ≡ length (others (lieutenant_at c i) (c ∷ []))
 his_place c i = first-place c (lieutenant_at c i) i
     (λ l. elim (cases_lt i c) [ inl under ↦ (let e = below c i under in omega arith) | inr over ↦ (let e = above c i over in omega arith) ])
@@ -51,7 +51,7 @@ his_place c i = first-place c (lieutenant_at c i) i
 count : (n c : ℕ) → c < n → n - 1 ≡ length (lieutenants n c)
 count n c l = first-place c n (n - 1) (λ m. refl) (λ m. absurd (omega arith))
 
--- the trees of the lieutenants, all filled from the letters' messages
+-- Proves that the trees of the lieutenants are filled with the messages of the letters.
 pub trees_filled : (s : Scenario) (before : List (List Letter)) (h : ToldSeen) → IsScenario s → WasTold s before h → h.trees ≡ map (tree_of s.generals s.bound s.commander (messages before)) (lieutenants s.generals s.commander)
 trees_filled s before h inside told =
     let F : ℕ → LieutenantTree = tree_of s.generals s.bound s.commander (messages before) in
@@ -71,7 +71,7 @@ asked_of : (text : List ℕ) (t : MessageTable) (traitors : List ℕ) (general :
 asked_of text t traitors None lines read is = (t, read, is)
 asked_of text t traitors (Some g) lines read is = (t, read, is)
 
--- a scenario's numbers are within the limits of a table
+-- Proves that the numbers of a scenario are within the limits of a table.
 pub within_from : (s : Scenario) (n m k : ℕ) → IsScenario s → n ≡ s.generals → m ≡ s.bound → k ≡ s.commander → AreNumbersWithin n m k
 within_from s n m k inside en em ek =
     let few = inside.few in
@@ -80,7 +80,7 @@ within_from s n m k inside en em ek =
     let present = inside.commander in
     record { few = omega arith; rounds = omega arith; relays = omega arith; present = omega arith }
 
--- the same trees, by what is known of the numbers of their table
+-- Proves the same of the trees, from what is known of the numbers of their table.
 pub filled_from : (s : Scenario) (letters : List (List Letter)) (h : ToldSeen) (trees : List LieutenantTree) (n m k : ℕ) → IsScenario s → WasTold s letters h
     → trees ≡ h.trees → n ≡ s.generals → m ≡ s.bound → k ≡ s.commander → (M : Messages) × (trees ≡ map (tree_of n m k M) (lieutenants n k))
 filled_from s letters h trees n m k inside told et en em ek =
@@ -88,7 +88,7 @@ filled_from s letters h trees n m k inside told et en em ek =
     let same : F ≡ map (tree_of s.generals s.bound s.commander (messages letters)) (lieutenants s.generals s.commander) = (λ i. map (tree_of (en i) (em i) (ek i) (messages letters)) (lieutenants (en i) (ek i))) in
     (messages letters, et ∙ (trees_filled s letters h inside told ∙ sym same))
 
--- the table of the trees is that which the chronicle's text is read as
+-- Proves that the table of the trees is the one that the chronicle's text is parsed as.
 pub told_from : (c : Chronicle) (h : ToldSeen) (s : Scenario) (trees : List LieutenantTree) (n m k : ℕ) (by : Rule) (t : MessageTable)
     → IsScenario s → s ≡ c.scenario → trees ≡ h.trees → n ≡ s.generals → m ≡ s.bound → k ≡ s.commander → by ≡ s.rule → WasTold c.scenario c.letters h
     → table_told (table_text (heard trees) n m k by) ≡ Ok t → table_told (table_of c) ≡ Ok t
@@ -104,7 +104,7 @@ told_from c h s trees n m k by t inside es et en em ek eb told read =
     let is : (w : List ℕ) (p : ℕ) → is_place_of c.scenario.generals c.scenario.bound c.scenario.commander w p ≡ true → heard h.trees w p ≡ messages c.letters w p = heard_is c.scenario c.letters h its told in
     ap table_told (sym (tables_same (heard h.trees) (messages c.letters) c.scenario.generals c.scenario.bound c.scenario.commander c.scenario.rule its.commander is)) ∙ (ap table_told (sym same) ∙ read)
 
--- what is said of the table that the chronicle's text is read as
+-- Proves what is explained for the table that the chronicle's text is parsed as.
 pub explains_or_error : (c : Chronicle) (s : Scenario) (t : MessageTable) (general : Option ℕ) (traitors named : List ℕ) → s ≡ c.scenario
     → table_told (table_of c) ≡ Ok t → named ≡ traitors → traitors ≡ traitors_of s
     → (r : Result (String Global) AllocError) → IfOk r (λ lines. string_bytes lines ≡ explained_of t named general) → IfOk r (λ lines. Explains c general (string_bytes lines))

@@ -7,7 +7,7 @@ use Rattle.world.specs.Lists.{IsComplete}
 use Rattle.world.specs.World.{opening, run}
 use Rattle.show_table.specs.Retold.{IsWhole}
 
--- States that the chronicle of a complete run is whole.
+-- States that the chronicle of a complete run has the letters of all rounds, so that it has a message table.
 abbrev pub RunsAreWhole : Type 0
 RunsAreWhole = (s : Scenario) (events : List Event) → IsScenario s → IsComplete s events →
     IsWhole (chronicle_of (run (opening s) events))

@@ -8,9 +8,9 @@ use round::Scenario;
 use std::alloc::{AllocError, Global};
 use world::Chronicle;
 
-/// Returns the explanation of how the lieutenants of a campaign reach their decisions, or only of how `general` does.
-/// It is what `book` says of the campaign's message table if the scenario's traitors are named. The table is read from
-/// the lieutenants' trees and never written as text.
+/// Returns an explanation of how the lieutenants of a campaign reach their decisions. If `general` is given, it
+/// explains only this lieutenant's decision. The text is the one that `book` writes for the campaign's message table,
+/// with the scenario's traitors named.
 ///
 /// # Errors
 ///
@@ -29,8 +29,8 @@ pub fn explained(
     asked(alloc, &table, traitors.as_slice(), general)
 }
 
-/// Returns what `book` says of a table, for all lieutenants or only for the given general. `traitors` are the generals
-/// named as traitors.
+/// Returns the explanation that `book` writes for a message table: of all lieutenants' decisions, or only of the
+/// decision of `general`. `traitors` are the generals named as traitors.
 fn asked(
     alloc: Global,
     table: &TreeTable<'_>,
@@ -45,7 +45,7 @@ fn asked(
     }
 }
 
-/// Returns the scenario's traitors in ascending order.
+/// Returns the traitors of a scenario in ascending order.
 ///
 /// # Errors
 ///

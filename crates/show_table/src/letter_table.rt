@@ -10,8 +10,8 @@ use round::{Received, Round, Scenario};
 use std::alloc::{AllocError, Global};
 use world::Chronicle;
 
-/// Returns the text of a campaign's message table. It has a line for each label and receiver for which an order was
-/// received, the shorter labels first. A table with this text decides what the chronicle says.
+/// Returns the message table of a campaign as text. It has a line for each label and receiver for which an order was
+/// received, with shorter labels first. This table leads to the decisions in the chronicle.
 ///
 /// # Errors
 ///
@@ -33,7 +33,7 @@ pub fn table(alloc: Global, chronicle: &Chronicle) -> Result<String, AllocError>
     )
 }
 
-/// Returns what the lieutenants of a campaign received in its letters.
+/// Returns what the lieutenants of a campaign received, according to the letters in its chronicle.
 ///
 /// # Errors
 ///
@@ -45,8 +45,8 @@ pub fn hearing(alloc: Global, chronicle: &Chronicle) -> Result<Received, AllocEr
     hear(alloc, chronicle.scenario(), chronicle.letters())
 }
 
-/// Returns the message table of a campaign, read from what its lieutenants received. It is the table that the text of
-/// `table` is read as.
+/// Returns the message table of a campaign, taken from what its lieutenants received. Parsing the text that `table`
+/// returns gives the same table.
 pub fn told_table<'a>(told: &'a Received, chronicle: &Chronicle) -> TreeTable<'a>
     requires whole { IsWhole chronicle.now }
     requires told { WasTold chronicle.now.scenario chronicle.now.letters told.now }
@@ -64,7 +64,7 @@ pub fn told_table<'a>(told: &'a Received, chronicle: &Chronicle) -> TreeTable<'a
     )
 }
 
-/// Returns what the lieutenants received in the letters of all rounds.
+/// Returns what the lieutenants of a scenario received in the letters of all rounds.
 fn hear(alloc: Global, scenario: &Scenario, letters: &[Round]) -> Result<Received, AllocError>
     requires rounds { length letters.now ≡ suc scenario.now.bound }
     requires letters { AreRoundsOf scenario.now letters.now }

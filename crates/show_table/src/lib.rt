@@ -1,4 +1,4 @@
-//! Turns a campaign into a message table, which explains how its decisions are reached.
+//! Turns a campaign into a message table, and explains how its decisions are reached.
 #![tactic(auto)]
 
 mod explanation;

@@ -1,4 +1,4 @@
--- What is told of the labels that go on from one stands together in a tree.
+-- The orders for the labels that extend one label are next to each other in a tree.
 use Rattle.std.proofs.Common.{ℕ, suc, zero, ◌+◌, ◌-◌, ◌*◌, ◌<◌, ◌≤◌, ◌≡◌, true, false, List, [], ◌∷◌, ◌++◌, map, length, length-append, get_or, take, drop, refl, sym, ap, ◌∙◌, arith, None, Some, Option, subst}
 use Rattle.std.specs.Prelude.{slice_get, slice_range, option_map, unwrap_or}
 use Rattle.std.proofs.lemmas.List.{drop_more, length-map}
@@ -19,7 +19,7 @@ use Rattle.book.specs.Trees.{tree_of}
 use Rattle.book.proofs.TreeLemmas.{place_of_tree}
 use Rattle.show_tree.proofs.PlaceLemmas.{place_parts}
 
--- a part of a list, by what stands there
+-- Proves that a part of a list is known from its elements.
 part_is : {A B : Type 0} (xs : List B) (G : A → B) (d : B) (js : List A) (a : ℕ) → ((i : ℕ) (j : A) → slice_get js i ≡ Some j → slice_get xs (a + i) ≡ Some (G j)) → take (length js) (drop a xs) ≡ map G js
 part_is xs G d [] a same = refl
 part_is xs G d (j ∷ js) a same =
@@ -30,13 +30,13 @@ part_is xs G d (j ∷ js) a same =
     let rest : take (length js) (drop (a + 1) xs) ≡ map G js = part_is xs G d js (a + 1) (λ i x e. let y : (a + 1) + i ≡ a + suc i = omega arith in rw y (same (suc i) x e)) in
     rw (more, read, rest) refl
 
--- a level of a filled tree
+-- Proves what a level of a filled tree contains.
 level_is : (n m c p k : ℕ) (M : Messages) → 0 < k → k ≤ m + 1 → level_of (tree_of n m c M p) k ≡ level_told n c p M k
 level_is n m c p k M some short =
     let up : 1 + (k - 1) ≡ k = omega arith in
     ap (λ o. unwrap_or o []) (levels-at n c p M 1 (m + 1) (k - 1) (omega arith)) ∙ ap (λ (i : ℕ). level_told n c p M i) up
 
--- the rank, by the numbers of the tree
+-- Proves that a label's rank is its index in the list for the tree's numbers.
 pub rank_in : (s : Space) (t : LieutenantTree) (w : List ℕ) (r : ℕ) → s.generals ≡ t.generals → s.commander ≡ t.commander → s.general ≡ t.general → HasRank s w r
     → slice_get (labels t.generals t.commander t.general (length w)) r ≡ Some w
 rank_in s t w r eg ec ep at =
@@ -50,7 +50,7 @@ limits s t is eg ec ep =
     let c = is.general in
     record { generals = omega arith; commander = omega arith; general = omega arith }
 
--- a place of the table has a rank
+-- Proves that a label of the table has a rank.
 pub has_rank : (s : Space) (t : MessageTable) (w : List ℕ) (p : ℕ) → IsWithinLimits s → is_place t w p ≡ true → s.generals ≡ t.generals → s.commander ≡ t.commander → s.general ≡ p
     → ((r : ℕ) → HasRank s w r → ⊥) → ⊥
 has_rank s t w p is place eg ec ep away =
@@ -59,7 +59,7 @@ has_rank s t w p is place eg ec ep away =
     away at.0 (ap (λ (n : ℕ). slice_get (labels n s.commander s.general (length w)) at.0) eg
     ∙ (ap (λ (c : ℕ). slice_get (labels t.generals c s.general (length w)) at.0) ec ∙ (ap (λ (q : ℕ). slice_get (labels t.generals t.commander q (length w)) at.0) ep ∙ at.1)))
 
--- the part of a level that belongs to a label
+-- Proves which part of a level belongs to the labels that extend a label.
 part_told : (n m c p s rank : ℕ) (M : Messages) (w : List ℕ) → IsCampaign (tree_of n m c M p) → suc s ≤ m → slice_get (labels n c p (suc s)) rank ≡ Some w
     → slice_range (map order_of (level_of (tree_of n m c M p) (suc s + 1))) (rank * (n - 1 - suc s)) (rank * (n - 1 - suc s) + (n - 1 - suc s)) ≡ map (λ j. order_of (M (w ++ j ∷ []) p)) (others n (p ∷ w))
 part_told n m c p s rank M w is short at =
@@ -88,7 +88,7 @@ children_told t tree w p (suc s) width rank part level is camp some short long e
     ∙ (ap (λ (u : LieutenantTree). slice_range (map order_of (level_of u (suc s + 1))) (rank * (u.generals - 1 - suc s)) (rank * (u.generals - 1 - suc s) + (u.generals - 1 - suc s))) is
     ∙ part_told t.generals t.bound t.commander p s rank (told t.messages) w (subst IsCampaign is camp) (let l = long in omega arith) (ap (λ (k : ℕ). slice_get (labels own.generals own.commander own.general k) rank) long ∙ at'))))
 
--- and is a part of the level
+-- Proves that this part is within the level.
 pub children_within : (tree : LieutenantTree) (w : List ℕ) (size width rank : ℕ) (level : List ℕ) → IsCampaign tree → 0 < length w → size ≡ length w → width ≡ tree.generals - 1 - size
     → slice_get (labels tree.generals tree.commander tree.general (length w)) rank ≡ Some w → length level ≡ length (labels tree.generals tree.commander tree.general (size + 1)) → rank * width + width ≤ length level
 children_within tree w size width rank level camp some long ew at el =
@@ -98,7 +98,7 @@ children_within tree w size width rank level camp some long ew at el =
     part-within tree.generals tree.commander tree.general size rank width camp.commander camp.general camp.lieutenant (omega arith) ew here in
     omega arith
 
--- ---- the children so far
+-- ---- the extensions so far
 
 pub no_more : (v : List ℕ) (j next : ℕ) → on v j ≡ true → next ≡ length (others j v) → next ≡ length (others (j + 1) v)
 no_more v j next there e =
@@ -118,7 +118,7 @@ child_within f n j next v children is below off e =
     let long : length children ≡ length (others n v) = ap length is ∙ length-map (others n v) f in
     omega arith
 
--- the order that was told
+-- Proves that a missing order counts as 0.
 pub order_is : (told : Option ℕ) → order_of told ≡ unwrap_or told 0
 order_is None = refl
 order_is (Some order) = refl
@@ -130,7 +130,7 @@ child_read f n j next v children d is below off e =
     ap (λ xs. slice_get xs next) is ∙ (slice_get-map f (others n v) next ∙ ap (option_map f) (ap (slice_get (others n v)) e ∙ others-at n v j below off)) in
     get_or_from_slice_get children next (f j) d stands
 
--- a place's label has a general
+-- Proves that the label of a place in the table is not empty.
 pub place_some : (t : MessageTable) (w : List ℕ) (p : ℕ) → is_place t w p ≡ true → 0 < length w
 place_some t w p place = begun w t.commander (place_parts t w p place).first
   where

@@ -1,4 +1,4 @@
--- What is said of a label.
+-- What a picture says about a label.
 use Rattle.std.proofs.Common.{ℕ, zero, suc, ◌+◌, ◌-◌, ◌*◌, ◌^◌, ◌<◌, ◌≤◌, ◌≡◌, true, List, ◌∷◌, Some, refl, sym, ap, ◌∙◌, arith, lit≤}
 use Rattle.std.specs.List.{list_all}
 use Rattle.std.proofs.Math.Nat.{mul-le-mul, pow-suc}
@@ -9,9 +9,9 @@ use Rattle.book.specs.Explained.{held, list_of}
 use Rattle.book.specs.Table.{MessageTable}
 use Rattle.show_tree.specs.Facts.{below, is_alike, is_alike_by}
 
--- ---- how many labels are below
+-- ---- how many labels extend a label
 
--- as many relays as there may be
+-- Proves that 13 ^ k is at most 28561 for k up to 4.
 pub few_powers : (k : ℕ) → k ≤ 4 → 13 ^ k ≤ 28561
 few_powers zero h = lit≤ tt
 few_powers (suc zero) h = lit≤ tt
@@ -29,21 +29,21 @@ pub more_below : (n size r k : ℕ) → r ≡ suc k → below n size r ≡ (n - 
 unfolding below
 more_below n size r k e = ap (below n size) e
 
--- one level more
+-- Proves that the bound holds for one level more.
 pub product_small : (x y r k : ℕ) → r ≡ suc k → x ≤ 12 → y < 13 ^ k → x * (1 + y) < 13 ^ r
 product_small x y r k e few small =
     let h : x * (1 + y) ≤ 12 * 13 ^ k = mul-le-mul few (omega arith) in
     let p : 13 ^ r ≡ 13 ^ k * 13 = ap (λ (i : ℕ). 13 ^ i) e ∙ pow-suc 13 k in
     omega arith
 
--- ---- lists
+-- ---- lists of orders
 
--- where relays are left, what is held is what the list comes to
+-- Proves that the value of a label with extensions is the order that results from its list.
 pub held_more : (t : MessageTable) (r k : ℕ) (w : List ℕ) (p : ℕ) (orders : List ℕ) → r ≡ suc k → orders ≡ list_of t k w p → Some (combined_by t.rule orders) ≡ held t r w p
 unfolding held om
 held_more t r k w p orders e is = ap (λ xs. Some (combined_by t.rule xs)) is ∙ sym (ap (λ (i : ℕ). held t i w p) e)
 
--- ---- alike
+-- ---- labels that can be folded
 
 pub alike_last : (t : MessageTable) (traitors : List ℕ) (r : ℕ) (w : List ℕ) (p : ℕ) → r ≡ 0 → true ≡ is_alike t traitors r w p
 unfolding is_alike

@@ -1,4 +1,4 @@
--- What a fold leaves out.
+-- The law about labels that are folded into a label.
 use Rattle.std.proofs.Common.{ℕ, zero, suc, ◌+◌, ◌-◌, ◌*◌, ◌<◌, ◌≤◌, ◌≡◌, Bool, true, false, not, cond, ◌&&◌, List, [], ◌∷◌, ◌++◌, map, length, length-append, inl, inr, refl, sym, ap, ◌∙◌, arith}
 use Rattle.std.specs.Prelude.{◌==◌, None, Option, Some, count_by, if◌then◌else◌, sum_by}
 use Rattle.std.specs.List.{AllByRecursion, list_all}
@@ -31,7 +31,7 @@ use Rattle.show_tree.specs.Folds.{FoldsAreAlike, IsLike, all_below, order_at}
 use Rattle.show_tree.specs.Shown.{deeper, is_open, nodes_below, nodes_by, with_those}
 use Rattle.show_tree.proofs.PlaceLemmas.{place_parts}
 
--- ---- the same is told of each next label, and it is no lie
+-- ---- equal orders without lies
 
 same_told : (one other : Option ℕ) → is_same one other ≡ true → one ≡ other
 same_told None None e = refl
@@ -63,9 +63,9 @@ next t traitors k w p j alike there =
     let told_so = and_parts (is_same (told t.messages (w ++ j ∷ []) p) (told t.messages w p)) (is_honest (mark_at t traitors w j p)) both.0 in
     record { told = same_told _ _ told_so.0; honest = no_lie _ told_so.1; alike = both.1 }
 
--- ---- what a label comes to
+-- ---- the order of a label
 
--- the list of a label from which others go on
+-- Proves that a label with extensions has the outcome of its list.
 listed : (t : MessageTable) (k : ℕ) (w : List ℕ) (p : ℕ) → outcome_at t (suc k) w p ≡ Some (outcome_of t.rule (list_of t k w p))
 listed t k w p =
     let some : (suc k == 0) ≡ false = ne_eqb (suc k) 0 (λ e. absurd (omega arith)) in
@@ -73,11 +73,11 @@ listed t k w p =
     ap (λ b. if b then None else Some (outcome_of t.rule (list_of t (suc k - 1) w p))) some
     ∙ ap (λ (i : ℕ). Some (outcome_of t.rule (list_of t i w p))) one
 
--- is told as it is explained
+-- Proves the law that outcomes are explained.
 pub explained : OutcomesAreExplained
 explained = listed
 
--- and is decided so
+-- Proves that the order of a label is the lieutenant's decision about it.
 at_decided : (t : MessageTable) (k : ℕ) (w : List ℕ) (p : ℕ) → order_at (outcome_at t k w p) (told t.messages w p) ≡ decided t k w p
 unfolding om
 at_decided t zero w p = refl
@@ -87,13 +87,13 @@ none_so : (xs : List ℕ) → count_by (λ (x : ℕ). false) xs ≡ 0
 none_so [] = refl
 none_so (x ∷ xs) = omega (arith, sum_by-cons (λ (y : ℕ). cond {A = ℕ} false 1 0) x xs, none_so xs)
 
--- a list of one order comes to it
+-- Proves that a list in which all orders are equal results in this order.
 all_one : (rule : Rule) (F : ℕ → ℕ) (v : ℕ) (xs : List ℕ) → 0 < length xs → ((j : ℕ) → on xs j ≡ true → F j ≡ v) → combined_by rule (map F xs) ≡ v
 all_one rule F v xs some says =
     let counts = majority_counts (λ j. false) F v xs (λ j there no. says j there) in
     chosen_is_rule rule (map F xs) v (omega (arith, none_so xs, length-map xs F))
 
--- where all are alike, what was told
+-- Proves that the decision about a label that can be folded is the order received.
 alike_comes : (t : MessageTable) (traitors : List ℕ) (k : ℕ) (w : List ℕ) (p : ℕ) → p < t.generals → on w p ≡ false → is_alike t traitors k w p ≡ true
     → decided t k w p ≡ taken (told t.messages) w p
 unfolding om
@@ -111,7 +111,7 @@ alike_comes t traitors (suc k) w p general off alike =
           ∙ (alike_comes t traitors k (w ++ j ∷ []) p general further so.alike ∙ ap order_of so.told)
     ])
 
--- ---- all that is below is like it
+-- ---- all extensions are like the label
 
 if_all : {A : Type 0} (P : A → Type 0) (b : Bool) (xs : List A) → AllByRecursion P xs → AllByRecursion P (if b then xs else [])
 if_all P true xs all = all
@@ -140,7 +140,7 @@ all_like t traitors view (suc k) v w p order general off alike same comes =
           (all_like t traitors (deeper view) k v (w ++ j ∷ []) p order general further so.alike here comes),
     ))
 
--- ---- how many they are
+-- ---- the number of extensions
 
 sum_same : (f : ℕ → ℕ) (c : ℕ) (xs : List ℕ) → ((x : ℕ) → on xs x ≡ true → f x ≡ c) → sum_by f xs ≡ length xs * c
 sum_same f c [] says = omega arith
@@ -153,7 +153,7 @@ push_below : (n : ℕ) (w : List ℕ) (j : ℕ) → AllBelow n w → j < n → A
 push_below n [] j all small = (small, tt)
 push_below n (x ∷ xs) j all small = (all.0, push_below n xs j all.1 small)
 
--- nothing is left out where no label is folded, and the view is deep enough
+-- Proves that all extensions are shown if no label is folded and the view is deep enough.
 all_open : (t : MessageTable) (traitors : List ℕ) (depth k : ℕ) (w : List ℕ) (p : ℕ) → 0 < k → 0 < depth → extent_at t traitors (record { depth = depth; folds = false; order = None }) k w p ≡ Open
 all_open t traitors depth k w p some deep =
     cond-false (k == 0) Last _ (ne_eqb k 0 (λ e. absurd (omega arith))) ∙ cond-false (depth == 0) (Cut (below t.generals (length w) k)) Open (ne_eqb depth 0 (λ e. absurd (omega arith)))
@@ -161,7 +161,7 @@ all_open t traitors depth k w p some deep =
 with_length : (node : Node) (nodes : List Node) → node.extent ≡ Open → length (with_those node nodes) ≡ 1 + length nodes
 with_length node nodes opens = let e : length (with_those node nodes) ≡ length (node ∷ nodes) = ap (λ x. length (node ∷ (if is_open x then nodes else []))) opens in omega arith
 
--- a next label, with those below it
+-- Proves the number for an extension and its own extensions.
 with_next : (t : MessageTable) (traitors : List ℕ) (depth k : ℕ) (w : List ℕ) (p j : ℕ) → suc k ≤ depth
     → length (nodes_below t traitors (record { depth = depth - 1; folds = false; order = None }) k (w ++ j ∷ []) p) ≡ below t.generals (length (w ++ j ∷ [])) k
     → length (nodes_by t traitors (record { depth = depth; folds = false; order = None }) k w j p) ≡ 1 + below t.generals (length w + 1) k

@@ -1,4 +1,4 @@
--- What the marks of a picture mean, one behind the other.
+-- The rows of a legend, one after another.
 use Rattle.std.proofs.Common.{ℕ, ◌+◌, ◌≡◌, List, ◌++◌, append_assoc, codes, None, Some}
 use Rattle.combine.specs.declared.outcome.Outcome.TheVariants.{Divided}
 use Rattle.show_tree.specs.declared.node.Trust.{Trust}

@@ -1,4 +1,4 @@
--- A place with one general more, under its own name.
+-- A place in the table for a label with one general more.
 use Rattle.std.proofs.Common.{ℕ, ◌+◌, ◌<◌, ◌≤◌, ◌≡◌, ◌≢◌, true, false, List, [], ◌∷◌, ◌++◌, length, length-append, subst, sym}
 use Rattle.label.specs.Labels.{on}
 use Rattle.book.specs.Grammar.{is_place}

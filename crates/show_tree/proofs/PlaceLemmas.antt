@@ -1,4 +1,4 @@
--- Places of a table, with one general more and less.
+-- Places in a message table for labels with one general more or less. A place is a label and a receiver.
 use Rattle.std.proofs.Common.{ℕ, ◌+◌, ◌<◌, ◌≤◌, ◌≡◌, ◌≢◌, Bool, true, false, not, ◌&&◌, List, [], ◌∷◌, ◌++◌, length, length-append, refl, sym, ap, ◌∙◌, arith}
 use Rattle.std.specs.Prelude.{◌==◌, nat_lt, nat_le}
 use Rattle.std.specs.List.{list_all}
@@ -11,7 +11,7 @@ use Rattle.label.proofs.Ranks.{is_distinct-push}
 use Rattle.book.specs.Grammar.{is_place}
 use Rattle.book.specs.Table.{MessageTable}
 
--- what makes a place
+-- States what a place in the table is.
 pub record IsPlaceOf (t : MessageTable) (w : List ℕ) (p : ℕ) : Type 0 where
   pub distinct : is_distinct w ≡ true
   pub first : begins_with t.commander w ≡ true
@@ -60,7 +60,7 @@ begun-more : (c : ℕ) (w more : List ℕ) → begins_with c w ≡ true → begi
 begun-more c [] more e = cc
 begun-more c (x ∷ xs) more e = e
 
--- he who tells of a label was told of it
+-- Proves that a sender of a message about a label received a message for that label.
 pub teller_told : (t : MessageTable) (w : List ℕ) (j p : ℕ) → 0 < length w → is_place t (w ++ j ∷ []) p ≡ true → is_place t w j ≡ true
 teller_told t w j p some e =
     let is = place_parts t (w ++ j ∷ []) p e in
@@ -78,7 +78,7 @@ teller_told t w j p some e =
       off = not-true (on w j) apart.1;
     })
 
--- p was told of the shorter label too
+-- Proves that p also received a message for the shorter label.
 pub place_above : (t : MessageTable) (w : List ℕ) (j p : ℕ) → 0 < length w → is_place t (w ++ j ∷ []) p ≡ true → is_place t w p ≡ true
 place_above t w j p some e =
     let is = place_parts t (w ++ j ∷ []) p e in
@@ -93,7 +93,7 @@ place_above t w j p some e =
       off = off.0;
     })
 
--- the places of the next label, one for each general who is off both, while there are relays
+-- Proves that each general who is neither on the label nor p extends it to a place, while the label is short enough.
 pub place_next : (t : MessageTable) (w : List ℕ) (j p : ℕ) → is_place t w p ≡ true → length w ≤ t.bound → j < t.generals → on w j ≡ false → j ≢ p → is_place t (w ++ j ∷ []) p ≡ true
 place_next t w j p e room below fresh apart =
     let is = place_parts t w p e in

@@ -1,4 +1,5 @@
--- What a picture says of a label w that lieutenant p received, by a message table, with k relays left.
+-- What a picture says about a label w in the tree of lieutenant p, by a message table. Up to k further generals can
+-- extend the label.
 use Rattle.std.specs.Prelude.{ℕ, zero, suc, ◌+◌, ◌-◌, ◌*◌, ◌==◌, Bool, true, false, not, ◌&&◌, if◌then◌else◌, List, [], ◌∷◌, ◌++◌, length, is_none, Option, None, Some}
 use Rattle.std.specs.List.{list_all}
 use Rattle.combine.specs.declared.outcome.Outcome.{Outcome}
@@ -15,50 +16,52 @@ use Rattle.show_tree.specs.declared.node.Extent.TheVariants.{Last, Open, Folded,
 use Rattle.show_tree.specs.declared.node.View.{View}
 use Rattle.show_tree.specs.declared.node.Node.{Node}
 
--- Returns the outcome of the list of a label, if it has a list.
+-- Returns the outcome of the list that p combines at w, or None if no general can extend w.
 abbrev pub outcome_at : MessageTable → ℕ → List ℕ → ℕ → Option Outcome
 outcome_at t k w p = if k == 0 then None else Some (outcome_of t.rule (list_of t (k - 1) w p))
 
--- Returns whether the message of j to p about w is a lie: j is named as a traitor, and does not send what he received.
+-- Returns whether the message of j to p about w is known to be a lie. It is one if j is named as a traitor and does
+-- not send the order that he took for w.
 abbrev pub mark_at : MessageTable → List ℕ → List ℕ → ℕ → ℕ → Trust
 mark_at t traitors w j p =
     if on traitors j && not (is_told (taken (told t.messages) w j) (told t.messages (w ++ j ∷ []) p))
     then Lie j (taken (told t.messages) w j) else Honest
 
+-- Returns whether a mark says that no lie is known.
 abbrev pub is_honest : Trust → Bool
 is_honest Honest = true
 is_honest _ = false
 
--- Returns whether both orders received are the same, or both are missing.
+-- Returns whether two received orders are equal, or both are missing.
 abbrev pub is_same : Option ℕ → Option ℕ → Bool
 is_same None other = is_none other
 is_same (Some order) other = is_told order other
 
--- Returns whether p received the same for w as from j about w, and the latter is no lie.
+-- Returns whether p received the same for w as for w extended by j, and the message of j is not known to be a lie.
 abbrev pub tells : MessageTable → List ℕ → List ℕ → ℕ → ℕ → Bool
 tells t traitors w j p =
     is_same (told t.messages (w ++ j ∷ []) p) (told t.messages w p) && is_honest (mark_at t traitors w j p)
 
--- Returns whether p received the same for w and for all labels that extend w within k relays, and none of these
--- extensions is a lie.
+-- Returns whether the labels below w can be folded into it: p received the same for w and for all labels that extend
+-- it by up to k generals, and none of their messages is known to be a lie.
 unfoldable pub is_alike : MessageTable → List ℕ → ℕ → List ℕ → ℕ → Bool
 is_alike t traitors zero w p = true
 is_alike t traitors (suc k) w p =
     list_all (λ j. tells t traitors w j p && is_alike t traitors k (w ++ j ∷ []) p) (others t.generals (p ∷ w))
 
--- Returns whether p received the same for w, for w extended by j, and for all labels that extend the latter within k
--- relays. None of them except possibly w is a lie.
+-- Returns whether p received the same for w, for w extended by j, and for all labels that extend this longer label by
+-- up to k generals. None of the messages after w may be known to be a lie.
 abbrev pub is_alike_by : MessageTable → List ℕ → ℕ → List ℕ → ℕ → ℕ → Bool
 is_alike_by t traitors k w j p = tells t traitors w j p && is_alike t traitors k (w ++ j ∷ []) p
 
--- Returns how many labels without p extend a label of the given size. Each general who is neither on the label nor p
--- extends it once, and each such label is extended again.
+-- Returns how many labels without p extend a label of `size` generals by 1 to k generals. Each general who is neither
+-- on the label nor p extends it once, and each such label is extended again.
 unfoldable pub below : ℕ → ℕ → ℕ → ℕ
 below n size zero = 0
 below n size (suc k) = (n - 1 - size) * (1 + below n (size + 1) k)
 
--- Returns whether the labels below w are shown. They are folded if the same was received for all of them. Otherwise
--- they are shown as deep as the view says.
+-- Returns whether the labels that extend w are shown. They are folded into w if they say the same as w and the view
+-- allows it. Otherwise they are shown if they are not deeper than the view.
 abbrev pub extent_at : MessageTable → List ℕ → View → ℕ → List ℕ → ℕ → Extent
 extent_at t traitors view k w p =
     if k == 0 then Last
@@ -66,7 +69,7 @@ extent_at t traitors view k w p =
     else if view.depth == 0 then Cut (below t.generals (length w) k)
     else Open
 
--- Returns everything that a picture says of a label.
+-- Returns everything that a picture says about the label w. `mark` says whether its message is known to be a lie.
 unfoldable pub node_at : MessageTable → List ℕ → View → Trust → ℕ → List ℕ → ℕ → Node
 node_at t traitors view mark k w p =
     record {

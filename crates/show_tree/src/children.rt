@@ -1,5 +1,5 @@
-//! Reads the orders that a lieutenant received for the labels that extend a given label by one general. They are
-//! contiguous in his tree.
+//! Reads from a lieutenant's tree the orders that he received for the labels that extend a given label by one
+//! general. These orders are next to each other in the tree.
 ghost use Rattle.std.specs.Prelude.{◌≡◌, ◌≤◌, ◌+◌, ◌*◌, [], ◌∷◌, ◌++◌, length, map, true, slice_range};
 ghost use Rattle.label.specs.Labels.{others};
 ghost use Rattle.label.specs.Oral.{order_of};
@@ -11,8 +11,9 @@ use arrayvec::ArrayVec;
 use book::Heard;
 use label::{Label, rank};
 
-/// Returns the list that the lieutenant combines at a label which only labels of full length extend. At his own place
-/// the list has the order that he received for the label itself.
+/// Returns the list of orders that the lieutenant `general` combines at `label`, where the labels that extend it by
+/// one general cannot be extended further. At his own position the list has the order that he received for `label`
+/// itself. A missing order counts as 0, RETREAT.
 pub(crate) fn last_orders<H: Heard>(table: &H, general: u8, label: &Label) -> ArrayVec<u32, 13>
     requires place { is_place (H.seen table.now) label.now general ≡ true }
     requires room { length label.now ≤ (H.seen table.now).bound }
@@ -32,8 +33,8 @@ pub(crate) fn last_orders<H: Heard>(table: &H, general: u8, label: &Label) -> Ar
     orders
 }
 
-/// Returns the orders that the lieutenant received for the labels that extend this one by one general. They are in the
-/// order of that general, with RETREAT (0) where he received none.
+/// Returns the orders that the lieutenant `general` received for the labels that extend `label` by one general,
+/// sorted by that general. A missing order is 0, RETREAT.
 fn told_children<'a, H: Heard>(table: &'a H, general: u8, label: &Label) -> &'a [u32]
     requires place { is_place (H.seen table.now) label.now general ≡ true }
     requires room { length label.now ≤ (H.seen table.now).bound }
@@ -50,8 +51,8 @@ fn told_children<'a, H: Heard>(table: &'a H, general: u8, label: &Label) -> &'a 
     }
 }
 
-/// Returns the entries of a level that extend the label with the given rank on the level above, which are `width`
-/// entries.
+/// Returns the `width` entries of a level of a tree that belong to the label with rank `rank` on the level above: the
+/// labels of these entries extend that label.
 fn part(level: &[u32], width: usize, rank: usize) -> &[u32]
     requires { rank * width + width ≤ length level.now }
     ensures { result.now ≡ slice_range level.now (rank * width) (rank * width + width) }

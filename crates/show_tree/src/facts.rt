@@ -1,5 +1,5 @@
-//! Computes what a picture says of a label: the order received, the outcome of its list, whether it is a lie, and
-//! whether the labels below it are shown.
+//! Computes what a picture says about a label: the order that the lieutenant received, the outcome of the list that
+//! he combines, whether the message is a lie, and whether the labels that extend it are shown.
 ghost use Rattle.std.specs.Prelude.{◌≡◌, ◌≤◌, ◌<◌, ◌+◌, ◌*◌, ◌^◌, ◌∷◌, ◌++◌, [], suc, length, true};
 ghost use Rattle.label.specs.Labels.{on};
 ghost use Rattle.book.specs.Conditions.{is_told};
@@ -14,8 +14,9 @@ use book::Heard;
 use combine::{Combine, Outcome};
 use label::Label;
 
-/// Returns the lieutenant's value for a label, with `relays` relays left. For a label of full length it is the order
-/// that he received, if any. Otherwise it is the outcome of his list for the label.
+/// Returns the lieutenant's value for a label that up to `relays` further generals can extend. If `relays` is 0, it
+/// is the order that he received, or `None` if he received none. Otherwise it is the order that results from his list
+/// for the label.
 #[cycle(lists)]
 fn held<H: Heard>(table: &H, general: u8, label: &Label, relays: u8) -> Option<u32>
     requires place { is_place (H.seen table.now) label.now general ≡ true }
@@ -29,7 +30,8 @@ fn held<H: Heard>(table: &H, general: u8, label: &Label, relays: u8) -> Option<u
     Some(table.rule().combine(orders.as_slice()))
 }
 
-/// Returns the list that the lieutenant combines at a label, with `relays` relays left after the next general.
+/// Returns the list of orders that the lieutenant `general` combines at a label, which up to `relays + 1` further
+/// generals can extend.
 #[cycle(lists)]
 fn orders<H: Heard>(table: &H, general: u8, label: &Label, relays: u8) -> ArrayVec<u32, 13>
     requires place { is_place (H.seen table.now) label.now general ≡ true }
@@ -50,8 +52,8 @@ fn orders<H: Heard>(table: &H, general: u8, label: &Label, relays: u8) -> ArrayV
     orders
 }
 
-/// Returns the outcome of the lieutenant's list for a label, with `relays` relays left. Returns `None` if no relay is
-/// left, since such a label has no list.
+/// Returns the outcome of the list that the lieutenant `general` combines at a label, which up to `relays` further
+/// generals can extend. Returns `None` if `relays` is 0, since such a label has no list.
 fn outcome<H: Heard>(table: &H, general: u8, label: &Label, relays: u8) -> Option<Outcome>
     requires place { is_place (H.seen table.now) label.now general ≡ true }
     requires relays { length label.now + relays ≡ (H.seen table.now).bound + 1 }
@@ -64,14 +66,14 @@ fn outcome<H: Heard>(table: &H, general: u8, label: &Label, relays: u8) -> Optio
     Some(table.rule().outcome(orders.as_slice()))
 }
 
-/// Checks whether the general is among those named as traitors.
+/// Checks whether the general is among `traitors`, the generals named as traitors.
 pub(crate) fn is_named(traitors: &[u8], general: u8) -> bool
     ensures { result ≡ on traitors.now general }
 {
     traitors.iter().any(|x| *x == general)
 }
 
-/// Checks whether the order received is this order.
+/// Checks whether the received order `told` is `order`. Returns false if nothing was received.
 pub(crate) fn is_told(order: u32, told: Option<u32>) -> bool
     ensures { result ≡ is_told order told }
 {
@@ -81,7 +83,7 @@ pub(crate) fn is_told(order: u32, told: Option<u32>) -> bool
     }
 }
 
-/// Checks whether both orders received are the same, or both are missing.
+/// Checks whether two received orders are equal. Two missing orders are equal, too.
 fn is_same(one: Option<u32>, other: Option<u32>) -> bool
     ensures { result ≡ is_same one other }
 {
@@ -91,9 +93,9 @@ fn is_same(one: Option<u32>, other: Option<u32>) -> bool
     }
 }
 
-/// Returns whether the message of general `teller` about a label is known to be a lie. It is one if he is named as a
-/// traitor and did not send the lieutenant the order that he received. The label `next` is `label` followed by
-/// `teller`.
+/// Returns whether the message that `teller` sent the lieutenant `general` for the label `next` is known to be a lie.
+/// The label `next` is `label` followed by `teller`. The message is a lie if `teller` is named as a traitor and did
+/// not send the order that he took for `label`.
 pub fn mark_at<H: Heard>(
     table: &H,
     traitors: &[u8],
@@ -118,8 +120,8 @@ pub fn mark_at<H: Heard>(
     }
 }
 
-/// Checks whether the lieutenant received the same for `next` as for `label`, and whether the message of `teller` is
-/// not known to be a lie. The label `next` is `label` followed by `teller`.
+/// Checks whether the lieutenant `general` received the same for `next` as for `label`, and whether the message for
+/// `next` is not known to be a lie. The label `next` is `label` followed by `teller`.
 fn tells<H: Heard>(
     table: &H,
     traitors: &[u8],
@@ -137,15 +139,16 @@ fn tells<H: Heard>(
         && is_honest(mark_at(table, traitors, general, label, teller, next))
 }
 
-/// Checks whether the mark says that no lie is known.
+/// Checks whether `mark` says that a message is not known to be a lie.
 pub(crate) fn is_honest(mark: Trust) -> bool
     ensures { result ≡ is_honest mark }
 {
     matches!(mark, Trust::Honest)
 }
 
-/// Checks whether the lieutenant received the same for this label and for all labels that extend it within `relays`
-/// relays, and whether none of these extensions is a lie.
+/// Checks whether the labels below `label` can be folded into it. The lieutenant must have received the same for
+/// `label` and for all labels that extend it by up to `relays` generals. None of their messages may be known to be a
+/// lie.
 #[cycle(alike)]
 fn is_alike<H: Heard>(table: &H, traitors: &[u8], general: u8, label: &Label, relays: u8) -> bool
     requires place { is_place (H.seen table.now) label.now general ≡ true }
@@ -165,8 +168,8 @@ fn is_alike<H: Heard>(table: &H, traitors: &[u8], general: u8, label: &Label, re
     is_so
 }
 
-/// Checks whether the lieutenant received the same for `label`, for `next`, and for all labels that extend `next`
-/// within `relays` relays. Neither `next` nor one of these extensions may be a lie.
+/// Checks whether the lieutenant received the same for `label`, for `next`, and for all labels that extend `next` by
+/// up to `relays` generals. The messages for `next` and these extensions must not be known to be lies.
 #[cycle(alike)]
 fn is_alike_by<H: Heard>(
     table: &H,
@@ -186,7 +189,7 @@ fn is_alike_by<H: Heard>(
         && is_alike(table, traitors, general, next, relays)
 }
 
-/// Returns how many labels without the lieutenant extend a label of `size` generals within `relays` relays.
+/// Returns how many labels without the lieutenant extend a label of `size` generals by 1 to `relays` generals.
 fn below(generals: u8, size: u8, relays: u8) -> u32
     requires few { generals ≤ 13 }
     requires rounds { relays ≤ 4 }
@@ -201,7 +204,8 @@ fn below(generals: u8, size: u8, relays: u8) -> u32
     children * (1 + below(generals, size + 1, relays - 1))
 }
 
-/// Returns whether the labels below a label are shown, folded, or cut off by the depth of the view.
+/// Returns whether the labels that extend `label` are shown, are folded into it, or are deeper than the view shows.
+/// Up to `relays` further generals can extend `label`.
 fn extent<H: Heard>(
     table: &H,
     traitors: &[u8],
@@ -227,7 +231,8 @@ fn extent<H: Heard>(
     }
 }
 
-/// Returns what a picture says of a label, with `relays` relays left.
+/// Returns what a picture says about `label`, which up to `relays` further generals can extend. `mark` says whether
+/// its message is known to be a lie.
 #[tactic(auto, unfolding(crate::specs::Facts::node_at))]
 pub fn node_at<H: Heard>(
     table: &H,

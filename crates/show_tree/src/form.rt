@@ -1,4 +1,4 @@
-//! The output forms of a lieutenant's tree: lines of text, a Graphviz graph, or SVG.
+//! Defines the output forms of a lieutenant's tree: lines of text, a Graphviz graph, or SVG.
 use crate::node::Style;
 
 /// The form in which a lieutenant's tree is drawn.

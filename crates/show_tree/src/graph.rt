@@ -10,9 +10,9 @@ use book::{Heard, decision};
 use combine::Outcome;
 use std::alloc::{AllocError, Global};
 
-/// Returns the tree of what a lieutenant received, as a graph for Graphviz. Each label that is shown is a box. A lie is
-/// an octagon, and so is the message of a commander who is named as a traitor. The outline is dashed if no order has a
-/// majority, and doubled if labels below are not shown.
+/// Returns the tree of what the lieutenant `general` received, as a graph for Graphviz. Each label that is shown is a
+/// box. A lie is an octagon, and so is the message of a commander who is named as a traitor. The outline is dashed if
+/// no order has a majority in the label's list, and doubled if labels that extend it are not shown.
 ///
 /// # Errors
 ///
@@ -37,7 +37,7 @@ pub fn tree_graph<H: Heard>(
     Ok(text)
 }
 
-/// Appends the start of the graph, up to its labels.
+/// Appends the start of the graph: its attributes and its title.
 fn put_head(out: &mut String, general: u8, order: u32) -> Result<(), AllocError>
     ensures { OnOk result (string_bytes out.new ≡ string_bytes out.old ++ graph_head general order) }
 {
@@ -45,7 +45,7 @@ fn put_head(out: &mut String, general: u8, order: u32) -> Result<(), AllocError>
     put_title(out, general, order)
 }
 
-/// Returns the text with which every graph begins.
+/// Returns the first lines of every graph, with its attributes.
 #[tactic(auto, unfolding(crate::specs::Graph::graph_start))]
 fn start() -> &'static str
     ensures { result.now ≡ graph_start }
@@ -61,7 +61,7 @@ fn put_title(out: &mut String, general: u8, order: u32) -> Result<(), AllocError
     write!(out, "  label=\"lieutenant {general} decides {order}\";\n")
 }
 
-/// Appends the given labels with their edges.
+/// Appends a box for each of these labels, and an edge to it from the label that it extends.
 fn put_nodes(out: &mut String, nodes: &[Node]) -> Result<(), AllocError>
     ensures { OnOk result (string_bytes out.new ≡ string_bytes out.old ++ graph_nodes nodes.now) }
 {
@@ -71,7 +71,7 @@ fn put_nodes(out: &mut String, nodes: &[Node]) -> Result<(), AllocError>
     Ok(())
 }
 
-/// Appends a label, and the edge that leads to it.
+/// Appends the box of a label, and the edge to it from the label that it extends.
 fn put_node(out: &mut String, node: &Node) -> Result<(), AllocError>
     ensures { OnOk result (string_bytes out.new ≡ string_bytes out.old ++ graph_node node.now) }
 {
@@ -81,7 +81,7 @@ fn put_node(out: &mut String, node: &Node) -> Result<(), AllocError>
     put_edge(out, node.label.generals())
 }
 
-/// Appends the start of a label's box: its name and the words in it.
+/// Appends the start of a label's box: its name, such as `0.2`, and the words in the box.
 fn put_box(out: &mut String, node: &Node) -> Result<(), AllocError>
     ensures { OnOk result (string_bytes out.new ≡ string_bytes out.old ++ graph_box node.now) }
 {
@@ -93,7 +93,7 @@ fn put_box(out: &mut String, node: &Node) -> Result<(), AllocError>
     put_words(out, "\\n", node)
 }
 
-/// Appends the attributes of a label's box.
+/// Appends the attributes of a label's box. They show a lie, the lack of a majority, and that labels are left out.
 fn put_styles(out: &mut String, node: &Node) -> Result<(), AllocError>
     ensures { OnOk result (string_bytes out.new ≡ string_bytes out.old ++ graph_styles node.now) }
 {
@@ -103,7 +103,7 @@ fn put_styles(out: &mut String, node: &Node) -> Result<(), AllocError>
     write!(out, "\"{mark}{outcome}{extent}")
 }
 
-/// Appends the edge that leads to a label from the label that it extends, if there is one.
+/// Appends the edge to a label from the label that it extends. Appends nothing for a label of one general.
 fn put_edge(out: &mut String, label: &[u8]) -> Result<(), AllocError>
     ensures { OnOk result (string_bytes out.new ≡ string_bytes out.old ++ edge label.now) }
 {
@@ -117,7 +117,8 @@ fn put_edge(out: &mut String, label: &[u8]) -> Result<(), AllocError>
     out.push_str("\";\n")
 }
 
-/// Returns the attributes that show whether a label's message is a lie.
+/// Returns the attributes of a box whose message is a lie, or is from a commander named as a traitor. They are empty
+/// for other messages.
 fn mark_style(mark: Trust) -> &'static str
     ensures { result.now ≡ mark_style mark }
 {
@@ -128,7 +129,8 @@ fn mark_style(mark: Trust) -> &'static str
     }
 }
 
-/// Returns the attribute that shows whether an order has a majority in a label's list.
+/// Returns the attribute of a dashed box, if no order has a majority in the label's list, and otherwise an empty
+/// text.
 fn outcome_style(outcome: Option<Outcome>) -> &'static str
     ensures { result.now ≡ outcome_style outcome }
 {
@@ -138,7 +140,8 @@ fn outcome_style(outcome: Option<Outcome>) -> &'static str
     }
 }
 
-/// Returns the attribute that shows whether labels below a label are left out.
+/// Returns the attribute of a box with a double outline, if labels that extend its label are not shown, and otherwise
+/// an empty text.
 fn extent_style(extent: Extent) -> &'static str
     ensures { result.now ≡ extent_style extent }
 {

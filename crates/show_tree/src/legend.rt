@@ -1,4 +1,4 @@
-//! Draws the legend of an SVG tree: below its rows, a row for each mark that occurs in the picture.
+//! Draws the legend of an SVG tree, below the rows of labels. It has a row for each mark that occurs in the picture.
 ghost use Rattle.std.specs.Prelude.{◌≡◌, ◌≤◌, ◌<◌, ◌^◌, ◌++◌, string_bytes, None, OnOk};
 ghost use Rattle.std.specs.List.{list_any};
 ghost use Rattle.show_tree.specs.Legend.{count_of, dashed_shape, has_circle, has_dashed_circle, has_dashed_square, has_dashes, has_diamond, has_square, legend, marks_of, meaning, meaning_if, meaning_words, meanings, one_if, rule, rule_at};
@@ -9,7 +9,7 @@ use crate::rows::{put_shape, put_start, row_end};
 use combine::Outcome;
 use std::alloc::AllocError;
 
-/// Returns which marks occur in the picture of these labels.
+/// Returns which marks occur in a picture of these labels.
 pub(crate) fn marks(nodes: &[Node]) -> DrawnMarks
     ensures { result ≡ marks_of nodes.now }
 {
@@ -21,36 +21,37 @@ pub(crate) fn marks(nodes: &[Node]) -> DrawnMarks
     }
 }
 
-/// Checks whether one of these labels has a circle.
+/// Checks whether any of these labels is drawn as a circle: its message is not known to be a lie.
 fn any_circle(nodes: &[Node]) -> bool
     ensures { result ≡ list_any has_circle nodes.now }
 {
     nodes.iter().any(|node| has_circle(node))
 }
 
-/// Checks whether one of these labels has a square.
+/// Checks whether any of these labels is drawn as a square: its message is from a commander who is named as a
+/// traitor.
 fn any_square(nodes: &[Node]) -> bool
     ensures { result ≡ list_any has_square nodes.now }
 {
     nodes.iter().any(|node| has_square(node))
 }
 
-/// Checks whether one of these labels has a diamond.
+/// Checks whether any of these labels is drawn as a diamond: its message is a lie.
 fn any_diamond(nodes: &[Node]) -> bool
     ensures { result ≡ list_any has_diamond nodes.now }
 {
     nodes.iter().any(|node| has_diamond(node))
 }
 
-/// Checks whether one of these labels has a dashed outline.
+/// Checks whether any of these labels has a dashed outline: no order has a majority in its list.
 fn any_dashes(nodes: &[Node]) -> bool
     ensures { result ≡ list_any has_dashes nodes.now }
 {
     nodes.iter().any(|node| has_dashes(node))
 }
 
-/// Returns the shape that the legend draws with dashes: a circle if one of these labels has a dashed circle, else a
-/// square if one has a dashed square, else a diamond.
+/// Returns the mark at which the legend explains dashes: a circle if any of these labels has a dashed circle, else a
+/// square if any has a dashed square, else a diamond.
 fn dashed_shape(nodes: &[Node]) -> Trust
     ensures { result ≡ dashed_shape nodes.now }
 {
@@ -63,42 +64,43 @@ fn dashed_shape(nodes: &[Node]) -> Trust
     }
 }
 
-/// Checks whether one of these labels has a dashed circle.
+/// Checks whether any of these labels is drawn as a dashed circle.
 fn any_dashed_circle(nodes: &[Node]) -> bool
     ensures { result ≡ list_any has_dashed_circle nodes.now }
 {
     nodes.iter().any(|node| has_dashed_circle(node))
 }
 
-/// Checks whether one of these labels has a dashed square.
+/// Checks whether any of these labels is drawn as a dashed square.
 fn any_dashed_square(nodes: &[Node]) -> bool
     ensures { result ≡ list_any has_dashed_square nodes.now }
 {
     nodes.iter().any(|node| has_dashed_square(node))
 }
 
-/// Checks whether a label has a dashed circle.
+/// Checks whether a label is drawn as a dashed circle: no lie is known, and no order has a majority.
 fn has_dashed_circle(node: &Node) -> bool
     ensures { result ≡ has_dashed_circle node.now }
 {
     has_dashes(node) && has_circle(node)
 }
 
-/// Checks whether a label has a dashed square.
+/// Checks whether a label is drawn as a dashed square: a commander named as a traitor sent it, and no order has a
+/// majority.
 fn has_dashed_square(node: &Node) -> bool
     ensures { result ≡ has_dashed_square node.now }
 {
     has_dashes(node) && has_square(node)
 }
 
-/// Checks whether a label is drawn as a circle: no lie is known of it.
+/// Checks whether a label is drawn as a circle: its message is not known to be a lie.
 fn has_circle(node: &Node) -> bool
     ensures { result ≡ has_circle node.now }
 {
     is_honest(node.mark)
 }
 
-/// Checks whether a label is drawn as a square: its message is that of a commander who is named as a traitor.
+/// Checks whether a label is drawn as a square: its message is from a commander who is named as a traitor.
 fn has_square(node: &Node) -> bool
     ensures { result ≡ has_square node.now }
 {
@@ -112,14 +114,14 @@ fn has_diamond(node: &Node) -> bool
     matches!(node.mark, Trust::Lie(_, _))
 }
 
-/// Checks whether a label is drawn with dashes: in its list no order has a majority.
+/// Checks whether a label is drawn with a dashed outline: no order has a majority in its list.
 fn has_dashes(node: &Node) -> bool
     ensures { result ≡ has_dashes node.now }
 {
     matches!(node.outcome, Some(Outcome::Divided(_)))
 }
 
-/// Returns how many marks occur, at most four.
+/// Returns how many of the marks occur, from 0 to 4.
 pub(crate) fn count(marks: DrawnMarks) -> u128
     ensures value { result ≡ count_of marks }
     ensures few { result ≤ 4 }
@@ -127,7 +129,7 @@ pub(crate) fn count(marks: DrawnMarks) -> u128
     one_if(marks.circle) + one_if(marks.square) + one_if(marks.diamond) + one_if(marks.dashes)
 }
 
-/// Returns 1 if the condition holds, else 0.
+/// Returns 1 if `stands` is true, else 0.
 fn one_if(stands: bool) -> u128
     ensures value { result ≡ one_if stands }
     ensures few { result ≤ 1 }
@@ -135,7 +137,8 @@ fn one_if(stands: bool) -> u128
     if stands { 1 } else { 0 }
 }
 
-/// Appends a horizontal rule, and below it the meaning of each mark that occurs in the picture of these labels.
+/// Appends the legend: a horizontal rule, and below it the meaning of each mark that occurs in the picture of these
+/// labels.
 ///
 /// # Errors
 ///
@@ -152,7 +155,7 @@ pub(crate) fn put_legend(out: &mut String, nodes: &[Node]) -> Result<(), AllocEr
     )
 }
 
-/// Appends a row that consists of a horizontal rule. The number of the row is `place`.
+/// Appends a row with a horizontal rule. `place` is the number of rows above it.
 fn put_rule(out: &mut String, place: u128) -> Result<(), AllocError>
     requires { place < 2 ^ 100 }
     ensures { OnOk result (string_bytes out.new ≡ string_bytes out.old ++ rule_at place) }
@@ -162,7 +165,7 @@ fn put_rule(out: &mut String, place: u128) -> Result<(), AllocError>
     out.push_str(row_end())
 }
 
-/// Returns the horizontal rule below the rows of labels.
+/// Returns the horizontal rule between the rows of labels and the legend.
 #[tactic(auto, unfolding(crate::specs::Legend::rule))]
 fn rule() -> &'static str
     ensures { result.now ≡ rule }
@@ -170,8 +173,8 @@ fn rule() -> &'static str
     "<path class=\"line\" d=\"M0 12h240\"/>"
 }
 
-/// Appends the meanings of these marks, one row each. The number of the first row is `place`. Dashes are shown at the
-/// shape `dashed`.
+/// Appends the meanings of the marks that occur, one row each. `place` is the number of rows above the first of them.
+/// Dashes are shown at the shape of `dashed`.
 fn put_meanings(
     out: &mut String,
     marks: DrawnMarks,
@@ -210,7 +213,8 @@ fn put_meanings(
     Ok(())
 }
 
-/// Appends the meaning of a shape without dashes, if the shape occurs in the picture.
+/// Appends a row with a shape without dashes and its meaning, below `place` other rows. Appends nothing if `stands`
+/// is false.
 fn put_shape_if(
     out: &mut String,
     stands: bool,
@@ -225,7 +229,7 @@ fn put_shape_if(
     put_meaning_if(out, stands, place, mark, None, words)
 }
 
-/// Appends the meaning of a mark, if the mark occurs in the picture.
+/// Appends a row with a mark and its meaning, below `place` other rows. Appends nothing if `stands` is false.
 fn put_meaning_if(
     out: &mut String,
     stands: bool,
@@ -245,7 +249,7 @@ fn put_meaning_if(
     }
 }
 
-/// Appends a row with a mark and its meaning. The number of the row is `place`.
+/// Appends a row with a mark and its meaning, below `place` other rows.
 fn put_meaning(
     out: &mut String,
     place: u128,
@@ -262,7 +266,7 @@ fn put_meaning(
     out.push_str(row_end())
 }
 
-/// Appends the meaning of a mark, to the right of the mark.
+/// Appends the meaning of a mark in the legend, to the right of the mark.
 #[tactic(auto, unfolding(crate::specs::Legend::meaning_words))]
 fn put_meaning_words(out: &mut String, words: &str) -> Result<(), AllocError>
     ensures { OnOk result (string_bytes out.new ≡ string_bytes out.old ++ meaning_words words.now) }

@@ -1,5 +1,5 @@
-//! Pictures of the messages that a lieutenant received: his tree (Lynch, Distributed Algorithms, section 6.2), as lines
-//! of text, as a graph for Graphviz, and as SVG.
+//! Draws the tree of the messages that a lieutenant received (Lynch, Distributed Algorithms, section 6.2). It draws
+//! lines of text, a graph for Graphviz, or SVG.
 #![tactic(auto)]
 
 mod children;

@@ -11,9 +11,9 @@ use crate::words::put_said;
 use book::{Heard, decision};
 use std::alloc::{AllocError, Global};
 
-/// Returns the tree of what a lieutenant received, as text. Each label that is shown has a line below the label that it
-/// extends, and the last line is his decision. A label's line says what he received, the outcome of his list, and
-/// whether it is a lie of a general named as a traitor.
+/// Returns the tree of what the lieutenant `general` received, as text. Each label that is shown has a line below the
+/// label that it extends. The line says what he received, the outcome of his list for the label, and whether the
+/// message is a lie of a general named as a traitor. The last line is his decision.
 ///
 /// # Errors
 ///
@@ -49,7 +49,7 @@ pub fn tree_text<H: Heard>(
     Ok(text)
 }
 
-/// Appends the lines of these labels.
+/// Appends a line for each of these labels.
 fn put_nodes(
     out: &mut String,
     style: Style,
@@ -65,7 +65,7 @@ fn put_nodes(
     Ok(())
 }
 
-/// Appends the line of a label.
+/// Appends the line of a label: the branches that lead to the label, its name, and what is known of it.
 fn put_node(
     out: &mut String,
     style: Style,
@@ -80,7 +80,7 @@ fn put_node(
     out.push_str("\n")
 }
 
-/// Appends the branches that lead to a label.
+/// Appends the branches that lead to a label: four characters for each of its generals but the last.
 fn put_branches(
     out: &mut String,
     style: Style,
@@ -97,7 +97,7 @@ fn put_branches(
     Ok(())
 }
 
-/// Returns the four characters that draw a branch in this style.
+/// Returns the four characters that draw a branch in the given style.
 fn branch_text(style: Style, branch: Branch) -> &'static str
     ensures { result.now ≡ branch_text style branch }
 {
@@ -112,7 +112,8 @@ fn branch_text(style: Style, branch: Branch) -> &'static str
     }
 }
 
-/// Appends the line with the lieutenant's decision.
+/// Appends the line with the lieutenant's decision, such as `decision 2 1`. If he is named as a traitor, the line
+/// says so.
 fn put_decision(out: &mut String, general: u8, is_named: bool, order: u32) -> Result<(), AllocError>
     ensures { OnOk result (string_bytes out.new ≡ string_bytes out.old ++ decision_line general is_named order) }
 {
@@ -120,7 +121,7 @@ fn put_decision(out: &mut String, general: u8, is_named: bool, order: u32) -> Re
     write!(out, "decision {general}{mark}{order}\n")
 }
 
-/// Returns the word that marks the decision of a lieutenant who is named as a traitor, or a space.
+/// Returns the word `traitor` between spaces if `named` is true, and otherwise a space.
 fn mark(named: bool) -> &'static str
     ensures { result.now ≡ mark named }
 {

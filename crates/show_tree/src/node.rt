@@ -1,58 +1,62 @@
-//! The types of a drawn tree: what is said of each label, how much is shown, and how its branches are drawn.
+//! Defines the types of a drawn tree: what it says about each label, how much of the tree it shows, and how it draws
+//! branches.
 use combine::Outcome;
 use label::Label;
 
-/// The marks that occur in a picture.
+/// Which marks occur in a picture, so that its legend explains these and no others.
 #[derive(Clone, Copy, Drop)]
 pub struct DrawnMarks {
-    /// Some label has a circle: no lie is known of it.
+    /// Whether any label is drawn as a circle: its message is not known to be a lie.
     pub circle: bool,
-    /// Some label has a square: its message is that of a commander who is named as a traitor.
+    /// Whether any label is drawn as a square: its message is from a commander who is named as a traitor.
     pub square: bool,
-    /// Some label has a diamond: its message is a lie.
+    /// Whether any label is drawn as a diamond: its message is a lie.
     pub diamond: bool,
-    /// Some label has dashes: in its list no order has a majority.
+    /// Whether any label has a dashed outline: no order has a majority in its list.
     pub dashes: bool,
 }
 
-/// Whether the message of a label's last general is known to be a lie.
+/// Whether a message to the lieutenant is known to be a lie.
 #[derive(Clone, Copy, Drop)]
 pub enum Trust {
-    /// No lie is known. The general is not named as a traitor, or sent what he received. A commander sent his order.
+    /// No lie is known: the sender is not named as a traitor, or he sent the order that he took. (A commander takes
+    /// the order that he was given.)
     Honest,
-    /// The general is the commander, he is named as a traitor, and his order is not known.
+    /// The message is from a commander who is named as a traitor, and it is not known which order he was given.
     Traitor,
-    /// The message is a lie. The first field is the general who sent it; he is named as a traitor. The second field is
-    /// the order that he received, or that he was to send as commander. He sent another one, or nothing.
+    /// The message is a lie: its sender is named as a traitor, and he did not send the order that he took. The first
+    /// field is the sender, and the second the order that he took. (A commander takes the order that he was given.)
     Lie(u8, u32),
 }
 
-/// Whether the labels below a label are shown.
+/// Whether a picture shows the labels that extend a label.
 #[derive(Clone, Copy, Drop)]
 pub enum Extent {
-    /// There are no labels below.
+    /// No label extends this one.
     Last,
-    /// The labels below are shown.
+    /// The labels that extend this one are shown.
     Open,
-    /// The labels below are folded, and this is their number. For each of them the same was received as for the label,
-    /// and none of them is a lie.
+    /// The labels that extend this one are folded into it: for each of them the same order was received, and none is
+    /// a lie. The field is their number.
     Folded(u32),
-    /// The labels below are not shown, because they are deeper than the view. This is their number.
+    /// The labels that extend this one are not shown, because they are deeper than the view. The field is their
+    /// number.
     Cut(u32),
 }
 
-/// How much of a tree is shown, and what is known of the commander's order.
+/// How much of a tree a picture shows, and what is known of the commander's order.
 #[derive(Clone, Copy, Drop)]
 pub struct View {
-    /// How many levels below the commander's are shown, from 0 to 4.
+    /// How many levels of labels are shown below the commander's own label, from 0 to 4.
     pub depth: u8,
-    /// Whether labels are folded into a label above them if the same was received for all.
+    /// Whether a label is shown without the labels that extend it if the same was received for all of them and none
+    /// is a lie.
     pub folds: bool,
-    /// The order that the commander was to send, if it is known.
+    /// The order that the commander was given, if it is known.
     pub order: Option<u32>,
 }
 
-/// The characters that draw the branches between labels in a text.
+/// The characters that draw the branches of a tree in text.
 #[derive(Clone, Copy, PartialEq, Eq, Drop)]
 pub enum Style {
     /// ASCII characters.
@@ -61,30 +65,31 @@ pub enum Style {
     Boxes,
 }
 
-/// The branch that is drawn in a label's row below one of the label's generals.
+/// How a branch of the tree looks in one column of a label's row.
 #[derive(Clone, Copy, PartialEq, Eq, Drop)]
 pub enum Branch {
-    /// The branch leads to this row, and continues below it.
+    /// The branch leads to the label of this row, and continues downwards.
     Tee,
-    /// The branch leads to this row and ends there.
+    /// The branch leads to the label of this row and ends there.
     Corner,
-    /// The branch passes this row.
+    /// The branch passes this row, and leads to a label further down.
     Bar,
-    /// There is no branch, because it ended further up.
+    /// There is no branch in this column, because it ended further up.
     Gap,
 }
 
-/// A label of a drawn tree, with everything that a picture says of it.
+/// A label of a drawn tree, with everything that a picture says about it.
 #[derive(Drop)]
 pub struct Node {
     /// The label: the generals through whom the order came.
     pub label: Label,
-    /// The order that the lieutenant received for the label, if any. 0 is RETREAT.
+    /// The order that the lieutenant received for the label, or `None` if he received none. 0 is RETREAT.
     pub told: Option<u32>,
-    /// The outcome of his list for the label. It is `None` if no relay is left, since the order received counts then.
+    /// The outcome of the list that he combines at the label. It is `None` for a label of full length, which has no
+    /// list.
     pub outcome: Option<Outcome>,
-    /// Whether the message is known to be a lie.
+    /// Whether the message for the label is known to be a lie.
     pub mark: Trust,
-    /// Whether the labels below are shown.
+    /// Whether the labels that extend this one are shown.
     pub extent: Extent,
 }

@@ -1,5 +1,5 @@
-//! Draws the rows of an SVG tree. Each row is 24 units high, and a label is 28 units to the right of the label that it
-//! extends.
+//! Draws the rows of an SVG tree, one for each label. A row is 24 SVG units high. A label is 28 units to the right of
+//! the label that it extends.
 ghost use Rattle.std.specs.Prelude.{◌≡◌, ◌≤◌, ◌<◌, ◌^◌, ◌++◌, length, string_bytes, IfOk, OnOk};
 ghost use Rattle.show_tree.specs.Rows.{branch_way, branch_ways, kind, lines_end, lines_start, outcome_class, outline, reach, row, row_end, row_start, rows_from, shape, stub, way, widest, word_text};
 
@@ -9,7 +9,7 @@ use crate::words::put_said;
 use combine::Outcome;
 use std::alloc::{AllocError, Global};
 
-/// Returns the width of the widest row, in units from the place of the first label.
+/// Returns the width in SVG units of the widest row of these labels, or 0 if there are none.
 ///
 /// # Errors
 ///
@@ -25,7 +25,7 @@ pub(crate) fn widest(alloc: Global, nodes: &[Node]) -> Result<u128, AllocError>
     Ok(widest)
 }
 
-/// Returns the width of a row: 28 units for each general of its label, and 8 for each byte of its text.
+/// Returns the width of a row: 28 SVG units for each general of its label, and 8 for each byte of its text.
 fn reach(alloc: Global, node: &Node) -> Result<u128, AllocError>
     ensures width { IfOk result (λ width. width ≡ reach node.now) }
     ensures small { IfOk result (λ width. width < 2 ^ 100) }
@@ -35,7 +35,7 @@ fn reach(alloc: Global, node: &Node) -> Result<u128, AllocError>
     Ok(28 * node.label.len() as u128 + 8 * text.len() as u128)
 }
 
-/// Appends the rows of these labels.
+/// Appends a row for each of these labels.
 pub(crate) fn put_rows(
     out: &mut String,
     generals: u8,
@@ -50,7 +50,7 @@ pub(crate) fn put_rows(
     Ok(())
 }
 
-/// Appends the row of a label, `place` rows below the first.
+/// Appends the row of a label, below `place` other rows.
 fn put_row(
     out: &mut String,
     generals: u8,
@@ -73,7 +73,7 @@ fn put_row(
     Ok(())
 }
 
-/// Appends the start of the row that is `place` rows below the first.
+/// Appends the start of a row, below `place` other rows.
 #[tactic(auto, unfolding(crate::specs::Rows::row_start))]
 pub(crate) fn put_start(out: &mut String, place: u128) -> Result<(), AllocError>
     requires { place < 2 ^ 100 }
@@ -83,7 +83,7 @@ pub(crate) fn put_start(out: &mut String, place: u128) -> Result<(), AllocError>
     write!(out, "<g transform=\"translate(16 {top})\">")
 }
 
-/// Returns the start of the path that draws a row's lines.
+/// Returns the start of the path that draws the branches in a row.
 #[tactic(auto, unfolding(crate::specs::Rows::lines_start))]
 fn lines_start() -> &'static str
     ensures { result.now ≡ lines_start }
@@ -91,7 +91,7 @@ fn lines_start() -> &'static str
     "<path class=\"line\" d=\""
 }
 
-/// Returns the end of the path that draws a row's lines.
+/// Returns the end of the path that draws the branches in a row.
 #[tactic(auto, unfolding(crate::specs::Rows::lines_end))]
 fn lines_end() -> &'static str
     ensures { result.now ≡ lines_end }
@@ -107,7 +107,7 @@ pub(crate) fn row_end() -> &'static str
     "</g>\n"
 }
 
-/// Appends the text of a label, `left` units from the left.
+/// Appends the text of a label at the x coordinate `left`.
 #[tactic(auto, unfolding(crate::specs::Rows::word_text))]
 fn put_word(out: &mut String, left: usize, node: &Node) -> Result<(), AllocError>
     ensures { OnOk result (string_bytes out.new ≡ string_bytes out.old ++ word_text left node.now) }
@@ -129,7 +129,7 @@ fn put_branches(out: &mut String, generals: u8, general: u8, label: &[u8]) -> Re
     Ok(())
 }
 
-/// Appends the path data of one branch, `left` units from the left.
+/// Appends the path data of one branch at the x coordinate `left`, or nothing for a gap.
 fn put_branch(out: &mut String, left: usize, branch: Branch) -> Result<(), AllocError>
     ensures { OnOk result (string_bytes out.new ≡ string_bytes out.old ++ branch_way left branch) }
 {
@@ -141,7 +141,7 @@ fn put_branch(out: &mut String, left: usize, branch: Branch) -> Result<(), Alloc
     }
 }
 
-/// Appends path data that begins at the top of the row, `left` units from the left.
+/// Appends path data that begins at the top of a row at the x coordinate `left`, and goes on with `steps`.
 #[tactic(auto, unfolding(crate::specs::Rows::way))]
 fn put_way(out: &mut String, left: usize, steps: &str) -> Result<(), AllocError>
     ensures { OnOk result (string_bytes out.new ≡ string_bytes out.old ++ way left steps.now) }
@@ -149,7 +149,8 @@ fn put_way(out: &mut String, left: usize, steps: &str) -> Result<(), AllocError>
     write!(out, "M{left}{steps}")
 }
 
-/// Appends the path data that begins the branches to the labels below, if they are shown.
+/// Appends the path data with which the branches to the labels below begin. Appends nothing if these labels are not
+/// shown.
 #[tactic(auto, unfolding(crate::specs::Rows::stub))]
 fn put_stub(out: &mut String, left: usize, extent: Extent) -> Result<(), AllocError>
     ensures { OnOk result (string_bytes out.new ≡ string_bytes out.old ++ stub left extent) }
@@ -160,7 +161,7 @@ fn put_stub(out: &mut String, left: usize, extent: Extent) -> Result<(), AllocEr
     }
 }
 
-/// Appends the shape of a label.
+/// Appends the shape of a label at the x coordinate `left`: a circle, a square or a diamond.
 #[tactic(auto, unfolding(crate::specs::Rows::shape))]
 pub(crate) fn put_shape(
     out: &mut String,
@@ -179,7 +180,8 @@ pub(crate) fn put_shape(
     )
 }
 
-/// Returns the CSS class of a shape: whether its message is a lie.
+/// Returns the CSS class of a shape: `told` if no lie is known, `word` for a commander named as a traitor, and `lie`
+/// for a lie.
 fn kind(mark: Trust) -> &'static str
     ensures { result.now ≡ kind mark }
 {
@@ -190,7 +192,8 @@ fn kind(mark: Trust) -> &'static str
     }
 }
 
-/// Returns the second CSS class of a shape, if no order has a majority in its label's list.
+/// Returns the second CSS class of a shape, ` split`, if no order has a majority in its label's list, and otherwise
+/// an empty text.
 fn outcome_class(outcome: Option<Outcome>) -> &'static str
     ensures { result.now ≡ outcome_class outcome }
 {
@@ -200,7 +203,8 @@ fn outcome_class(outcome: Option<Outcome>) -> &'static str
     }
 }
 
-/// Returns the outline of a shape as path data: a circle, a square or a diamond.
+/// Returns the path data of a shape: a circle if no lie is known, a square for a commander named as a traitor, and a
+/// diamond for a lie.
 fn outline(mark: Trust) -> &'static str
     ensures { result.now ≡ outline mark }
 {

@@ -1,4 +1,4 @@
-//! Lists the labels of a lieutenant's tree that are shown, each before those that extend it.
+//! Lists the labels of a lieutenant's tree that a picture shows. Each label comes before the labels that extend it.
 ghost use Rattle.std.specs.Prelude.{◌≡◌, ◌≢◌, ◌≤◌, ◌<◌, ◌+◌, ◌++◌, length, true, IfOk, OnOk};
 ghost use Rattle.book.specs.Grammar.{is_place};
 ghost use Rattle.show_tree.specs.Shown.{deeper, is_open, nodes_below, nodes_of, ordered, root_mark, root_node, with_those};
@@ -9,8 +9,9 @@ use book::Heard;
 use label::Label;
 use std::alloc::{AllocError, Global};
 
-/// Returns the labels of a lieutenant's tree that are shown, with what is said of each. `traitors` are the generals
-/// named as traitors. Each label comes before those that extend it, and these are sorted by their next general.
+/// Returns the labels of a lieutenant's tree that a picture shows, with what it says about each. `traitors` are the
+/// generals named as traitors. Each label comes before the labels that extend it, and these are sorted by their next
+/// general.
 ///
 /// # Errors
 ///
@@ -38,7 +39,8 @@ pub fn nodes<H: Heard>(
     Ok(nodes)
 }
 
-/// Returns what is said of the commander's own message to a lieutenant. `traitors` are the generals named as traitors.
+/// Returns what a picture says about the commander's message to the lieutenant `general`. `traitors` are the generals
+/// named as traitors.
 pub fn root_node<H: Heard>(table: &H, traitors: &[u8], view: View, general: u8) -> Node
     requires general { general < (H.seen table.now).generals }
     requires lieutenant { general ≢ (H.seen table.now).commander }
@@ -58,8 +60,8 @@ pub fn root_node<H: Heard>(table: &H, traitors: &[u8], view: View, general: u8) 
     )
 }
 
-/// Returns whether the commander's own message is known to be a lie. `order` is the order that he was to send, if it is
-/// known.
+/// Returns whether the commander's message `told` is known to be a lie. `order` is the order that the commander was
+/// given, if it is known.
 fn root_mark(traitors: &[u8], order: Option<u32>, commander: u8, told: Option<u32>) -> Trust
     ensures { result ≡ root_mark traitors.now order commander told }
 {
@@ -78,7 +80,7 @@ fn root_mark(traitors: &[u8], order: Option<u32>, commander: u8, told: Option<u3
     }
 }
 
-/// Returns the view with the order that the commander was to send.
+/// Returns `view` with `order` as the order that the commander was given.
 pub fn ordered(order: u32, view: View) -> View
     ensures { result ≡ ordered order view }
 {
@@ -89,14 +91,14 @@ pub fn ordered(order: u32, view: View) -> View
     }
 }
 
-/// Checks whether the labels below a label are shown.
+/// Checks whether `extent` says that the labels that extend a label are shown.
 pub fn is_open(extent: Extent) -> bool
     ensures { result ≡ is_open extent }
 {
     matches!(extent, Extent::Open)
 }
 
-/// Returns the view for the labels one level further down.
+/// Returns the view for the labels one level further down: it shows one level less, if it shows any.
 pub fn deeper(view: View) -> View
     ensures { result ≡ deeper view }
 {
@@ -107,7 +109,8 @@ pub fn deeper(view: View) -> View
     }
 }
 
-/// Appends a label, and the labels below it if they are shown, with `relays` relays left.
+/// Appends a label, described by `node`, and the labels below it if they are shown. Up to `relays` further generals
+/// can extend it.
 #[cycle(pushes)]
 fn push_with<H: Heard>(
     nodes: &mut Vec<Node>,
@@ -132,7 +135,8 @@ fn push_with<H: Heard>(
     Ok(())
 }
 
-/// Appends the labels that extend this one, with `relays` relays left.
+/// Appends the labels that extend `label`, and the labels below them that are shown. Up to `relays` further generals
+/// can extend `label`.
 #[cycle(pushes)]
 fn push_below<H: Heard>(
     nodes: &mut Vec<Node>,

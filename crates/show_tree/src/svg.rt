@@ -9,12 +9,12 @@ use crate::shown_labels::nodes;
 use book::{Heard, decision};
 use std::alloc::{AllocError, Global};
 
-/// The least width of a picture in units, at which neither its heading nor its legend is cut.
+/// The least width of a picture in SVG units, which leaves room for the heading and the legend.
 const LEAST: u128 = 300;
 
-/// Returns the tree of what a lieutenant received, in SVG. Each label that is shown is a circle. A square is the
-/// message of a commander who is named as a traitor, and a diamond is a lie. The outline is dashed if no order has a
-/// majority.
+/// Returns the tree of what the lieutenant `general` received, in SVG. Each label that is shown is a circle. A square
+/// is the message of a commander who is named as a traitor, and a diamond is a lie. The outline is dashed if no order
+/// has a majority in the label's list.
 ///
 /// # Errors
 ///
@@ -44,7 +44,7 @@ pub fn tree_svg<H: Heard>(
     Ok(text)
 }
 
-/// Returns the text with which every picture begins.
+/// Returns the first attributes of every picture's `svg` element, from `<svg` on.
 #[tactic(auto, unfolding(crate::specs::Svg::start))]
 fn start() -> &'static str
     ensures { result.now ≡ start }
@@ -52,7 +52,7 @@ fn start() -> &'static str
     "<svg xmlns=\"http://www.w3.org/2000/svg\" role=\"graphics-document document\""
 }
 
-/// Appends the width and height of a picture.
+/// Appends the width and height of a picture in SVG units, as attributes.
 #[tactic(auto, unfolding(crate::specs::Svg::size))]
 fn put_size(out: &mut String, width: u128, height: u128) -> Result<(), AllocError>
     ensures { OnOk result (string_bytes out.new ≡ string_bytes out.old ++ size width height) }
@@ -60,7 +60,7 @@ fn put_size(out: &mut String, width: u128, height: u128) -> Result<(), AllocErro
     write!(out, " width=\"{width}\" height=\"{height}\"")
 }
 
-/// Appends the view box of a picture, which has the same units as its size, and ends the opening tag.
+/// Appends the view box of a picture, `width` by `height` SVG units, and ends the opening tag.
 #[tactic(auto, unfolding(crate::specs::Svg::view_box))]
 fn put_view_box(out: &mut String, width: u128, height: u128) -> Result<(), AllocError>
     ensures { OnOk result (string_bytes out.new ≡ string_bytes out.old ++ view_box width height) }
@@ -68,7 +68,7 @@ fn put_view_box(out: &mut String, width: u128, height: u128) -> Result<(), Alloc
     write!(out, " viewBox=\"0 0 {width} {height}\">")
 }
 
-/// Appends what comes before the rows: the title, the description, the style sheet and the heading.
+/// Appends the head of a picture: the title, the description, the style sheet and the heading.
 fn put_head(out: &mut String, marks: DrawnMarks, general: u8, order: u32) -> Result<(), AllocError>
     ensures { OnOk result (string_bytes out.new ≡ string_bytes out.old ++ head marks general order) }
 {
@@ -78,7 +78,7 @@ fn put_head(out: &mut String, marks: DrawnMarks, general: u8, order: u32) -> Res
     put_heading(out, general, order)
 }
 
-/// Appends the title: the lieutenant and his decision.
+/// Appends the title of a picture, such as `lieutenant 2 decides 1`.
 #[tactic(auto, unfolding(crate::specs::Svg::title))]
 fn put_title(out: &mut String, general: u8, order: u32) -> Result<(), AllocError>
     ensures { OnOk result (string_bytes out.new ≡ string_bytes out.old ++ title general order) }
@@ -86,7 +86,7 @@ fn put_title(out: &mut String, general: u8, order: u32) -> Result<(), AllocError
     write!(out, "<title>lieutenant {general} decides {order}</title>")
 }
 
-/// Appends the heading, a line above the rows with the lieutenant and his decision.
+/// Appends the heading above the rows, such as `lieutenant 2 decides 1`.
 #[tactic(auto, unfolding(crate::specs::Svg::heading))]
 fn put_heading(out: &mut String, general: u8, order: u32) -> Result<(), AllocError>
     ensures { OnOk result (string_bytes out.new ≡ string_bytes out.old ++ heading general order) }
@@ -97,7 +97,7 @@ fn put_heading(out: &mut String, general: u8, order: u32) -> Result<(), AllocErr
     )
 }
 
-/// Appends a description for readers who do not see the shapes. It explains each mark that occurs in the picture.
+/// Appends a description of the picture for readers who cannot see it. It explains each mark that occurs.
 fn put_key(out: &mut String, marks: DrawnMarks) -> Result<(), AllocError>
     ensures { OnOk result (string_bytes out.new ≡ string_bytes out.old ++ key marks) }
 {
@@ -106,7 +106,7 @@ fn put_key(out: &mut String, marks: DrawnMarks) -> Result<(), AllocError>
     out.push_str("</desc>\n")
 }
 
-/// Appends the meaning of each mark that occurs in the picture.
+/// Appends sentences that explain the marks that occur in the picture.
 fn put_shape_words(out: &mut String, marks: DrawnMarks) -> Result<(), AllocError>
     ensures { OnOk result (string_bytes out.new ≡ string_bytes out.old ++ shape_words marks) }
 {
@@ -125,7 +125,7 @@ fn put_shape_words(out: &mut String, marks: DrawnMarks) -> Result<(), AllocError
     Ok(())
 }
 
-/// Returns the start of the description, which explains the rows.
+/// Returns the start of a picture's description, which explains the rows.
 #[tactic(auto, unfolding(crate::specs::Svg::key_start))]
 fn key_start() -> &'static str
     ensures { result.now ≡ key_start }
@@ -133,7 +133,7 @@ fn key_start() -> &'static str
     "<desc>Each row is a label, below the label that it extends, with the order that he received for it."
 }
 
-/// Appends these words if the condition holds.
+/// Appends `words` if `stands` is true.
 #[tactic(auto, unfolding(crate::specs::Svg::said_if))]
 fn put_if(out: &mut String, stands: bool, words: &str) -> Result<(), AllocError>
     ensures { OnOk result (string_bytes out.new ≡ string_bytes out.old ++ said_if stands words.now) }
@@ -141,7 +141,7 @@ fn put_if(out: &mut String, stands: bool, words: &str) -> Result<(), AllocError>
     if stands { out.push_str(words) } else { Ok(()) }
 }
 
-/// Returns the style sheet of the shapes: for paper, and for a dark background if the reader prefers one.
+/// Returns the style sheet of a picture. The background is white, or dark if the reader prefers a dark one.
 #[tactic(auto, unfolding(crate::specs::Svg::look))]
 fn look() -> &'static str
     ensures { result.now ≡ look }
@@ -152,7 +152,7 @@ fn look() -> &'static str
      .told,.word,.lie{stroke:#eee}.told{fill:#111}}</style>\n"
 }
 
-/// Appends the rows and the legend.
+/// Appends the rows of the labels, and the legend.
 fn put_inside(out: &mut String, generals: u8, general: u8, nodes: &[Node]) -> Result<(), AllocError>
     ensures { OnOk result (string_bytes out.new ≡ string_bytes out.old ++ inside generals general nodes.now) }
 {

@@ -1,4 +1,4 @@
-//! Draws the tree of a lieutenant from the text of a message table.
+//! Draws the tree of the orders that a lieutenant received, from a message table or its text.
 ghost use Rattle.std.specs.Prelude.{◌≡◌, ◌≢◌, IfErr, IfOk, Err, string_bytes};
 ghost use Rattle.book.specs.Grammar.{table_told};
 ghost use Rattle.book.specs.declared.fault.TableError.TheVariants.{Memory};
@@ -13,8 +13,8 @@ use book::{Heard, TableError, read_table};
 use std::alloc::{AllocError, Global};
 
 /// Reads a message table from `text`, and draws the tree of the orders that the lieutenant `general` received, in the
-/// given form. `traitors` are the generals named as traitors in the picture. The result is empty if `general` is not a
-/// lieutenant of the table.
+/// given form. `traitors` are the generals named as traitors in the picture, and `view` says how much of the tree it
+/// shows. The result is empty if `general` is not a lieutenant of the table.
 ///
 /// # Errors
 ///
@@ -35,7 +35,7 @@ pub fn drawn(
 }
 
 /// Draws the tree of the orders that the lieutenant `general` received, in the given form. `table` has the messages,
-/// and `traitors` are the generals named as traitors in the picture. `view` says which part of the tree is drawn. The
+/// and `traitors` are the generals named as traitors in the picture. `view` says how much of the tree it shows. The
 /// result is empty if `general` is not a lieutenant of the table.
 ///
 /// # Errors

@@ -7,7 +7,7 @@ use crate::places::put_label;
 use combine::Outcome;
 use std::alloc::AllocError;
 
-/// Appends the name of a label, and what is said of it.
+/// Appends the name of a label and what a picture says about it, such as `0.2: received 1`.
 ///
 /// # Errors
 ///
@@ -20,7 +20,7 @@ pub fn put_said(out: &mut String, node: &Node) -> Result<(), AllocError>
     put_words(out, "; ", node)
 }
 
-/// Appends what is said of a label. `stop` separates the phrases.
+/// Appends what a picture says about a label, as phrases with `stop` between them.
 pub(crate) fn put_words(out: &mut String, stop: &str, node: &Node) -> Result<(), AllocError>
     ensures { OnOk result (string_bytes out.new ≡ string_bytes out.old ++ words stop.now node.now) }
 {
@@ -31,7 +31,7 @@ pub(crate) fn put_words(out: &mut String, stop: &str, node: &Node) -> Result<(),
     put_extent(out, stop, node.extent)
 }
 
-/// Appends the order that was received, if any.
+/// Appends the order that was received, such as `received 1` or `received nothing`.
 fn put_told(out: &mut String, told: Option<u32>) -> Result<(), AllocError>
     ensures { OnOk result (string_bytes out.new ≡ string_bytes out.old ++ told_words told) }
 {
@@ -41,7 +41,7 @@ fn put_told(out: &mut String, told: Option<u32>) -> Result<(), AllocError>
     }
 }
 
-/// Appends that a missing order counts as 0, if the label has no list.
+/// Appends that a missing order counts as 0, if the label has no list of orders to combine.
 fn put_counted(
     out: &mut String,
     outcome: Option<Outcome>,
@@ -55,7 +55,7 @@ fn put_counted(
     }
 }
 
-/// Appends the outcome of the list, if there is one.
+/// Appends the outcome of the list that is combined at a label. Appends nothing if the label has no list.
 fn put_outcome(out: &mut String, stop: &str, outcome: Option<Outcome>) -> Result<(), AllocError>
     ensures { OnOk result (string_bytes out.new ≡ string_bytes out.old ++ outcome_words stop.now outcome) }
 {
@@ -67,7 +67,8 @@ fn put_outcome(out: &mut String, stop: &str, outcome: Option<Outcome>) -> Result
     write!(out, "{stop}{head}{order}")
 }
 
-/// Appends that the message is a lie or that of a commander named as a traitor, if it is one.
+/// Appends that a message is a lie, or from a commander who is named as a traitor. Appends nothing if no lie is
+/// known.
 fn put_mark(out: &mut String, stop: &str, mark: Trust) -> Result<(), AllocError>
     ensures { OnOk result (string_bytes out.new ≡ string_bytes out.old ++ mark_words stop.now mark) }
 {
@@ -78,7 +79,7 @@ fn put_mark(out: &mut String, stop: &str, mark: Trust) -> Result<(), AllocError>
     }
 }
 
-/// Appends how many labels below are not shown and why, if there are any.
+/// Appends how many labels that extend a label are not shown, and why. Appends nothing if all are shown.
 fn put_extent(out: &mut String, stop: &str, extent: Extent) -> Result<(), AllocError>
     ensures { OnOk result (string_bytes out.new ≡ string_bytes out.old ++ extent_words stop.now extent) }
 {

@@ -1,4 +1,4 @@
--- Accesses that are entered in turn.
+-- The accesses of a trial, recorded one after another.
 use Rattle.std.proofs.Common.{◌≡◌, ◌∙◌, ℕ, zero, suc, ◌+◌, ◌-◌, ◌<◌, ◌≤◌, List, [], ◌∷◌, ◌++◌, append-nil, append_assoc, sym, ap, subst, length, refl, arith}
 use Rattle.std.proofs.lemmas.List.{append_cancel_left}
 use Rattle.insn.specs.declared.insn.Insn.{Insn}
@@ -21,7 +21,8 @@ use Rattle.trial.specs.Trial.{EntersFirst, ServesOne, accesses, accesses_in, acc
 use Rattle.trial.proofs.Owning.{one_more, serves_none}
 use Rattle.trial.proofs.Serving.{IsServing, leads_counts, served_from, serves_on}
 
--- the accesses that are entered, and those that are left, are the trial's, behind those of the board that it began with
+-- States that the accesses recorded so far and the further ones are the trial's, after those that the board had at
+-- the start.
 abbrev pub Enters : List Insn → List ℕ → Relay → RecordedBoard → Standing → RecordedBoard → Type 0
 Enters program context relay opened a b =
     b.ledger ++ accesses program context relay (length program - a.state.steps) b.words a.state
@@ -32,7 +33,8 @@ enters_from program context relay b a begun =
     let all : length program - 0 ≡ length program = omega arith in
     rw (begun) (ap (λ (k : ℕ). b.ledger ++ accesses program context relay k b.words (entry (empty_outbox relay))) all)
 
--- so far a run has served this general in this round alone, and entered just his accesses; the rest of its trial is to come
+-- States that so far a run has made only accesses of this general in this round, all recorded, and the further part
+-- of its trial is still to come.
 pub record IsServed (program : List Insn) (context : List ℕ) (shape : Shape) (opened : RecordedBoard) (a : Standing) (b : RecordedBoard) : Type 0 where
   pub serving : IsServing program context (oral shape) opened.words a b
   pub own : ServesOne shape opened b
@@ -46,7 +48,7 @@ served_none program context shape b a run same begun = record {
   entered = enters_from program context (oral shape) b a begun;
 }
 
--- a step that goes on
+-- Proves that a step without a request makes no access.
 pub accesses_next : (program : List Insn) (context : List ℕ) (relay : Relay) (k : ℕ) (words : List ℕ) (s t : State) → step program context relay s ≡ Next t
     → accesses program context relay (suc k) words s ≡ accesses program context relay k words t
 unfolding accesses
@@ -62,7 +64,7 @@ pub accesses_exits : (program : List Insn) (context : List ℕ) (relay : Relay) 
 unfolding accesses
 accesses_exits program context relay k words s out r0 e = ap (λ (o : Outcome). entered relay.shape (λ left u. accesses program context relay k left u) words o) e
 
--- so many steps on
+-- Proves that several steps without a request make no access.
 accesses_lead : (program : List Insn) (context : List ℕ) (relay : Relay) (n : ℕ) (words : List ℕ) (s t : State) → Leads program context relay n s t → t.steps < length program
     → accesses program context relay (length program - s.steps) words s ≡ accesses program context relay (length program - t.steps) words t
 accesses_lead program context relay zero words s t same lt = ap (λ (u : State). accesses program context relay (length program - u.steps) words u) same
@@ -74,7 +76,7 @@ accesses_lead program context relay (suc n) words s t (u, is, more) lt =
     ∙ (accesses_next program context relay (length program - u.steps) words s u is
     ∙ accesses_lead program context relay n words u t more lt)
 
--- the board enters one more
+-- Proves that the board records one more access.
 pub enters_on : (program : List Insn) (context : List ℕ) (shape : Shape) (limit : ℕ) (a v t : Standing) (opened b d : RecordedBoard) (opening : List ℕ) (request : Request) (words : List ℕ) (s : IsServing program context (oral shape) opening a b)
     → Enters program context (oral shape) opened a b → limit ≤ length program → Requests program context a.relay s.of_run.answers limit a.state request v → t.state ≡ resumed request words v.state
     → words ≡ reply b.words request → d.words ≡ next b.words request
@@ -105,7 +107,7 @@ enters_on program context shape limit a v t opened b d opening request words s a
     ∙ (append_assoc b.ledger (x ∷ []) rest
     ∙ (ap (λ (l : List Access). b.ledger ++ l) whole ∙ all)))
 
--- one more is served
+-- Proves that one more request is answered.
 pub served_more : (program code : List Insn) (context : List ℕ) (shape : Shape) (limit : ℕ) (a v t : Standing) (opened b d : RecordedBoard) (request : Request) (words : List ℕ) → IsServed program context shape opened a b
     → ((answers : List (List ℕ)) → Reached program context a.relay answers a.state → Requests program context a.relay answers limit a.state request v)
     → t.state ≡ resumed request words v.state
@@ -123,7 +125,7 @@ served_more program code context shape limit a v t opened b d request words s on
       entered = enters_on program context shape limit a v t opened b d opened.words request words s.serving s.entered few asks is answer left more;
     }
 
--- where the next one is not entered, those so far are a beginning
+-- Proves that if the next access is not recorded, those so far are the first of the trial.
 pub entered_first : (program : List Insn) (context : List ℕ) (shape : Shape) (opened b d : RecordedBoard) (a : Standing) → IsServed program context shape opened a b → d ≡ b
     → EntersFirst (accesses_on opened.words program context (oral shape)) opened d
 entered_first program context shape opened b d a s same =
@@ -138,7 +140,7 @@ entered_first program context shape opened b d a s same =
           (sym s.entered ∙ (ap (λ (l : List Access). l ++ rest) own.ledger ∙ append_assoc opened.ledger own.more rest));
     }
 
--- at the exit none is left
+-- Proves that no access is missing at the exit.
 pub entered_all : (program : List Insn) (context : List ℕ) (shape : Shape) (opening : List ℕ) (limit r0 : ℕ) (a new : Standing) (opened b : RecordedBoard) (s : IsServing program context (oral shape) opening a b)
     → Enters program context (oral shape) opened a b → limit ≤ length program → Exits program context a.relay s.of_run.answers limit a.state r0 new
     → b.ledger ≡ opened.ledger ++ accesses_on opened.words program context (oral shape)
@@ -155,13 +157,13 @@ entered_all program context shape opening limit r0 a new opened b s all few e =
     ∙ accesses_exits program context relay (most - e.last.steps - 1) b.words e.last new.state r0 exit) in
     sym (append-nil b.ledger) ∙ (ap (λ (l : List Access). b.ledger ++ l) (sym none) ∙ all)
 
--- of a board that has served none before they are all
+-- Proves that a board without earlier accesses has exactly those of the trial.
 pub all_entered : (program : List Insn) (context : List ℕ) (relay : Relay) (words : List ℕ) (b d : RecordedBoard) → b.words ≡ words → b.ledger ≡ []
     → d.ledger ≡ b.ledger ++ accesses_on b.words program context relay → d.ledger ≡ accesses_on words program context relay
 all_entered program context relay words b d opened none is =
     is ∙ (ap (λ (l : List Access). l ++ accesses_on b.words program context relay) none ∙ ap (λ (ws : List ℕ). accesses_on ws program context relay) opened)
 
--- the accesses in the context and the relay of a setting are those in the setting
+-- Proves that the accesses in a setting's context and relay are the accesses in the setting.
 pub entered_in : (program : List Insn) (s : Setting) (context words : List ℕ) (own : Shape) (ledger : List Access) → context ≡ context_in s → own ≡ s.shape → words ≡ s.board
     → ledger ≡ accesses_on words program context (oral own) → ledger ≡ accesses_in s program
 entered_in program s context words own ledger told shape board is =

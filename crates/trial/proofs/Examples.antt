@@ -1,4 +1,4 @@
--- One trial, and what some texts tell, computed in the kernel.
+-- One trial, and how some texts are read, computed in the kernel.
 use Rattle.std.specs.Prelude.{◌≡◌, ℕ, pos, List, [], ◌∷◌, ◌++◌, flat_map, codes, replicate, slice_set, Option, Some, Result, Ok, Err, refl}
 use Rattle.std.specs.Fmt.{digits}
 use Rattle.std.specs.Option.{option_map}
@@ -23,7 +23,7 @@ use Rattle.trial.specs.Setting.{Setting}
 use Rattle.trial.specs.Trial.{ending, trial_in}
 use Rattle.trial.specs.Lines.{label_lines, put_lines, word_lines, trial_lines}
 
--- general 2 of 5 in round 3: of the labels 0.1, 0.3 and 0.4 he took the orders 1, 0 and 1
+-- General 2 of 5 in round 3, who took the orders 1, 0 and 1 for the labels 0.1, 0.3 and 0.4.
 told : Setting
 told = record { shape = record { generals = 5; commander = 0; general = 2; round = 3 }; bound = 2; taken = 1 ∷ 0 ∷ 1 ∷ []; board = replicate 64 0 }
 
@@ -34,13 +34,14 @@ set r n = Arithmetic W64 Move r (Immediate (pos n))
 shown : List Insn
 shown = set 1 3 ∷ Call (pos 9) ∷ set 1 1 ∷ set 2 1 ∷ set 3 7 ∷ Call (pos 6) ∷ set 1 5 ∷ set 2 1 ∷ Call (pos 3) ∷ Exit ∷ []
 
--- 3 hears the truth of the labels on which he does not stand, 1 an order for that of rank 1, and a word is counted
+-- General 3 is sent the truth for the labels that he is not on, general 1 an order for the label with rank 1, and 1
+-- is added to a word.
 printed : option_map (trial_lines shown told) (trial_in told shown)
     ≡ Some (codes "accepted 10 instructions 10 units\nr0 0 steps 10\nput 0 3 1\nput 1 1 7\nput 2 3 1\nword 5 1\n")
 unfolding told set shown ending step labels context_bytes put_lines label_lines word_lines digits
 printed = refl
 
--- what a text of these lines tells
+-- The setting that a text of these lines is read as.
 read_of : List (List ℕ) → Option (Result Setting Flaw)
 read_of lines = option_map setting (parse_document (flat_map (λ l. l ++ 10 ∷ []) lines))
 
@@ -51,13 +52,13 @@ whole : read_of (codes "generals = 5" ∷ codes "bound = 2" ∷ codes "commander
 unfolding told read_of toml_on_literals setting number general over orders taken word words board labels
 whole = refl
 
--- what is not told is RETREAT
+-- An order that is not given is RETREAT.
 untold : read_of (codes "generals = 4" ∷ codes "bound = 1" ∷ codes "commander = 3" ∷ codes "general = 0" ∷ codes "round = 2" ∷ [])
     ≡ Some (Ok (record { shape = record { generals = 4; commander = 3; general = 0; round = 2 }; bound = 1; taken = 0 ∷ []; board = replicate 64 0 }))
 unfolding read_of toml_on_literals setting number general over orders taken word words board labels
 untold = refl
 
--- the commander has taken his own order in round 1, and relays nothing later
+-- In round 1 the commander has taken the order that he was given, and later he relays nothing.
 commanding : read_of (codes "generals = 4" ∷ codes "bound = 1" ∷ codes "commander = 3" ∷ codes "general = 3" ∷ codes "round = 1" ∷ codes "taken = [9]" ∷ [])
     ≡ Some (Ok (record { shape = record { generals = 4; commander = 3; general = 3; round = 1 }; bound = 1; taken = 9 ∷ []; board = replicate 64 0 }))
 unfolding read_of toml_on_literals setting number general over orders taken word words board labels
@@ -68,7 +69,7 @@ relays_nothing : read_of (codes "generals = 4" ∷ codes "bound = 1" ∷ codes "
 unfolding read_of stops toml_on_literals setting number general over orders taken word words board labels
 relays_nothing = refl
 
--- an unknown key comes first, the least of several by bytes
+-- An unknown key is reported first: of several, the least by bytes.
 least_key : read_of (codes "zeta = 1" ∷ codes "alpha = 2" ∷ codes "generals = 14" ∷ []) ≡ Some (Err (unknown (codes "alpha")))
 unfolding read_of toml_on_literals setting number general over orders taken word words board labels
 least_key = refl
@@ -77,7 +78,7 @@ too_many : read_of (codes "generals = 14" ∷ []) ≡ stops faults.Range (places
 unfolding read_of stops toml_on_literals setting number general over orders taken word words board labels
 too_many = refl
 
--- there is no such general, below 0 and past the last alike
+-- Numbers below 0 and beyond the last general are both reported as no such general.
 below_the_first : read_of (codes "generals = 4" ∷ codes "bound = 1" ∷ codes "commander = -1" ∷ []) ≡ stops faults.General (places.Key names.Commander)
 unfolding read_of stops toml_on_literals setting number general over orders taken word words board labels
 below_the_first = refl
@@ -86,7 +87,7 @@ past_the_last : read_of (codes "generals = 4" ∷ codes "bound = 1" ∷ codes "c
 unfolding read_of stops toml_on_literals setting number general over orders taken word words board labels
 past_the_last = refl
 
--- there is one round more than the bound
+-- A round beyond the bound + 1 does not exist.
 no_round : read_of (codes "generals = 4" ∷ codes "bound = 1" ∷ codes "commander = 0" ∷ codes "general = 1" ∷ codes "round = 3" ∷ []) ≡ stops faults.Range (places.Key names.Round)
 unfolding read_of stops toml_on_literals setting number general over orders taken word words board labels
 no_round = refl
@@ -95,7 +96,7 @@ roundless : read_of (codes "generals = 4" ∷ codes "bound = 1" ∷ codes "comma
 unfolding read_of stops toml_on_literals setting number general over orders taken word words board labels
 roundless = refl
 
--- of the orders taken first their number, then each in its turn
+-- The number of orders is checked first, and then each order in turn.
 too_long : read_of (codes "generals = 4" ∷ codes "bound = 1" ∷ codes "commander = 0" ∷ codes "general = 1" ∷ codes "round = 2" ∷ codes "taken = [true, 2]" ∷ [])
     ≡ stops faults.Range (places.Key names.Taken)
 unfolding read_of stops toml_on_literals setting number general over orders taken word words board labels
@@ -115,7 +116,7 @@ no_list : read_of (codes "generals = 5" ∷ codes "bound = 2" ∷ codes "command
 unfolding read_of stops toml_on_literals setting number general over orders taken word words board labels
 no_list = refl
 
--- a board of two words
+-- A board with two words given.
 counted : read_of (codes "generals = 4" ∷ codes "bound = 1" ∷ codes "commander = 0" ∷ codes "general = 3" ∷ codes "round = 1" ∷ codes "board = [0, 7]" ∷ [])
     ≡ Some (Ok (record { shape = record { generals = 4; commander = 0; general = 3; round = 1 }; bound = 1; taken = []; board = slice_set (replicate 64 0) 1 7 }))
 unfolding read_of toml_on_literals setting number general over orders taken word words board labels

@@ -1,4 +1,4 @@
--- A step exits where an exit stands alone, with the number in r0.
+-- A step exits exactly at an exit instruction, with the number in r0.
 use Rattle.std.proofs.Common.{◌≡◌, ℕ, ℤ, pos, negsuc, List, Bool, true, false, refl, subst, ap}
 use Rattle.std.specs.Prelude.{Option, Some, None, Result, Ok, Err, if◌then◌else◌, ◌==◌, slice_set, ◌+◌}
 use Rattle.insn.specs.declared.insn.Insn.{Insn}
@@ -58,7 +58,7 @@ executed_exit context relay (i.Call helper) s =
     (record { trapped = λ cause. tt; asks = λ request. tt; puts = λ r0 choice. tt; enters = λ r0 entry. tt }) _
 executed_exit context relay i.Exit s = exited_exit s (value_at s.registers 0) refl
 
--- what stands at the unit of a state whose step does not trap
+-- States what is known of the instruction at a state's unit if its step does not trap.
 abbrev pub Standing : Option Insn → State → Outcome → Type 0
 Standing o s (Next t) = (insn : Insn) × (o ≡ Some insn)
 Standing o s (Ask request t) = (insn : Insn) × (o ≡ Some insn)

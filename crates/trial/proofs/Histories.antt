@@ -1,4 +1,4 @@
--- A trial, access by access.
+-- A trial as a sequence of accesses.
 use Rattle.std.proofs.Common.{◌≡◌, ◌∙◌, ℕ, zero, suc, List, [], ◌∷◌, Some, None, false, length, ap, refl, sym, subst, arith}
 use Rattle.std.specs.Prelude.{IsSome}
 use Rattle.insn.specs.declared.insn.Insn.{Insn}
@@ -22,12 +22,12 @@ use Rattle.trial.specs.Trial.{Ending, accesses, served, ending, trial_on}
 use Rattle.trial.proofs.Entering.{accesses_asks, accesses_exits, accesses_next}
 use Rattle.trial.specs.Laws.{IsGeneralsRun}
 
--- where it stands, as an activation without a patience
+-- The state of the trial as an activation without patience.
 abbrev here : List Insn → List ℕ → Relay → State → Activation
 here program context relay s =
     record { program = program; context = context; relay = relay; patience = None; state = s; over = false }
 
--- the accesses within k steps from a state, to the exit
+-- The accesses of at most k steps from a state to the exit.
 record Went (program : List Insn) (context : List ℕ) (relay : Relay) (k : ℕ) (words : List ℕ) (s : State) (e : Ending) : Type 0 where
   ledger : List Access
   whole : ledger ≡ accesses program context relay k words s
@@ -44,7 +44,7 @@ own_more : (general round : ℕ) (a : Access) (ledger : List Access) → (a.gene
 own_more general round a ledger h all zero d lt = h
 own_more general round a ledger h all (suc k) d lt = all k d (omega arith)
 
--- a step that goes on
+-- Proves the claim for a step without a request.
 went_next : (program : List Insn) (context : List ℕ) (relay : Relay) (k : ℕ) (words : List ℕ) (s t : State) (e : Ending) → step program context relay s ≡ Next t → Went program context relay k words t e → Went program context relay (suc k) words s e
 went_next program context relay k words s t e is w = record {
   ledger = w.ledger;
@@ -59,7 +59,7 @@ went_next program context relay k words s t e is w = record {
   left = w.left;
 }
 
--- a request, and its answer
+-- Proves the claim for a request and its answer.
 went_asks : (program : List Insn) (context : List ℕ) (relay : Relay) (k : ℕ) (words : List ℕ) (s t : State) (request : Request) (e : Ending) → IsBoard words → step program context relay s ≡ Ask request t
     → Went program context relay k (next words request) (resumed request (reply words request) t) e → Went program context relay (suc k) words s e
 went_asks program context relay k words s t request e board is w =
@@ -120,7 +120,7 @@ trial_is_run words program context relay e board is =
       left = w.left;
     }
 
--- a safe state's trial ends
+-- Proves that the trial from a safe state ends.
 ends : (program : List Insn) (context : List ℕ) (relay : Relay) (k : ℕ) (words : List ℕ) (s : State) → IsBoard words → IsSafe program context relay k s → IsSome (ending program context relay k words s)
 unfolding ending IsSafe
 ends program context relay zero words s board safe = absurd safe

@@ -1,4 +1,4 @@
--- A board that serves one general in one round alone.
+-- A board that only one general uses, in one round.
 use Rattle.std.proofs.Common.{◌≡◌, ℕ, List, [], ◌∷◌, ◌++◌, All, refl, append-nil, append_assoc, sym, ◌∙◌, ap, subst}
 use Rattle.std.proofs.lemmas.List.Elements.{All-nil, All-push}
 use Rattle.label.specs.declared.shape.Shape.{Shape}
@@ -7,7 +7,7 @@ use Rattle.board.specs.Ledger.{RecordedBoard}
 use Rattle.trial.specs.Setting.{Setting}
 use Rattle.trial.specs.Trial.{IsOfOne, ServesOne}
 
--- none so far
+-- Proves the claim before the first access.
 pub serves_none : (shape : Shape) (b : RecordedBoard) → ServesOne shape b b
 serves_none shape b = record {
   opening = refl;
@@ -16,7 +16,7 @@ serves_none shape b = record {
   own = All-nil (λ (a : Access). (a.general ≡ shape.general) × (a.round ≡ shape.round));
 }
 
--- one more access of his
+-- Proves that one more access of this general keeps the claim.
 pub one_more : (shape : Shape) (old b d : RecordedBoard) (a : Access) → ServesOne shape old b → d.opening ≡ b.opening → d.ledger ≡ b.ledger ++ a ∷ [] → a.general ≡ shape.general → a.round ≡ shape.round → ServesOne shape old d
 one_more shape old b d a one opened entered general round =
     let P : Access → Type 0 = λ x. (x.general ≡ shape.general) × (x.round ≡ shape.round) in
@@ -27,7 +27,7 @@ one_more shape old b d a one opened entered general round =
       own = All-push P one.more a one.own (general, round);
     }
 
--- of a board that has served none before it is all
+-- Proves that on a board without earlier accesses, all accesses are his.
 pub all_of_one : (shape : Shape) (words : List ℕ) (b d : RecordedBoard) → b.opening ≡ words → b.ledger ≡ [] → ServesOne shape b d → IsOfOne shape words d
 all_of_one shape words b d opened none one =
     let P : Access → Type 0 = λ a. (a.general ≡ shape.general) × (a.round ≡ shape.round) in

@@ -1,4 +1,4 @@
--- Where a call sets no place of a label that is relayed, its reason holds.
+-- If a call sets no place for a label that is relayed, the reason in its note is true.
 use Rattle.std.proofs.Common.{◌≡◌, ◌≢◌, ◌∙◌, ℕ, zero, suc, ◌+◌, ◌-◌, ◌<◌, min, List, [], ◌∷◌, ◌++◌, length, Bool, true, false, cond, ◌||◌, refl, sym, ap, arith}
 use Rattle.std.specs.Prelude.{Some, None, if◌then◌else◌, ◌==◌, ◌&&◌, slice_get}
 use Rattle.std.proofs.lemmas.Bool.{eq-eqb, ne_eqb}
@@ -14,7 +14,7 @@ use Rattle.semantics.proofs.PlacesLaws.{row_from, rows_from, sets, sets_in, sets
 use Rattle.outbox.proofs.Writing.{sets_along, sets_one}
 use Rattle.trial.specs.TraceLaws.{ReasonsHold}
 
--- where no row is set, a label's row is not
+-- Proves that if no row is set, the row of a given label is not set.
 none_here : (choice : Choice) (s : Shape) (a i : ℕ) (ws : List (List ℕ)) (w : List ℕ) → sets_in choice (rows_from s a ws) ≡ 0 → slice_get ws i ≡ Some w
     → sets choice (row_from (a + i) 0 (receivers s w)) ≡ 0
 none_here choice s a i [] w none at = absurd (let h = at in cc)
@@ -34,7 +34,7 @@ unset : (b : Bool) → cond {A = ℕ} b 1 0 ≡ 0 → b ≡ false
 unset true e = absurd (let no : ⊥ = omega arith in no)
 unset false e = refl
 
--- a general who is not among those to whom a label goes is the sender, or stands on it
+-- Proves that a general whom a label does not go to is its sender, or is on it.
 stands_on : (s : Shape) (w : List ℕ) (receiver : ℕ) → receiver < s.generals → receiver ≢ s.general → on (receivers s w) receiver ≡ false → on w receiver ≡ true
 stands_on s w receiver below other absent = by (on w receiver) refl
   where
@@ -47,7 +47,7 @@ stands_on s w receiver below other absent = by (on w receiver) refl
         let clash : true ≡ false = sym heard ∙ absent in
         absurd cc
 
--- where a choice goes by the receiver in the row of a label
+-- Proves the claim for a choice that depends on the receiver in the label's row.
 by_receiver : (r : Relay) (choice : Choice) (receiver order rank : ℕ) (label : List ℕ)
     → ((b n : ℕ) → choice (record { rank = rank; number = b; receiver = n }) ≡ (if n == receiver then Some order else None))
     → slice_get (relayed r) rank ≡ Some label → places_set r choice ≡ 0 → receiver < r.shape.generals → receiver ≢ r.shape.general → on label receiver ≡ true

@@ -1,11 +1,11 @@
--- What is written of a call that sends a row of orders.
+-- The reason in the note on a call of `send_row`.
 use Rattle.std.proofs.Common.{◌≡◌, ℕ, ◌<◌, ◌≤◌, List, ◌++◌, length, Bool, false, arith, get_or, inl, inr, ◌⊎◌}
 use Rattle.std.proofs.lemmas.Option.{slice_get_cases}
 use Rattle.std.specs.Prelude.{None, Some, codes, slice_get, ◌==◌}
 use Rattle.semantics.specs.Relay.{Relay, relayed}
 use Rattle.trial.specs.Slips.{dotted, no_row}
 
--- what is written of a label that nobody receives, if there is one of this rank
+-- Proves what is written if there is a label with this rank that nobody receives.
 unreceived_by : (r : Relay) (rank orders : ℕ) (old new text : List ℕ)
     → (((x : List ℕ) × (rank < length (relayed r)) × (slice_get (relayed r) rank ≡ Some x) × (get_or (relayed r) rank x ≡ x)) ⊎ ((length (relayed r) ≤ rank) × (slice_get (relayed r) rank ≡ None)))
     → rank < length (relayed r) → (orders == 0) ≡ false → ((label : List ℕ) → slice_get (relayed r) rank ≡ Some label → text ≡ dotted label)

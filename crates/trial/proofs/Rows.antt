@@ -1,4 +1,4 @@
--- One line more.
+-- Lines of a trial's result, one more at a time.
 use Rattle.std.proofs.Common.{◌≡◌, ℕ, zero, suc, ◌+◌, ◌≤◌, List, [], ◌∷◌, ◌++◌, Some, take, length, sym, ap, ◌∙◌, arith, append_assoc, append-nil}
 use Rattle.std.specs.Prelude.{map, option_map}
 use Rattle.std.proofs.lemmas.List.{take_all}
@@ -12,7 +12,7 @@ use Rattle.trial.specs.Lines.{put_line, label_lines}
 use Rattle.std.specs.Prelude.{slice_get}
 use Rattle.std.specs.List.{flat_map, enumerate_from}
 
--- the lines of a list with their places, up to one more
+-- Proves that the lines of a list with indices grow by one line.
 grows : {A : Type 0} (line : ℕ × A → List ℕ) (n i : ℕ) (xs : List A) (x : A) → slice_get xs i ≡ Some x
     → flat_map line (enumerate_from n (take (suc i) xs)) ≡ flat_map line (enumerate_from n (take i xs)) ++ line (n + i, x)
 grows line n i [] x there = absurd (let h = there in cc)
@@ -26,7 +26,7 @@ grows line n (suc i) (y ∷ xs) x there =
     ∙ (sym (append_assoc (line (n, y)) (flat_map line (enumerate_from (n + 1) (take i xs))) (line (n + 1 + i, x)))
     ∙ ap (λ (k : ℕ). (line (n, y) ++ flat_map line (enumerate_from (n + 1) (take i xs))) ++ line (k, x)) e)
 
--- the text so far, and the line of one more
+-- Proves that the text so far grows by the line of one more element.
 pub lines_next : {A : Type 0} (line : ℕ × A → List ℕ) (i : ℕ) (xs : List A) (x : A) (old text new : List ℕ) → slice_get xs i ≡ Some x
     → text ≡ old ++ flat_map line (enumerate_from 0 (take i xs)) → new ≡ text ++ line (i, x) → new ≡ old ++ flat_map line (enumerate_from 0 (take (i + 1) xs))
 lines_next line i xs x old text new there so_far more =
@@ -38,17 +38,17 @@ lines_next line i xs x old text new there so_far more =
     ∙ (ap (λ ls. old ++ ls) (sym (grows line 0 i xs x there))
     ∙ ap (λ (k : ℕ). old ++ flat_map line (enumerate_from 0 (take k xs))) e))))
 
--- all of them
+-- Proves that the text is complete after the last element.
 pub lines_all : {A : Type 0} (line : ℕ × A → List ℕ) (i : ℕ) (xs : List A) (old text : List ℕ) → length xs ≤ i
     → text ≡ old ++ flat_map line (enumerate_from 0 (take i xs)) → text ≡ old ++ flat_map line (enumerate_from 0 xs)
 lines_all line i xs old text past so_far = so_far ∙ ap (λ ys. old ++ flat_map line (enumerate_from 0 ys)) (take_all i xs past)
 
--- a label that is relayed is one of the shape
+-- Proves that a relayed label is one of the relay's labels.
 of_shape : (kind : Kind) (s : Shape) (rank : ℕ) (label : List ℕ) → slice_get (labels_told kind s) rank ≡ Some label → slice_get (relay s) rank ≡ Some label
 of_shape Oral s rank label at = at
 of_shape (Signed held) s rank label at = absurd (let h = at in cc)
 
--- all receivers of a label: the order at each one's place is what the outbox tells him
+-- Proves that after the last receiver of a label, each line has the order that the outbox contains for him.
 pub label_all : (o : Contents) (rank i : ℕ) (names label : List ℕ) (old text : List ℕ) → IsShape o.relay.shape → slice_get (map (receivers o.relay.shape) (relayed o.relay)) rank ≡ Some names → length names ≤ i
     → text ≡ old ++ flat_map (λ p. put_line rank p (order_at o.relay o.rows rank p)) (take i names) → slice_get (relayed o.relay) rank ≡ Some label → text ≡ old ++ label_lines o rank label
 unfolding label_lines

@@ -1,4 +1,4 @@
--- Requests that are served in turn.
+-- Requests of a trial, answered one after another.
 use Rattle.std.proofs.Common.{◌≡◌, ℕ, zero, suc, ◌+◌, ◌-◌, ◌<◌, ◌≤◌, List, Some, sym, ap, subst, ◌∙◌, length, arith}
 use Rattle.insn.specs.declared.insn.Insn.{Insn}
 use Rattle.semantics.specs.Relay.{Relay}
@@ -17,7 +17,7 @@ use Rattle.machine.specs.Advance.{IsOfRun, Leads, Requests, Exits}
 use Rattle.machine.proofs.AdvanceLemmas.{fewer}
 use Rattle.trial.specs.Trial.{served, ending, trial_on}
 
--- what is left of the trial on a board of these words, from where the program stands and the board's words now
+-- States what the further part of a trial leads to, from the program's state and the board's words.
 pub record IsServing (program : List Insn) (context : List ℕ) (relay : Relay) (words : List ℕ) (a : Standing) (b : RecordedBoard) : Type 0 where
   pub of_run : IsOfRun program context a
   pub relay_kept : a.relay ≡ relay
@@ -32,7 +32,7 @@ served_from program context relay words a b run same opened begun =
       rest = (let all : length program - 0 ≡ length program = omega arith in rw (begun, opened) (ap (λ (k : ℕ). ending program context relay k words (entry (empty_outbox relay))) all));
     }
 
--- a step that goes on
+-- Proves that a step without a request leads to the same end.
 ending_next : (program : List Insn) (context : List ℕ) (relay : Relay) (k : ℕ) (words : List ℕ) (s t : State) → step program context relay s ≡ Next t
     → ending program context relay (suc k) words s ≡ ending program context relay k words t
 unfolding ending
@@ -55,7 +55,7 @@ leads_counts program context relay (suc n) s t (next, is, more) =
     let ih = leads_counts program context relay n next t more in
     omega arith
 
--- so many steps on
+-- Proves that several steps without a request lead to the same end.
 ending_leads : (program : List Insn) (context : List ℕ) (relay : Relay) (n : ℕ) (words : List ℕ) (s t : State) → Leads program context relay n s t → t.steps < length program
     → ending program context relay (length program - s.steps) words s ≡ ending program context relay (length program - t.steps) words t
 ending_leads program context relay zero words s t same lt = ap (λ (u : State). ending program context relay (length program - u.steps) words u) same
@@ -67,7 +67,7 @@ ending_leads program context relay (suc n) words s t (u, is, more) lt =
     ∙ (ending_next program context relay (length program - u.steps) words s u is
     ∙ ending_leads program context relay n words u t more lt)
 
--- it goes on from the board's answer
+-- Proves that the trial continues after the board's answer.
 pub serves_on : (program : List Insn) (context : List ℕ) (relay : Relay) (opening : List ℕ) (limit : ℕ) (a v t : Standing) (b d : RecordedBoard) (request : Request) (words : List ℕ) (s : IsServing program context relay opening a b) → limit ≤ length program →
     Requests program context a.relay s.of_run.answers limit a.state request v → t.relay ≡ v.relay → t.state ≡ resumed request words v.state → IsOfRun program context t →
     words ≡ reply b.words request → d.words ≡ next b.words request → IsServing program context relay opening t d
@@ -93,7 +93,7 @@ serves_on program context relay opening limit a v t b d request words s few r sa
           );
     }
 
--- each answer leaves fewer steps
+-- Proves that after each answer fewer steps remain.
 pub goes_further : (program : List Insn) (context : List ℕ) (limit : ℕ) (answers : List (List ℕ)) (a v t : Standing) (request : Request) (words : List ℕ) → IsSound program → IsOfRun program context a →
     Requests program context a.relay answers limit a.state request v → t.state ≡ resumed request words v.state → length program - t.state.steps < length program - a.state.steps
 goes_further program context limit answers a v t request words sound run r is =
@@ -103,7 +103,7 @@ goes_further program context limit answers a v t request words sound run r is =
     let same : t.state.steps ≡ v.state.steps = ap (λ (u : State). u.steps) is ∙ resumed_counts request words v.state in
     omega arith
 
--- the exit
+-- Proves the claim at the exit.
 pub served_to : (program : List Insn) (context : List ℕ) (relay : Relay) (opening : List ℕ) (limit r0 : ℕ) (a new : Standing) (b : RecordedBoard) (s : IsServing program context relay opening a b) → limit ≤ length program →
     Exits program context a.relay s.of_run.answers limit a.state r0 new → trial_on opening program context relay ≡ Some (record { r0 = r0; state = new.state; words = b.words })
 served_to program context relay opening limit r0 a new b s few e =

@@ -1,4 +1,4 @@
--- A step that is a call that puts nothing, and the lines of such steps.
+-- Steps that are calls which set no order, and the notes on such steps.
 use Rattle.std.proofs.Common.{◌≡◌, ◌∙◌, ℕ, zero, suc, ◌+◌, ◌-◌, ◌<◌, List, [], ◌++◌, length, Bool, refl, sym, ap, subst, append_assoc, append-nil, arith}
 use Rattle.std.proofs.lemmas.Bool.{ne_eqb}
 use Rattle.std.specs.Prelude.{Option, Some, None, Result, Ok, Err, String, if◌then◌else◌, ◌==◌}
@@ -24,7 +24,7 @@ use Rattle.trial.specs.declared.reasons.HelperCall.{HelperCall}
 
 -- ---- r0 says whether a call set a place
 
--- what an outcome says of the line that is told
+-- States what the outcome of a step means for the note.
 abbrev Says : List (String Global) → Relay → Option HelperCall → List ℕ → Outcome → Type 0
 Says places r call line (Next t) = line ≡ where_said places r (number_at t 0) call
 Says places r call line (Ask request t) = line ≡ []
@@ -34,7 +34,7 @@ Says places r call line (Trap cause) = Unit {0}
 abbrev made : State → Helper → HelperCall
 made s helper = record { unit = s.unit; helper = helper; first = number_at s 1; second = number_at s 2; third = number_at s 3 }
 
--- nothing is told of what is no call that puts orders
+-- Proves that there is no note on a step that is not a call of a helper that sets orders.
 quiet : (places : List (String Global)) (r : Relay) (call : Option HelperCall) → ((r0 : ℕ) → where_said places r r0 call ≡ []) → (o : Outcome) → Says places r call [] o
 quiet places r call none (Next t) = sym (none (number_at t 0))
 quiet places r call none (Ask request t) = refl
@@ -72,7 +72,7 @@ step_says places program context r s insn o here is =
 
 -- ---- one step
 
--- no instruction was found there
+-- Proves that no instruction was found at the unit.
 pub none_here : (program own : List Insn) (unit at : ℕ) → None ≡ instruction_at own at → own ≡ program → at ≡ unit → instruction_at program unit ≡ None
 none_here program own unit at none same is =
     sym (none ∙ (ap (λ (p : List Insn). instruction_at p at) same ∙ ap (λ (u : ℕ). instruction_at program u) is))
@@ -113,7 +113,7 @@ slip_exit places program context r rest words s t insn r0 old new here is same =
 
 -- ---- the whole run
 
--- what is left to be told, from where the program stands and the board's words
+-- States which notes the further run adds, from the program's state and the board's words.
 pub record IsSlipped (places : List (String Global)) (opening : List ℕ) (program : List Insn) (context : List ℕ) (relay : Relay) (a : Standing) (b : RecordedBoard) (text : List ℕ) : Type 0 where
   pub of_run : IsOfRun program context a
   pub relay_kept : a.relay ≡ relay
@@ -134,7 +134,7 @@ slips_suc : (places : List (String Global)) (program : List Insn) (context : Lis
 unfolding slips_from
 slips_suc places program context relay k words s = refl
 
--- the lines of so many steps are those of the step and of one fewer
+-- Proves that the notes on k + 1 steps are the note on this step and those on k further steps.
 left_over : (places : List (String Global)) (opening : List ℕ) (program : List Insn) (context : List ℕ) (relay : Relay) (k : ℕ) (a : Standing) (b : RecordedBoard) (text : List ℕ) → IsSlipped places opening program context relay a b text
     → length program - a.state.steps ≡ suc k → text ++ slips_at places program context a.relay (λ left t. slips_from places program context relay k left t) b.words a.state ≡ slips_on places opening program context relay
 left_over places opening program context relay k a b text h is =

@@ -1,4 +1,4 @@
--- One step of the machine, and the lines of a step.
+-- One step of the machine, and its line in a trace.
 use Rattle.std.proofs.Common.{◌≡◌, ◌∙◌, ℕ, zero, suc, ◌+◌, ◌-◌, ◌<◌, ◌≤◌, List, [], ◌++◌, length, refl, sym, ap, subst, append_assoc, arith}
 use Rattle.std.specs.Prelude.{Option, Some, None, codes}
 use Rattle.insn.specs.declared.insn.Insn.{Insn}
@@ -29,7 +29,7 @@ counts program context relay (suc n) s t (u, is, more) =
     let rest : t.steps ≡ u.steps + n = counts program context relay n u t more in
     omega arith
 
--- so few steps that there is none
+-- Proves that a run with no step left stays in its state.
 none_led : (program : List Insn) (context : List ℕ) (relay : Relay) (n : ℕ) (s t : State) → Leads program context relay n s t → t.steps < s.steps + 1 → s ≡ t
 none_led program context relay zero s t leads few = leads
 none_led program context relay (suc n) s t leads few =
@@ -93,14 +93,14 @@ regroup_asks old b a q n r mid new begun is =
     let same : ((((old ++ b) ++ a) ++ q) ++ n) ++ r ≡ old ++ (b ++ (a ++ (q ++ (n ++ r)))) = simp append_assoc in
     sym same ∙ (ap (λ (m : List ℕ). (((m ++ a) ++ q) ++ n) ++ r) (sym begun) ∙ ap (λ (l : List ℕ). l ++ r) (sym is))
 
--- lines that grew in two or three parts
+-- Proves that a text which grew two or three times grew by all these parts.
 pub grew_twice : (new middle old b n : List ℕ) → new ≡ middle ++ n → middle ≡ old ++ b → new ≡ (old ++ b) ++ n
 grew_twice new middle old b n last first = last ∙ ap (λ (l : List ℕ). l ++ n) first
 
 pub grew_thrice : (new second first old b a n : List ℕ) → new ≡ second ++ n → second ≡ first ++ a → first ≡ old ++ b → new ≡ ((old ++ b) ++ a) ++ n
 grew_thrice new second first old b a n last middle begun = last ∙ ap (λ (l : List ℕ). l ++ n) (middle ∙ ap (λ (l : List ℕ). l ++ a) begun)
 
--- the instruction that was found stands there
+-- Proves that the instruction found is the one at the unit.
 pub found_here : (program own : List Insn) (unit at : ℕ) (i : Insn) → Some i ≡ instruction_at own at → own ≡ program → at ≡ unit → instruction_at program unit ≡ Some i
 found_here program own unit at i found same is =
     sym (found ∙ (ap (λ (p : List Insn). instruction_at p at) same ∙ ap (λ (u : ℕ). instruction_at program u) is))
@@ -133,7 +133,7 @@ told_exit program context relay rest words s t i r0 old new here steps is =
 
 -- ---- the whole run
 
--- what is left to be told, from where the program stands and the board's words
+-- States which lines the further run adds, from the program's state and the board's words.
 pub record IsTold (opening : List ℕ) (program : List Insn) (context : List ℕ) (relay : Relay) (a : Standing) (b : RecordedBoard) (text : List ℕ) : Type 0 where
   pub of_run : IsOfRun program context a
   pub relay_kept : a.relay ≡ relay
@@ -154,7 +154,7 @@ lines_suc : (program : List Insn) (context : List ℕ) (relay : Relay) (k : ℕ)
 unfolding lines_from
 lines_suc program context relay k words s = refl
 
--- the lines of so many steps are those of the step and of one fewer
+-- Proves that the lines of k + 1 steps are the line of this step and those of k further steps.
 left_over : (opening : List ℕ) (program : List Insn) (context : List ℕ) (relay : Relay) (k : ℕ) (a : Standing) (b : RecordedBoard) (text : List ℕ) → IsTold opening program context relay a b text
     → length program - a.state.steps ≡ suc k → text ++ told_at program context a.relay (λ left t. lines_from program context relay k left t) b.words a.state ≡ trace_on opening program context relay
 left_over opening program context relay k a b text h is =

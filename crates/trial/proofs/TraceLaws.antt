@@ -1,4 +1,4 @@
--- The trace from a state on is the run from there.
+-- The trace from a state on describes the run from that state.
 use Rattle.std.proofs.Common.{◌≡◌, ◌∙◌, ℕ, zero, suc, ◌+◌, List, [], ◌∷◌, ◌++◌, length, refl, sym, ap, subst, append_assoc, append-nil, arith, flat_map}
 use Rattle.std.specs.Prelude.{Some, codes, decimal}
 use Rattle.std.specs.Fmt.{digits}
@@ -25,7 +25,7 @@ use Rattle.trial.specs.TraceLaws.{AreLinesOf, IsRun, IsTraceOf, LeadsTo}
 use Rattle.trial.proofs.ExitLemmas.{stands}
 use Rattle.trial.proofs.StepLemmas.{told_by}
 
--- the law from a state on
+-- States the law for the run from a state on.
 record Traces (program : List Insn) (context : List ℕ) (relay : Relay) (words : List ℕ) (s : State) (e : Ending) (text : List ℕ) : Type 0 where
   later : List State
   run : IsRun program context relay words s later e

@@ -1,4 +1,4 @@
--- A program's trial in a setting, and its lines.
+-- The trial of a program in a setting, and its lines.
 use Rattle.std.proofs.Common.{◌≡◌, ℕ, List, ◌++◌, Option, Some, length, sym, ap, ◌∙◌}
 use Rattle.insn.specs.declared.insn.Insn.{Insn}
 use Rattle.insn.specs.Program.{slots_of}
@@ -10,7 +10,7 @@ use Rattle.trial.specs.Trial.{Ending, trial_in, trial_on}
 use Rattle.trial.specs.Lines.{first_lines, put_lines, word_lines}
 use Rattle.trial.specs.Answers.{IsTried}
 
--- the trial in the context and the relay of a setting is the trial in the setting
+-- Proves that the trial in a setting's context and relay is the trial in the setting.
 pub ends_in : (program : List Insn) (s : Setting) (context words : List ℕ) (own : Shape) (ended : Option Ending) → context ≡ context_in s → own ≡ s.shape → words ≡ s.board
     → trial_on words program context (oral own) ≡ ended → trial_in s program ≡ ended
 ends_in program s context words own ended told shape board is =

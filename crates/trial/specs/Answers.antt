@@ -1,4 +1,4 @@
--- The answers to a setting's text and to a program (own).
+-- What a setting's text is read as, and what is printed for a trial (own).
 use Rattle.std.specs.Prelude.{ℕ, ◌≡◌, List, Option, Some, None, Result, Ok, Err}
 use Rattle.toml.specs.Data.{Members}
 use Rattle.toml.specs.Parse.{parse_document}
@@ -11,19 +11,19 @@ use Rattle.trial.specs.Setting.{Setting}
 use Rattle.trial.specs.Trial.{Ending, trial_in}
 use Rattle.trial.specs.Lines.{trial_lines}
 
--- States that the result is the setting of the table, or its first fault. A text that is not TOML has the error `Toml`
--- and no other. Reading may also fail because memory runs out.
+-- States that the result of reading a TOML table is its setting, or its first fault. A text that is not TOML has no
+-- table and only the error `Toml`. Any reading may also fail because memory runs out.
 abbrev pub Reads : Option Members → Result Setting SettingError → Type 0
 Reads None (Err errors.Toml) = Unit {0}
 Reads None (Err errors.Memory) = Unit {0}
 Reads None _ = ⊥
 Reads (Some ms) r = Gives (λ s. s) r (setting ms)
 
--- States that the text is read as this setting.
+-- States that reading the text gives this setting.
 abbrev pub Tells : List ℕ → Setting → Type 0
 Tells text s = Reads (parse_document text) (Ok s)
 
--- States that the program's trial in the setting ends, and that `lines` are its lines.
+-- States that the trial of the program in the setting ends, and that `lines` is what is printed for it.
 abbrev pub IsTried : List Insn → Setting → List ℕ → Type 0
 IsTried program s lines =
     (e : Ending) × (trial_in s program ≡ Some e) × (lines ≡ trial_lines program s e)

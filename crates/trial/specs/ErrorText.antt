@@ -1,4 +1,4 @@
--- The texts of the faults of a setting.
+-- The texts of a setting's errors.
 use Rattle.std.specs.Prelude.{ℕ, List, ◌++◌, codes, string_bytes}
 use Rattle.std.specs.Fmt.{decimal}
 use Rattle.trial.specs.Names.{text_of}
@@ -9,20 +9,20 @@ use Rattle.trial.specs.declared.fault.SettingFault.TheVariants.{Key, Kind, Range
 use Rattle.trial.specs.declared.fault.SettingError.{SettingError}
 use Rattle.trial.specs.declared.fault.SettingError.TheVariants.{Toml, Unknown, At, Memory}
 
--- Returns the text of a place: the key, with an index in brackets for an order or a word.
+-- Returns the text of a place: a key, or an element of an array such as `taken[2]`.
 abbrev pub place_text : SettingPlace → List ℕ
 place_text (place.Key name) = text_of name
 place_text (place.Order index) = codes "taken[" ++ decimal index ++ codes "]"
 place_text (place.Word index) = codes "board[" ++ decimal index ++ codes "]"
 
--- Returns the two-character code of a fault.
+-- Returns the code of a fault, from K2 to K5.
 abbrev pub code_of : SettingFault → List ℕ
 code_of Key = codes "K2"
 code_of Kind = codes "K3"
 code_of Range = codes "K4"
 code_of General = codes "K5"
 
--- Returns the text of an error: the code and the place.
+-- Returns the text of an error: its code and, if it has one, its place.
 abbrev pub told : SettingError → List ℕ
 told Toml = codes "K1"
 told (Unknown key) = codes "K2 " ++ string_bytes key

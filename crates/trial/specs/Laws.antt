@@ -1,4 +1,4 @@
--- What holds for every trial. Each statement is the contract of a function of this crate.
+-- Laws of trials. Each is the contract of a function of this crate.
 use Rattle.std.specs.Prelude.{ℕ, suc, ◌≡◌, ◌<◌, ◌≤◌, false, List, None, Some, length, map, IsSome}
 use Rattle.insn.specs.declared.insn.Insn.{Insn}
 use Rattle.label.specs.Relay.{relay}
@@ -15,8 +15,9 @@ use Rattle.round.specs.Contexts.{context_of, took}
 use Rattle.trial.specs.Setting.{Setting, IsTold, context_in}
 use Rattle.trial.specs.Trial.{Ending, accesses_on, trial_on}
 
--- States that a trial is a general's run of the program. The run makes exactly the trial's accesses, and its next step
--- is this exit. The accesses are a legal history of a board with these words, and result in the words at the end.
+-- States that a trial is a general's run of the program. The run makes exactly the trial's accesses, and then exits
+-- as the trial does. The accesses are legal: each answer is the board's. They change the board's words to those at
+-- the end.
 pub record IsGeneralsRun (words : List ℕ) (program : List Insn) (context : List ℕ) (relay : Relay)
     (e : Ending) : Type 0 where
   pub ledger : List Access
@@ -41,13 +42,14 @@ TrialsEnd =
     → IsBoard words → IsSound program → IsContext context → IsRelay relay →
     IsSome (trial_on words program context relay)
 
--- Returns the setting of a general in the round after these closed rounds, with a board of these words.
+-- Returns the setting of general g of the scenario s in the round after the closed rounds `before`, with these words
+-- on the board.
 abbrev pub setting_of : Scenario → List (List Letter) → ℕ → List ℕ → Setting
 setting_of s before g words =
     let shape = shape_of s g (suc (length before)) in
     record { shape = shape; bound = s.bound; taken = map (took s before g) (relay shape); board = words }
 
--- States that the context of a general in a campaign is the context of a setting.
+-- States that every context of a general in a campaign is the context of a setting, which a trial can use.
 pub record ContextsAreSettings : Type 0 where
   pub possible : (s : Scenario) (before : List (List Letter)) (g : ℕ) (words : List ℕ)
       → IsScenario s → g < s.generals → length before ≤ s.bound →

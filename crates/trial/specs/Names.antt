@@ -4,7 +4,7 @@ use Rattle.std.specs.Str.{bytes_eq}
 use Rattle.trial.specs.declared.place.SettingKey.{SettingKey}
 use Rattle.trial.specs.declared.place.SettingKey.TheVariants.{Generals, Bound, Commander, General, Round, Taken, Board}
 
--- Returns the text of a key.
+-- Returns the text of a key, as it is written in a setting.
 abbrev pub text_of : SettingKey → List ℕ
 text_of Generals = codes "generals"
 text_of Bound = codes "bound"
@@ -14,7 +14,7 @@ text_of Round = codes "round"
 text_of Taken = codes "taken"
 text_of Board = codes "board"
 
--- Checks whether the text is a key of a setting.
+-- Returns whether the text is one of the keys that a setting may have.
 abbrev pub is_key : List ℕ → Bool
 is_key k =
     bytes_eq k (codes "generals") || (bytes_eq k (codes "bound") || (bytes_eq k (codes "commander") ||

@@ -1,5 +1,4 @@
--- A trace describes a trial, and the reasons of calls that put nothing hold. Each statement is the contract of a
--- function of this crate.
+-- Laws of traces, and of the reasons why calls set no order. Each is the contract of a function of this crate.
 use Rattle.std.specs.Prelude.{ℕ, ◌≡◌, ◌≢◌, ◌<◌, ◌++◌, true, List, [], ◌∷◌, Some, codes, decimal, flat_map, length, slice_get}
 use Rattle.insn.specs.declared.insn.Insn.{Insn}
 use Rattle.insn.specs.Program.{instruction_at}
@@ -15,35 +14,35 @@ use Rattle.trial.specs.Trial.{Ending, trial_on}
 use Rattle.trial.specs.StepLines.{before_told}
 use Rattle.trial.specs.Trace.{trace_on}
 
--- States that the outcome leads to this state, and that the board's words change from the first to the second. The
--- board replies to a request at once.
+-- States that the outcome of a step leads to the state t, and changes the board's words from `words` to `left`. The
+-- board answers a request at once.
 abbrev pub LeadsTo : List ℕ → List ℕ → State → Outcome → Type 0
 LeadsTo words left t (Next u) = (t ≡ u) × (left ≡ words)
 LeadsTo words left t (Ask request u) = (t ≡ resumed request (reply words request) u) × (left ≡ next words request)
 LeadsTo words left t outcome = ⊥
 
--- States that a run from the state `s`, on a board of these words, goes through the states of the list and has this
--- ending.
+-- States that a run from the state s, with these words on the board, goes through the states of the list in order,
+-- and then ends with e.
 abbrev pub IsRun : List Insn → List ℕ → Relay → List ℕ → State → List State → Ending → Type 0
 IsRun program context relay words s [] e = (step program context relay s ≡ Exit e.r0 e.state) × (e.words ≡ words)
 IsRun program context relay words s (t ∷ ts) e =
     (left : List ℕ) × LeadsTo words left t (step program context relay s) × IsRun program context relay left t ts e
 
--- States that the line begins with the text of this state: its unit, the instruction there, and what the instruction
--- reads.
+-- States that a line of a trace begins with a state's unit, the instruction there, and what it reads.
 pub record Tells (program : List Insn) (s : State) (line : List ℕ) : Type 0 where
   pub insn : Insn
   pub stands : instruction_at program s.unit ≡ Some insn
   pub behind : List ℕ
   pub split : line ≡ before_told s.unit s.registers insn ++ behind
 
--- States that there is a line for each state, and that the last line shows the exit with this value.
+-- States that there is a line for each state in order, and that the last line shows the exit with the value r0.
 abbrev pub AreLinesOf : List Insn → ℕ → State → List State → List (List ℕ) → Type 0
 AreLinesOf program r0 s [] (line ∷ []) = line ≡ decimal s.unit ++ codes " exit ; r0 " ++ decimal r0
 AreLinesOf program r0 s (t ∷ ts) (line ∷ lines) = Tells program s line × AreLinesOf program r0 t ts lines
 AreLinesOf program r0 s later lines = ⊥
 
--- States that the text has a line for each step of the run with this ending. Each line shows the state before its step.
+-- States that the text has a line for each step of the run that ends with e. Each line shows the state before its
+-- step.
 pub record IsTraceOf (words : List ℕ) (program : List Insn) (context : List ℕ) (relay : Relay) (e : Ending)
     (text : List ℕ) : Type 0 where
   pub later : List State
@@ -53,15 +52,15 @@ pub record IsTraceOf (words : List ℕ) (program : List Insn) (context : List �
   pub counted : length lines ≡ e.state.steps
   pub whole : text ≡ flat_map (λ line. line ++ codes "\n") lines
 
--- States that the trace of a program whose trial ends is the trace of that trial.
+-- States that the trace of a program whose trial ends is a trace of that trial.
 abbrev pub TracesAreTrials : Type 0
 TracesAreTrials =
     (words : List ℕ) (program : List Insn) (context : List ℕ) (relay : Relay) (e : Ending)
     → trial_on words program context relay ≡ Some e →
     IsTraceOf words program context relay e (trace_on words program context relay)
 
--- States why a call sets no place although its label is relayed. If the receiver is another general, he is on the
--- label. If orders were given for the label's row, the label goes to nobody.
+-- States that the reasons why calls set no order, although the label is relayed, are true. If the receiver is another
+-- existing general, he is on the label. If `send_row` was passed orders, nobody receives the label.
 pub record ReasonsHold : Type 0 where
   pub place : (r : Relay) (rank receiver order : ℕ) (label : List ℕ) → slice_get (relayed r) rank ≡ Some label →
       places_set r (at_place rank receiver order) ≡ 0

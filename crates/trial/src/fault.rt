@@ -1,4 +1,4 @@
-//! Why a text is not a setting: the fault of a key, and its text.
+//! Defines why a text is not a setting: the first fault and its place.
 ghost use Rattle.std.specs.Prelude.{◌≡◌};
 ghost use Rattle.trial.specs.declared.fault.SettingError.TheVariants.{Memory};
 
@@ -6,7 +6,7 @@ use crate::place::SettingPlace;
 use std::alloc::{AllocError, AllocFailed};
 use std::fmt;
 
-/// What is wrong at a place of a setting.
+/// What is wrong at a place of a setting. Its text is a code from K2 to K5.
 #[derive(Clone, Copy, Debug, PartialEq, Eq)]
 pub enum SettingFault {
     /// The key is missing.
@@ -35,16 +35,16 @@ impl fmt::Display for SettingFault {
     }
 }
 
-/// The first fault of a text that is not a setting, or too little memory.
+/// Why no setting could be read from a text: the text's first fault, or that memory ran out.
 #[derive(Debug, Drop)]
 pub enum SettingError {
     /// K1: the text is not TOML.
     Toml,
-    /// K2: this key is not a key of a setting.
+    /// K2: the text has this key, which is not a key of a setting.
     Unknown(String),
-    /// K2 to K5: a place has this fault.
+    /// K2 to K5: the setting has this fault at this place.
     At(SettingFault, SettingPlace),
-    /// There is not enough memory.
+    /// Memory ran out.
     Memory,
 }
 

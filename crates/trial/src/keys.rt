@@ -1,4 +1,4 @@
-//! Reads the values of single keys of a setting, and checks them in order.
+//! Reads and checks the keys of a setting, and their values.
 ghost use Rattle.std.specs.Prelude.{◌≡◌, ◌≢◌, ℕ, ◌≤◌, ◌<◌, option_map, IfOk, IfErr, MatchResult};
 ghost use Rattle.toml.specs.Data.{get_member};
 ghost use Rattle.toml.specs.View.{view, table_view, items_view};
@@ -12,7 +12,7 @@ use crate::place::{SettingKey, SettingPlace};
 use std::alloc::{AllocError, Global};
 use toml::{Table, Value};
 
-/// Checks whether the text is a key of a setting.
+/// Checks whether the text is one of the seven keys that a setting may have.
 fn is_key(key: &str) -> bool
     ensures { result ≡ is_key key.now }
 {
@@ -25,7 +25,7 @@ fn is_key(key: &str) -> bool
         || key == "board"
 }
 
-/// Returns the first key of the table that is not a key of a setting.
+/// Returns the first key of the table that is not a key of a setting, or `None` if all are.
 fn first_unknown(table: &Table) -> Option<&str>
     ensures { option_map (λ k. k.now) result ≡ first_unknown (table_view table.now) }
 {
@@ -37,7 +37,7 @@ fn first_unknown(table: &Table) -> Option<&str>
     None
 }
 
-/// Returns the error of an unknown key, or `Memory` if there was no memory for the key's text.
+/// Returns the error `Unknown` with this key. If copying the key failed, returns `Memory`.
 fn unknown(key: Result<String, AllocError>) -> SettingError
     ensures { MatchResult key (λ key. result ≡ Unknown key) (λ _. result ≡ Memory) }
 {
@@ -47,11 +47,11 @@ fn unknown(key: Result<String, AllocError>) -> SettingError
     }
 }
 
-/// Checks that there is no unknown key.
+/// Checks that no unknown key was found: `key` is the first one, or `None`.
 ///
 /// # Errors
 ///
-/// Fails with `Unknown` and the key, or with `Memory` if there is no memory for its text.
+/// Fails with `Unknown` and the key if there is one, or with `Memory` if there is no memory for its text.
 fn refuse_unknown(alloc: Global, key: Option<&str>) -> Result<(), SettingError>
     ensures { Gives (λ _. tt) result (known (option_map (λ k. k.now) key.entry)) }
 {
@@ -72,18 +72,18 @@ pub fn keys_are_known(alloc: Global, table: &Table) -> Result<(), SettingError>
     refuse_unknown(alloc, first_unknown(table))
 }
 
-/// Returns the value of a key, if the table has it.
+/// Returns the value of the key `name`, or `None` if the table does not have it.
 pub fn at<'a>(table: &'a Table, name: SettingKey) -> Option<&'a Value>
     ensures { option_map (λ v. view v.now) result ≡ get_member (text_of name) (table_view table.now) }
 {
     table.get(name.text())
 }
 
-/// Returns the value of a required key.
+/// Returns the value of a required key, where `value` is `None` if the setting does not have the key.
 ///
 /// # Errors
 ///
-/// Fails with `Key` at this place if the key is missing.
+/// Fails with `Key` at `place` if the key is missing.
 fn required(place: SettingPlace, value: Option<&Value>) -> Result<&Value, SettingError>
     ensures value { Gives (λ v. view v.now) result (required place (option_map (λ v. view v.now) value.entry)) }
     ensures fault { IfErr result (λ e. e ≢ Memory) }
@@ -94,11 +94,11 @@ fn required(place: SettingPlace, value: Option<&Value>) -> Result<&Value, Settin
     }
 }
 
-/// Returns the integer that a value is.
+/// Returns the integer that a TOML value holds.
 ///
 /// # Errors
 ///
-/// Fails with `Kind` at this place if the value is not an integer.
+/// Fails with `Kind` at `place` if the value is not an integer.
 pub fn whole(place: SettingPlace, value: &Value) -> Result<i64, SettingError>
     ensures value { Gives (λ z. z) result (whole place (view value.now)) }
     ensures fault { IfErr result (λ e. e ≢ Memory) }
@@ -109,11 +109,11 @@ pub fn whole(place: SettingPlace, value: &Value) -> Result<i64, SettingError>
     }
 }
 
-/// Returns the elements of an array.
+/// Returns the elements of a TOML array.
 ///
 /// # Errors
 ///
-/// Fails with `Kind` at this place if the value is not an array.
+/// Fails with `Kind` at `place` if the value is not an array.
 pub fn elements(place: SettingPlace, value: &Value) -> Result<&[Value], SettingError>
     ensures value { Gives (λ a. items_view a.now) result (elements place (view value.now)) }
     ensures fault { IfErr result (λ e. e ≢ Memory) }
@@ -124,11 +124,11 @@ pub fn elements(place: SettingPlace, value: &Value) -> Result<&[Value], SettingE
     }
 }
 
-/// Returns an integer that is not negative.
+/// Returns an integer as a number from 0 on.
 ///
 /// # Errors
 ///
-/// Fails with this fault at this place if the integer is negative.
+/// Fails with `fault` at `place` if the integer is negative.
 pub fn natural(fault: SettingFault, place: SettingPlace, integer: i64) -> Result<u64, SettingError>
     ensures value { Gives (λ n. n) result (natural fault place integer) }
     ensures fault { IfErr result (λ e. e ≢ Memory) }
@@ -139,13 +139,13 @@ pub fn natural(fault: SettingFault, place: SettingPlace, integer: i64) -> Result
     }
 }
 
-/// Returns the number at a required key, which must be from `least` to `most`. `value` is the key's value, or `None` if
-/// the setting does not have the key. `place` is the key's place, which errors name.
+/// Returns the number at a required key, which must be from `least` to `most`. `value` is the key's value, or `None`
+/// if the setting does not have the key. Errors name `place`.
 ///
 /// # Errors
 ///
-/// Fails at this place with `Key` if the key is missing, with `Kind` if the value is not an integer, and with `Range`
-/// if it is out of its range.
+/// Fails with `Key` if the key is missing, with `Kind` if the value is not an integer, and with `Range` if it is not
+/// from `least` to `most`.
 #[tactic(auto, unfolding(crate::specs::Checks::number))]
 pub fn number(
     place: SettingPlace,
@@ -166,12 +166,13 @@ pub fn number(
     Err(SettingError::At(SettingFault::Range, place))
 }
 
-/// Returns the general of a required key, a number below `generals`.
+/// Returns the general at a required key, a number below `generals`. `value` is the key's value, or `None` if the
+/// setting does not have the key. Errors name `place`.
 ///
 /// # Errors
 ///
-/// Fails at this place with `Key` if the key is missing, with `Kind` if the value is not an integer, and with `General`
-/// if there is no such general.
+/// Fails with `Key` if the key is missing, with `Kind` if the value is not an integer, and with `General` if there is
+/// no such general.
 #[tactic(auto, unfolding(crate::specs::Checks::general))]
 pub fn general(
     place: SettingPlace,

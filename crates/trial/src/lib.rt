@@ -1,4 +1,5 @@
-//! Trials: runs one program in one round by itself, in a setting that a text gives, and describes the run step by step.
+//! Runs trials: one program in one round, in a setting that a text describes (the general, the orders that he took,
+//! and the board). Reports the result, or traces the run step by step.
 #![tactic(auto)]
 
 mod fault;

@@ -12,9 +12,9 @@ use outbox::Outbox;
 use std::alloc::{AllocError, Global};
 use verify::Verified;
 
-/// Runs a program in a setting, and returns the lines of its trial. They contain the program's size, its exit value,
-/// and how many steps it took. Then follow the orders that it put, by the rank of the label and the receiver, and the
-/// words of the board that changed.
+/// Runs a program in a setting, and returns the result as lines: the program's size, its exit value and its number of
+/// steps. Then follow the orders that it set, sorted by the label's rank and the receiver, and the words of the board
+/// that changed.
 ///
 /// # Errors
 ///
@@ -26,7 +26,8 @@ pub fn tried(alloc: Global, verified: &Verified, setting: &Setting) -> Result<St
     lines(alloc, verified.program(), &setting.board(), &exited)
 }
 
-/// Returns the lines of a run that has ended, with a board that opened with these words.
+/// Returns the result of a run as lines: size, exit value, steps, orders, and the words of the board that differ from
+/// `opening`.
 fn lines(
     alloc: Global,
     program: &Program,
@@ -54,8 +55,7 @@ fn lines(
     Ok(text)
 }
 
-/// Returns the lines with the size of the program in instructions and units, its exit value, and how many steps it
-/// took.
+/// Returns two lines: the size of the program in instructions and units, and its exit value and number of steps.
 ///
 /// # Errors
 ///
@@ -72,7 +72,7 @@ pub fn first_lines(
     format!(in alloc; "accepted {instructions} instructions {units} units\nr0 {r0} steps {steps}\n")
 }
 
-/// Appends a line for each order that was put.
+/// Appends a line for each order that the program set, such as `put 0 3 1` (rank, receiver, order).
 fn push_orders(alloc: Global, text: &mut String, outbox: &Outbox) -> Result<(), AllocError>
     ensures { OnOk result (string_bytes text.new ≡ string_bytes text.old ++ put_lines outbox.now) }
 {
@@ -82,7 +82,7 @@ fn push_orders(alloc: Global, text: &mut String, outbox: &Outbox) -> Result<(), 
     Ok(())
 }
 
-/// Appends the lines of the orders for the label of this rank.
+/// Appends a line for each order that was set for the label with rank `rank`.
 fn push_label(
     alloc: Global,
     text: &mut String,
@@ -104,7 +104,7 @@ fn push_label(
     Ok(())
 }
 
-/// Appends the line of one order.
+/// Appends the line of one order, such as `put 0 3 1` (rank, receiver, order).
 fn push_order(
     alloc: Global,
     text: &mut String,
@@ -118,7 +118,7 @@ fn push_order(
     text.push_str(line.as_str())
 }
 
-/// Appends a line for each word that has changed.
+/// Appends a line for each word of the board that differs from its value in `opening`, such as `word 5 7`.
 fn push_words(
     alloc: Global,
     text: &mut String,
@@ -134,7 +134,8 @@ fn push_words(
     Ok(())
 }
 
-/// Appends the line of one word, unless it has not changed.
+/// Appends the line of one word of the board, such as `word 5 7` (index, value). Appends nothing if it equals
+/// `before`.
 fn push_word(
     alloc: Global,
     text: &mut String,

@@ -1,4 +1,4 @@
-//! Reads the orders that a general took, the key `taken` of a setting.
+//! Reads the key `taken` of a setting: the orders that a general took for the labels that he relays.
 ghost use Rattle.std.specs.Prelude.{◌≡◌, ◌≢◌, ◌≤◌, IfOk, IfErr, length, replicate, option_map};
 ghost use Rattle.toml.specs.View.{view, items_view};
 ghost use Rattle.trial.specs.Checks.{over, set_order, are_few, orders, taken};
@@ -11,11 +11,12 @@ use crate::place::{SettingKey, SettingPlace};
 use std::alloc::Global;
 use toml::Value;
 
-/// Returns the orders of a list, by rank. Labels without an item have order 0.
+/// Returns the orders of a TOML array, by the rank of the label. The last labels have order 0 if the array is too
+/// short.
 ///
 /// # Errors
 ///
-/// Fails with the first fault of an order, at its index, or with `Memory` if it runs out of memory.
+/// Fails with the first fault of an element, at its index, or with `Memory` if memory runs out.
 fn listed(alloc: Global, labels: u32, values: &[Value]) -> Result<Vec<u32>, SettingError>
     requires { length values.now ≤ labels }
     ensures gives { Gives (λ orders. orders.items) result
@@ -34,11 +35,11 @@ fn listed(alloc: Global, labels: u32, values: &[Value]) -> Result<Vec<u32>, Sett
     Ok(orders)
 }
 
-/// Checks that there are at most as many orders as labels.
+/// Checks that the key `taken` has no more orders (`number`) than there are labels.
 ///
 /// # Errors
 ///
-/// Fails with `Range` at `taken` if there are more.
+/// Fails with `Range` at `taken` if it has more.
 fn are_few(labels: u32, number: usize) -> Result<(), SettingError>
     ensures value { Gives (λ _. tt) result (are_few labels number) }
     ensures few { IfOk result (λ _. number ≤ labels) }
@@ -50,11 +51,11 @@ fn are_few(labels: u32, number: usize) -> Result<(), SettingError>
     Ok(())
 }
 
-/// Returns the order for each label, by rank. Labels without an item have order 0.
+/// Returns the order for each of the labels, by rank. The last labels have order 0 if the array is too short.
 ///
 /// # Errors
 ///
-/// Fails with the first fault of the list, or with `Memory` if it runs out of memory.
+/// Fails with the first fault of the array, or with `Memory` if memory runs out.
 #[tactic(auto, unfolding(crate::specs::Checks::orders), using(crate::proofs::Items::items_length_view))]
 fn orders(alloc: Global, labels: u32, values: &[Value]) -> Result<Vec<u32>, SettingError>
     ensures gives { Gives (λ orders. orders.items) result (orders labels (items_view values.now)) }
@@ -64,11 +65,12 @@ fn orders(alloc: Global, labels: u32, values: &[Value]) -> Result<Vec<u32>, Sett
     listed(alloc, labels, values)
 }
 
-/// Returns the order that was taken for each of the labels, by rank. It is 0, which is RETREAT, for labels without one.
+/// Returns the order that the general took for each of the `labels` labels, by rank. It is 0, RETREAT, for all if the
+/// key is missing, and for the last labels if the array is too short.
 ///
 /// # Errors
 ///
-/// Fails with the first fault of the key, or with `Memory` if it runs out of memory.
+/// Fails with the first fault of the key `taken`, or with `Memory` if memory runs out.
 #[tactic(auto, unfolding(crate::specs::Checks::taken))]
 pub fn taken(alloc: Global, labels: u32, value: Option<&Value>) -> Result<Vec<u32>, SettingError>
     ensures gives { Gives (λ orders. orders.items) result (taken labels (option_map (λ v. view v.now) value.entry)) }

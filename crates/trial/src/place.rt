@@ -1,4 +1,4 @@
-//! The places of a setting: its keys, and the items of its lists.
+//! Defines where in a setting something is: at a key, or at an element of an array.
 ghost use Rattle.std.specs.Prelude.{◌≡◌};
 ghost use Rattle.trial.specs.Names.{text_of};
 
@@ -33,14 +33,14 @@ impl SettingKey {
     }
 }
 
-/// A place in a setting, at which a fault is reported.
+/// A place in a setting. Errors name it, such as `taken[2]`.
 #[derive(Clone, Copy, Debug, PartialEq, Eq)]
 pub enum SettingPlace {
-    /// The value of a key.
+    /// The value of this key.
     Key(SettingKey),
-    /// An item of the list of orders, counted from 0.
+    /// The element of the array `taken` with this index.
     Order(usize),
-    /// A word of the board, counted from 0.
+    /// The element of the array `board` with this index.
     Word(usize),
 }
 

@@ -1,4 +1,4 @@
-//! Runs a program to its exit, with a board of its own.
+//! Runs one program to its exit, with a board that no other program uses.
 ghost use Rattle.std.specs.Prelude.{◌≡◌, ◌++◌, Some, IfOk, OnErr};
 ghost use Rattle.label.specs.Relay.{IsShape};
 ghost use Rattle.semantics.specs.Relay.{oral};
@@ -16,18 +16,18 @@ use outbox::Outbox;
 use std::alloc::{AllocError, Global};
 use verify::Verified;
 
-/// The result of a program's run: it has exited.
+/// The result of a program's run, which has ended with its exit.
 #[derive(Drop)]
 pub struct Exited {
     /// The value with which the program exited.
     pub r0: u64,
-    /// The machine at its end, with its outbox.
+    /// The machine at the end of the run. It contains the outbox.
     pub activation: Machine,
     /// The board at the end of the run.
     pub board: Board,
 }
 
-/// Runs a program in a setting to its exit.
+/// Runs a program in a setting until it exits, and returns how it ended.
 ///
 /// # Errors
 ///
@@ -48,8 +48,8 @@ pub fn run_in(alloc: Global, verified: &Verified, setting: &Setting) -> Result<E
     run(alloc, verified, &context, setting.shape(), setting.board())
 }
 
-/// Runs a program to its exit in this context, with an empty outbox of this shape, and a board that opens with these
-/// words.
+/// Runs a program in this context until it exits. `shape` gives the number of generals, the commander, the program's
+/// general and the round, and `words` are the board's words at the start. The outbox is empty at the start.
 #[tactic(auto, using(crate::proofs::Owning::all_of_one, crate::proofs::Entering::all_entered))]
 fn run(
     alloc: Global,
@@ -80,7 +80,7 @@ fn run(
     })
 }
 
-/// Runs an activation from its start to its exit on this board, and returns the value with which it exits.
+/// Runs an activation from its start to its exit with this board, and returns the program's exit value (r0).
 ///
 /// # Errors
 ///

@@ -1,4 +1,4 @@
-//! Reads a setting from its text.
+//! Reads a setting from its TOML text.
 ghost use Rattle.std.specs.Prelude.{◌≡◌, ◌-◌, ◌≤◌, min, MatchBool, Some};
 ghost use Rattle.toml.specs.Parse.{parse_document};
 ghost use Rattle.toml.specs.View.{table_view};
@@ -25,11 +25,11 @@ fn greatest_bound(generals: u32) -> u32
     generals.saturating_sub(2).min(4)
 }
 
-/// Returns the setting of a table.
+/// Reads the setting that a TOML table describes.
 ///
 /// # Errors
 ///
-/// Fails with the first fault, at its place, or with `Memory` if it runs out of memory.
+/// Fails with the first fault, at its place, or with `Memory` if memory runs out.
 #[tactic(auto, unfolding(crate::specs::Checks::setting))]
 fn setting(alloc: Global, table: &Table) -> Result<Setting, SettingError>
     ensures { Gives (λ s. s) result (setting (table_view table.now)) }
@@ -75,7 +75,7 @@ fn setting(alloc: Global, table: &Table) -> Result<Setting, SettingError>
     Ok(Setting::new(shape, bound, taken, board))
 }
 
-/// Returns the error of a text that was not parsed: `Memory` if memory ran out, and `Toml` otherwise.
+/// Returns the error of a text that could not be parsed: `Memory` if memory ran out, and `Toml` otherwise.
 fn unparsed(is_memory: bool) -> SettingError
     ensures { MatchBool is_memory (result ≡ Memory) (result ≡ Toml) }
 {
@@ -86,13 +86,13 @@ fn unparsed(is_memory: bool) -> SettingError
     }
 }
 
-/// Returns the setting that a text contains.
+/// Reads a setting from its TOML text.
 ///
 /// # Errors
 ///
-/// Fails with the first fault, at its place. The faults are checked in this order: the text is not TOML, a key is
-/// unknown (the least such key by bytes), then the keys `generals`, `bound`, `commander`, `general`, `round`, `taken`
-/// and `board`. Fails with `Memory` if it runs out of memory.
+/// Fails with the first fault, at its place. First the text must be TOML. Then all keys must be known, and an error
+/// names the first unknown key in the order of bytes. Then the values of `generals`, `bound`, `commander`, `general`,
+/// `round`, `taken` and `board` are checked in this order. Fails with `Memory` if memory runs out.
 pub fn read(alloc: Global, text: &str) -> Result<Setting, SettingError>
     ensures { Reads (parse_document text.now) result }
 {

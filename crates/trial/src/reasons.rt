@@ -1,4 +1,4 @@
-//! Explains in text why a call of a helper puts no order.
+//! Explains in text why a program's call of a helper such as `send` set no order in the outbox.
 ghost use Rattle.std.specs.Prelude.{◌≡◌, ◌<◌, ◌∷◌, ◌++◌, List, ℕ, Some, length, slice_get, string_bytes, IfOk, OnOk};
 ghost use Rattle.label.specs.Relay.{IsShape, relay};
 ghost use Rattle.semantics.specs.Relay.{relayed};
@@ -10,7 +10,8 @@ use label::{Shape, Space, unrank};
 use outbox::Outbox;
 use std::alloc::{AllocError, Global};
 
-/// A call of a helper: the unit of the call, the helper, and the numbers in r1, r2 and r3.
+/// A program's call of a helper: the unit of the call (units have 8 bytes and are counted from 0), the helper, and
+/// the numbers in r1, r2 and r3.
 #[derive(Clone, Copy)]
 pub struct HelperCall {
     pub unit: usize,
@@ -20,7 +21,8 @@ pub struct HelperCall {
     pub third: u64,
 }
 
-/// Checks whether this value of r0 means that the helper put nothing.
+/// Checks whether `r0`, which the helper returned, means that it set no order. It is false for helpers that set no
+/// orders.
 pub fn says_none(helper: Helper, r0: u64) -> bool
     ensures { result ≡ says_none helper r0 }
 {
@@ -31,7 +33,7 @@ pub fn says_none(helper: Helper, r0: u64) -> bool
     }
 }
 
-/// Appends the note on a call that puts nothing. `places` has the places of the program's units.
+/// Appends a note that says where a call sets no order, and why. `places` has each unit's place in the source text.
 ///
 /// # Errors
 ///
@@ -52,7 +54,7 @@ pub fn put_note(
     out.push_str("\n")
 }
 
-/// Appends that a call of a helper puts nothing.
+/// Appends that a call of this helper sets no order, such as `, send sets no order: `.
 #[tactic(auto, unfolding(crate::specs::Slips::slip_told))]
 fn put_slip(out: &mut String, helper: Helper) -> Result<(), AllocError>
     ensures { OnOk result (string_bytes out.new ≡ string_bytes out.old ++ slip_told helper) }
@@ -61,7 +63,7 @@ fn put_slip(out: &mut String, helper: Helper) -> Result<(), AllocError>
     write!(out, ", {name} sets no order: ")
 }
 
-/// Appends a unit and, if it is known, the unit's place in the text in which the program was written.
+/// Appends the number of a unit and, if `places` has it, its place in the source text in brackets.
 #[tactic(auto, unfolding(crate::specs::Slips::unit_told))]
 fn put_unit(out: &mut String, places: &[String], unit: usize) -> Result<(), AllocError>
     ensures { OnOk result (string_bytes out.new ≡ string_bytes out.old ++ unit_told places.now unit) }
@@ -70,7 +72,7 @@ fn put_unit(out: &mut String, places: &[String], unit: usize) -> Result<(), Allo
     put_in_brackets(out, place_of(places, unit))
 }
 
-/// Returns the place of a unit, or an empty text if it is not known.
+/// Returns the place of a unit in the source text, or an empty text if `places` does not have it.
 fn place_of(places: &[String], unit: usize) -> &str
     ensures { result.now ≡ place_of (slice_get places.now unit) }
 {
@@ -80,7 +82,7 @@ fn place_of(places: &[String], unit: usize) -> &str
     }
 }
 
-/// Appends a place in brackets, unless it is empty.
+/// Appends a place in brackets after a space, or nothing if the place is empty.
 fn put_in_brackets(out: &mut String, place: &str) -> Result<(), AllocError>
     ensures { OnOk result (string_bytes out.new ≡ string_bytes out.old ++ in_brackets place.now) }
 {
@@ -92,7 +94,7 @@ fn put_in_brackets(out: &mut String, place: &str) -> Result<(), AllocError>
     out.push_str(")")
 }
 
-/// Appends why a call of a helper that puts orders puts nothing.
+/// Appends the reason why a call sets no order. Appends nothing for a helper that is not meant to set orders.
 fn put_reason(
     alloc: Global,
     out: &mut String,
@@ -109,7 +111,8 @@ fn put_reason(
     }
 }
 
-/// Appends why `send` puts nothing for this receiver of the label of this rank.
+/// Appends the reason why `send` sets no order for the label with this rank and this receiver: the label does not
+/// exist, or does not go to him.
 fn put_no_place(
     alloc: Global,
     out: &mut String,
@@ -129,7 +132,8 @@ fn put_no_place(
     put_unheard(out, outbox.shape(), receiver, such.as_str())
 }
 
-/// Appends why `send_row` puts nothing for the label of this rank. `orders` is the number of orders that were given.
+/// Appends the reason why `send_row` sets no order for the label with this rank. `orders` is the number of orders
+/// that the call passed.
 fn put_no_row(
     alloc: Global,
     out: &mut String,
@@ -151,7 +155,7 @@ fn put_no_row(
     write!(out, "nobody receives the label {label}")
 }
 
-/// Appends why `sway` or `honest` puts nothing for a receiver.
+/// Appends the reason why `sway` or `honest` sets no order for a receiver: no label goes to him.
 fn put_no_label(out: &mut String, outbox: &Outbox, receiver: u64) -> Result<(), AllocError>
     ensures { OnOk result (string_bytes out.new ≡ string_bytes out.old
         ++ no_label outbox.now.relay.shape receiver (length (relayed outbox.now.relay))) }
@@ -162,7 +166,7 @@ fn put_no_label(out: &mut String, outbox: &Outbox, receiver: u64) -> Result<(), 
     put_unheard(out, outbox.shape(), receiver, "every label")
 }
 
-/// Appends that none of the `labels` labels has this rank.
+/// Appends that `rank` is too great, because there are only `labels` labels, or that there are none.
 fn put_past(out: &mut String, rank: u64, labels: u32) -> Result<(), AllocError>
     ensures { OnOk result (string_bytes out.new ≡ string_bytes out.old ++ past rank labels) }
 {
@@ -173,7 +177,8 @@ fn put_past(out: &mut String, rank: u64, labels: u32) -> Result<(), AllocError>
     write!(out, "rank {rank} is past the last, {last}")
 }
 
-/// Appends why no label of the description `such` goes to a receiver, or that there is no such general.
+/// Appends the reason why a receiver gets no order for `such` (words that name one label or all labels). Either he
+/// does not exist, or he is the sender, or he is on the label.
 fn put_unheard(out: &mut String, shape: Shape, receiver: u64, such: &str) -> Result<(), AllocError>
     ensures { OnOk result (string_bytes out.new ≡ string_bytes out.old ++ unheard shape receiver such.now) }
 {
@@ -183,8 +188,8 @@ fn put_unheard(out: &mut String, shape: Shape, receiver: u64, such: &str) -> Res
     write!(out, "there is no general {receiver}")
 }
 
-/// Appends why no label of the description `such` goes to a general of the campaign: he is the sender, or he is on the
-/// label.
+/// Appends the reason why an existing general gets no order for `such` (words that name one label or all labels).
+/// Either he is the sender, or he is on the label.
 fn put_passed_over(
     out: &mut String,
     sender: u32,
@@ -199,7 +204,7 @@ fn put_passed_over(
     write!(out, "general {receiver} is on {such}")
 }
 
-/// Returns the text of the label of this rank, among those that the outbox relays.
+/// Returns the label with this rank among those that the outbox relays, as text such as `0.2`.
 fn label_text(alloc: Global, outbox: &Outbox, rank: u32) -> Result<String, AllocError>
     requires { rank < length (relayed outbox.now.relay) }
     ensures { IfOk result (λ text. (label : List ℕ) → slice_get (relayed outbox.now.relay) rank ≡ Some label →
@@ -208,7 +213,8 @@ fn label_text(alloc: Global, outbox: &Outbox, rank: u32) -> Result<String, Alloc
     relay_text(alloc, outbox.shape(), rank)
 }
 
-/// Returns the text of the label of this rank, among those that a general relays.
+/// Returns the label with this rank among those that the general of `shape` relays in its round, as text such as
+/// `0.2`.
 fn relay_text(alloc: Global, shape: Shape, rank: u32) -> Result<String, AllocError>
     requires shape { IsShape shape }
     requires within { rank < length (relay shape) }
@@ -229,7 +235,7 @@ fn relay_text(alloc: Global, shape: Shape, rank: u32) -> Result<String, AllocErr
     }
 }
 
-/// Returns a label as text: its generals in decimal, joined by dots, or a dash for the empty label.
+/// Returns a label as text: its generals in decimal, joined by dots, such as `0.2`. The empty label is a dash.
 fn dotted(alloc: Global, generals: &[u8]) -> Result<String, AllocError>
     ensures { IfOk result (λ text. string_bytes text ≡ dotted generals.now) }
 {
@@ -239,7 +245,7 @@ fn dotted(alloc: Global, generals: &[u8]) -> Result<String, AllocError>
     }
 }
 
-/// Returns the label of `first` and the generals `rest` as text, joined by dots.
+/// Returns the label with the generals `first` and `rest` as text, joined by dots, such as `0.2`.
 fn joined(alloc: Global, first: u8, rest: &[u8]) -> Result<String, AllocError>
     ensures { IfOk result (λ text. string_bytes text ≡ dotted (first ∷ rest.now)) }
 {

@@ -1,10 +1,10 @@
-//! The number of labels that a general relays in a round.
+//! Counts the labels that a general relays in a round.
 ghost use Rattle.std.specs.Prelude.{◌≡◌, ◌≤◌, length};
 ghost use Rattle.label.specs.Relay.{IsShape, relay};
 
 use label::{Shape, Space, count};
 
-/// Returns how many labels a general relays in a round, at most 990.
+/// Returns how many labels the general of `shape` relays in its round, from 0 to 990.
 pub fn labels_relayed(shape: Shape) -> u32
     requires { IsShape shape }
     ensures { result ≡ length (relay shape) }

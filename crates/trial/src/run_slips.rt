@@ -1,4 +1,4 @@
-//! Runs a program and notes its calls that put no order.
+//! Runs a program and notes its slips: calls that should set an order in the outbox but set none.
 ghost use Rattle.std.specs.Prelude.{◌≡◌, ◌<◌, ◌≤◌, ◌+◌, ◌++◌, ℕ, List, length, string_bytes, true, false, IfOk, OnOk};
 ghost use Rattle.insn.specs.declared.insn.Insn.{Insn as InsnValue};
 ghost use Rattle.label.specs.Relay.{IsShape};
@@ -22,10 +22,10 @@ use semantics::{Request, Value};
 use std::alloc::{AllocError, Global};
 use verify::Verified;
 
-/// Runs a program to its exit, and returns a line for each call of a helper that should put orders and puts none, with
-/// the reason. The program runs in this context, with an outbox of this shape, and with a board of its own that opens
-/// with these words. A line names the call's unit. If `places` has the unit's place in the text in which the program
-/// was written, the line names it, too.
+/// Runs a program until it exits, and returns a line for each slip: a call that should set an order in the outbox but
+/// sets none. The line names the call's unit and the reason. It also has the unit's place in the source text, if
+/// `places` has it. `shape` gives the number of generals, the commander, the program's general and the round, and
+/// `words` are the board's words at the start.
 ///
 /// # Errors
 ///
@@ -61,7 +61,8 @@ pub fn slips(
     }
 }
 
-/// Takes a step, and appends its note if it is a call that puts nothing. Returns whether the run has ended.
+/// Runs one instruction. Appends a note if it is a call that should set an order but sets none. Returns whether the
+/// run has ended.
 fn go_on(
     alloc: Global,
     out: &mut String,
@@ -107,7 +108,7 @@ fn go_on(
     }
 }
 
-/// Lets the board reply to a request, and resumes the activation.
+/// Lets the board answer a request, and resumes the activation with the answer.
 fn answer(
     shape: Shape,
     request: Request,
@@ -126,7 +127,7 @@ fn answer(
     Ok(())
 }
 
-/// Returns the number in a register, or 0 if it has no number.
+/// Returns the number in a register, or 0 if the register does not hold a number.
 fn number_at(activation: &Machine, register: u8) -> u64
     requires { register ≤ 10 }
     ensures { result ≡ number_at activation.now.state register }
@@ -137,7 +138,7 @@ fn number_at(activation: &Machine, register: u8) -> u64
     }
 }
 
-/// Returns the call of a helper that the instruction makes, if it makes one.
+/// Returns the call that the next instruction makes, or `None` if it is not a call of a helper.
 fn call_at(activation: &Machine, insn: &Insn) -> Option<HelperCall>
     ensures { result ≡ call_at activation.now.state insn.now }
 {
@@ -147,7 +148,8 @@ fn call_at(activation: &Machine, insn: &Insn) -> Option<HelperCall>
     }
 }
 
-/// Returns the call of this helper at the current unit, with the numbers in r1, r2 and r3.
+/// Returns the call of `helper` at the activation's unit with the numbers in r1, r2 and r3, or `None` if there is no
+/// helper.
 fn call_by(activation: &Machine, helper: Option<Helper>) -> Option<HelperCall>
     ensures { result ≡ call_by activation.now.state helper }
 {
@@ -161,7 +163,7 @@ fn call_by(activation: &Machine, helper: Option<Helper>) -> Option<HelperCall>
     })
 }
 
-/// Appends the note on a call that was made, if r0 means that it put nothing.
+/// Appends a note on the call that was just made, if r0 says that it set no order although it should.
 fn put_slip(
     alloc: Global,
     out: &mut String,

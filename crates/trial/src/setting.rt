@@ -1,4 +1,4 @@
-//! The setting of a trial: the general, the round, the orders that he took, and the board.
+//! Defines the setting of a trial: the general, the round, the orders that he took, and the board.
 ghost use Rattle.std.specs.Prelude.{◌≡◌, ◌≤◌, ◌+◌, length, vec_len, IfOk};
 ghost use Rattle.label.specs.Relay.{IsShape, relay};
 ghost use Rattle.trial.specs.Setting.{bench, context_in};
@@ -8,8 +8,9 @@ use mem::context_telling;
 use std::alloc::{AllocError, Global};
 use std::marker::Model;
 
-/// The setting in which a program is tried: the shape of the general's relay, the campaign's bound, the order that he
-/// took for each label that he relays, by rank, and the words with which the board opens.
+/// The setting of a trial: the number of generals, the commander, the general and the round (`shape`), and the
+/// campaign's bound. It also has the order that he took for each label that he relays, by rank, and the board's words
+/// at the start.
 #[derive(Drop)]
 pub struct Setting {
     shape: Shape,
@@ -29,8 +30,8 @@ impl Model for Setting {
 }
 
 impl Setting {
-    /// Returns the setting of a general's relay in a campaign with this bound, with an order for each label that he
-    /// relays, and a board with these words.
+    /// Returns a setting. `taken` has an order for each label that the general of `shape` relays, and `board` the
+    /// board's words at the start.
     pub(crate) fn new(shape: Shape, bound: u32, taken: Vec<u32>, board: [u64; 64]) -> Setting
         requires shape { IsShape shape }
         requires rounds { shape.round ≤ bound + 1 }
@@ -47,7 +48,7 @@ impl Setting {
         }
     }
 
-    /// Returns the setting in which a program is checked: the last of 4 generals in the first round, in which he relays
+    /// Returns the setting in which a program is checked if none is given: general 3 of 4 in round 1, when he relays
     /// nothing, and a board of zeros.
     pub fn bench(alloc: Global) -> Setting
         ensures { result ≡ bench }
@@ -61,7 +62,7 @@ impl Setting {
         Setting::new(shape, 1, Vec::new(alloc), [0; 64])
     }
 
-    /// Returns the shape of the general's relay.
+    /// Returns the number of generals, the commander, the general and the round.
     pub fn shape(&self) -> Shape
         ensures same { result ≡ self.now.shape }
         ensures within { IsShape result }
@@ -69,18 +70,18 @@ impl Setting {
         self.shape
     }
 
-    /// Returns the words with which the board opens.
+    /// Returns the board's words at the start of a trial.
     pub fn board(&self) -> [u64; 64]
         ensures { result ≡ self.now.board }
     {
         self.board
     }
 
-    /// Returns the general's context, 4,096 bytes.
+    /// Returns the context of the setting's general, 4,096 bytes that the program can read.
     ///
     /// # Errors
     ///
-    /// Fails with `AllocError` if there is no memory for them.
+    /// Fails with `AllocError` if there is no memory for the bytes.
     pub fn context(&self, alloc: Global) -> Result<Vec<u8>, AllocError>
         ensures bytes { IfOk result (λ bytes. bytes.items ≡ context_in self.now) }
         ensures whole { IfOk result (λ bytes. vec_len bytes ≡ 4096) }
@@ -92,8 +93,8 @@ impl Setting {
             round,
         } = self.shape;
         let taken = self.taken.as_slice();
-        // The eight numbers with which a context begins (`context_numbers` of `mem`). After the round they are the
-        // number of labels that are relayed, the number of receivers of each, and 0, because orders are oral.
+        // The eight numbers with which a context begins (`context_numbers` of `mem`). After the round follow the
+        // number of labels that are relayed, the number of receivers of each label, and 0, because orders are oral.
         let header = [
             generals,
             self.bound,

@@ -1,4 +1,4 @@
-//! Writes the line of a step in a trace.
+//! Writes a trace's lines, one for each step of a program.
 ghost use Rattle.std.specs.Prelude.{◌≡◌, ◌++◌, ◌+◌, ◌<◌, ◌≤◌, codes, decimal, length, slice_index, string_bytes, OnOk};
 ghost use Rattle.trial.specs.StepLines.{read_told, reads_told, stored_told, before_told, wrote, went, after_told, word_told, words_told, request_told};
 ghost use Rattle.trial.specs.Values.{register_told, place_told};
@@ -12,7 +12,7 @@ use machine::Machine;
 use semantics::{Request, Value};
 use std::alloc::AllocError;
 
-/// Appends a register and its value.
+/// Appends a register and its value, such as `r1 5`.
 fn put_register(out: &mut String, activation: &Machine, register: Reg) -> Result<(), AllocError>
     ensures { OnOk result (string_bytes out.new ≡ string_bytes out.old
         ++ register_told activation.now.state.registers register) }
@@ -22,7 +22,7 @@ fn put_register(out: &mut String, activation: &Machine, register: Reg) -> Result
     write!(out, "r{number} {held}")
 }
 
-/// Appends a register that the instruction reads, with its value. It appends nothing if there is no register.
+/// Appends a register that the instruction reads and its value, such as ` ; r1 5`. Appends nothing for `None`.
 fn put_read(out: &mut String, activation: &Machine, register: Option<Reg>) -> Result<(), AllocError>
     ensures { OnOk result (string_bytes out.new ≡ string_bytes out.old
         ++ read_told activation.now.state.registers register) }
@@ -34,7 +34,7 @@ fn put_read(out: &mut String, activation: &Machine, register: Option<Reg>) -> Re
     put_register(out, activation, register)
 }
 
-/// Appends the registers that the instruction reads, with their values.
+/// Appends up to three registers that an instruction reads, and their values.
 fn put_reads(out: &mut String, activation: &Machine, read: RegisterTriple) -> Result<(), AllocError>
     ensures { OnOk result (string_bytes out.new ≡ string_bytes out.old
         ++ reads_told activation.now.state.registers read) }
@@ -45,7 +45,8 @@ fn put_reads(out: &mut String, activation: &Machine, read: RegisterTriple) -> Re
     put_read(out, activation, third)
 }
 
-/// Appends where a store with this offset writes, if its base is a pointer.
+/// Appends where a store writes, such as ` -> stack -8`: the region and offset that `base` points to, plus `offset`.
+/// Appends nothing if `base` is not a pointer.
 fn put_place(out: &mut String, base: Value, offset: i16) -> Result<(), AllocError>
     ensures { OnOk result (string_bytes out.new ≡ string_bytes out.old ++ place_told offset base) }
 {
@@ -57,7 +58,7 @@ fn put_place(out: &mut String, base: Value, offset: i16) -> Result<(), AllocErro
     write!(out, " -> {place} {at}")
 }
 
-/// Appends where an instruction stores, if it is a store.
+/// Appends where the instruction stores, such as ` -> stack -8`. Appends nothing if it is not a store.
 fn put_stored(out: &mut String, activation: &Machine, insn: &Insn) -> Result<(), AllocError>
     ensures { OnOk result (string_bytes out.new ≡ string_bytes out.old
         ++ stored_told activation.now.state.registers insn.now) }
@@ -68,8 +69,8 @@ fn put_stored(out: &mut String, activation: &Machine, insn: &Insn) -> Result<(),
     }
 }
 
-/// Appends the part of the line before a step: the unit, its instruction, the registers that it reads, and where it
-/// stores.
+/// Appends the first part of a trace line, with the state before the step: the unit, its instruction, the registers
+/// that it reads and their values, and where it stores.
 ///
 /// # Errors
 ///
@@ -85,7 +86,7 @@ pub fn put_before(out: &mut String, activation: &Machine, insn: &Insn) -> Result
     put_stored(out, activation, insn)
 }
 
-/// Appends a register that the instruction wrote, with its value.
+/// Appends a register that the instruction wrote and its value, such as ` -> r0 1`.
 fn put_wrote(out: &mut String, activation: &Machine, register: Reg) -> Result<(), AllocError>
     ensures { OnOk result (string_bytes out.new ≡ string_bytes out.old
         ++ wrote activation.now.state.registers register) }
@@ -94,7 +95,7 @@ fn put_wrote(out: &mut String, activation: &Machine, register: Reg) -> Result<()
     put_register(out, activation, register)
 }
 
-/// Appends the unit to which a jump led.
+/// Appends the unit at which the program continues after a jump, such as ` -> unit 7`.
 fn put_went(out: &mut String, activation: &Machine) -> Result<(), AllocError>
     ensures { OnOk result (string_bytes out.new ≡ string_bytes out.old ++ went activation.now.state.unit) }
 {
@@ -102,7 +103,8 @@ fn put_went(out: &mut String, activation: &Machine) -> Result<(), AllocError>
     write!(out, " -> unit {unit}")
 }
 
-/// Appends the part of the line after a step: the register that the instruction wrote, or the unit to which it led.
+/// Appends the second part of a trace line, with the state after the step: the register that the instruction wrote,
+/// or the unit to which it jumped. Appends nothing for a store or an exit.
 ///
 /// # Errors
 ///
@@ -127,7 +129,7 @@ pub fn put_after(out: &mut String, activation: &Machine, insn: &Insn) -> Result<
     }
 }
 
-/// Appends a word of the board with its value before and after a request.
+/// Appends a word of the board with its values before (`words`) and after (`left`) a request.
 fn put_word(
     out: &mut String,
     slot: usize,
@@ -141,7 +143,8 @@ fn put_word(
     write!(out, " ; word {slot} {before} to {after}")
 }
 
-/// Appends `count` consecutive words of the board with their values before and after a request.
+/// Appends `count` words of the board from index `slot` on, with their values before (`words`) and after (`left`) a
+/// request.
 #[tactic(auto, unfolding(crate::specs::StepLines::words_told))]
 fn put_words(
     out: &mut String,
@@ -160,7 +163,8 @@ fn put_words(
     put_words(out, slot + 1, count - 1, words, left)
 }
 
-/// Appends the words of the board that a request asked for, with their values before and after it.
+/// Appends the words of the board that a request uses, with their values before (`words`) and after (`left`) the
+/// request.
 ///
 /// # Errors
 ///

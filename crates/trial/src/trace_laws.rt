@@ -1,14 +1,16 @@
-//! Laws of traces and of the notes on calls. Each function does nothing, and its contract is the law.
+//! States laws of traces and of notes on slips (calls that set no order). Each function does nothing, and its
+//! contract is the law.
 ghost use Rattle.trial.specs.TraceLaws.{ReasonsHold, TracesAreTrials};
 
-/// Does nothing. Its contract says that a trace describes the trial. A trace has a line for each step, and the line
-/// shows the state before the step. The last line shows the value with which the program exits.
+/// States that a trace describes its trial. A trace has a line for each step, which shows the state before the step.
+/// The last line shows the program's exit value.
 pub fn traces_are_trials()
     ensures { TracesAreTrials }
 {}
 
-/// Does nothing. Its contract says that the reasons of calls that put nothing hold. If no place of a relayed label is
-/// set, a receiver who is another general is on the label. If orders were given for a row, the label goes to nobody.
+/// States that the reasons in notes on calls that set no order are true. If another general than the sender gets no
+/// order for a label, he is on this label. If `send_row` sets none for a label although orders were passed, nobody
+/// receives the label.
 pub fn reasons_hold()
     ensures { ReasonsHold }
 {}

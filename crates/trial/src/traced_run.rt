@@ -1,4 +1,4 @@
-//! Runs a program and writes its trace, step by step.
+//! Runs a program and writes its trace, with a line for each step.
 ghost use Rattle.std.specs.Prelude.{◌≡◌, ◌≤◌, ◌+◌, ◌++◌, ℕ, List, codes, length, string_bytes, true, false, IfOk, OnOk};
 ghost use Rattle.insn.specs.declared.insn.Insn.{Insn as InsnValue};
 ghost use Rattle.label.specs.Relay.{IsShape};
@@ -20,8 +20,9 @@ use semantics::Request;
 use std::alloc::{AllocError, Global};
 use verify::Verified;
 
-/// Runs a program to its exit, and returns its trace, a line for each step. The program runs in this context, with an
-/// outbox of this shape, and with a board of its own that opens with these words.
+/// Runs a program until it exits, and returns its trace, with a line for each step. `shape` gives the number of
+/// generals, the commander, the program's general and the round, and `words` are the board's words at the start. The
+/// outbox is empty at the start.
 ///
 /// # Errors
 ///
@@ -53,7 +54,7 @@ pub fn traced(
     }
 }
 
-/// Takes a step and appends its line. Returns whether the run has ended.
+/// Runs one instruction and appends its line to the trace. Returns whether the run has ended.
 fn turn(
     out: &mut String,
     verified: &Verified,
@@ -99,7 +100,8 @@ fn turn(
     }
 }
 
-/// Lets the board reply to a request, resumes the activation, and appends the rest of the line.
+/// Lets the board answer a request and resumes the activation with the answer. Appends the end of the request's line
+/// in the trace.
 fn serve(
     out: &mut String,
     shape: Shape,

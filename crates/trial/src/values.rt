@@ -1,8 +1,8 @@
-//! The texts of regions and of register values.
+//! Displays regions of memory and the values of registers as text.
 use semantics::{Region, Value};
 use std::fmt;
 
-/// A region of memory, displayed by its name.
+/// Displays a region of memory by its name: `stack` or `context`.
 #[derive(Clone, Copy)]
 pub struct RegionText(pub Region);
 
@@ -20,7 +20,7 @@ impl fmt::Display for RegionText {
     }
 }
 
-/// The value of a register, displayed as a number, a region with an offset, or `unset`.
+/// Displays the value of a register: a number, a pointer's region and offset such as `stack -8`, or `unset`.
 #[derive(Clone, Copy)]
 pub struct ValueText(pub Value);
 

@@ -1,4 +1,4 @@
-//! Reads the words with which the board opens, the key `board` of a setting.
+//! Reads the key `board` of a setting: the board's words at the start.
 ghost use Rattle.std.specs.Prelude.{◌≡◌, ◌≢◌, ◌≤◌, IfErr, length, replicate, option_map};
 ghost use Rattle.toml.specs.View.{view, items_view};
 ghost use Rattle.semantics.specs.Limits.{board_words};
@@ -11,11 +11,11 @@ use crate::keys::{elements, natural, whole};
 use crate::place::{SettingKey, SettingPlace};
 use toml::Value;
 
-/// Returns a word, 0 to 2^63 - 1.
+/// Returns a word of the board, from 0 to 2^63 - 1.
 ///
 /// # Errors
 ///
-/// Fails at this place with `Kind` if the value is not an integer, and with `Range` if it is negative.
+/// Fails at `place` with `Kind` if the value is not an integer, and with `Range` if it is negative.
 #[tactic(auto, unfolding(crate::specs::Checks::word))]
 fn word(place: SettingPlace, value: &Value) -> Result<u64, SettingError>
     ensures value { Gives (λ n. n) result (word place (view value.now)) }
@@ -25,11 +25,11 @@ fn word(place: SettingPlace, value: &Value) -> Result<u64, SettingError>
     natural(SettingFault::Range, place, integer)
 }
 
-/// Returns the words of a list. The missing ones are 0.
+/// Returns the board's words from an array of at most 64. The last words are 0 if the array is shorter.
 ///
 /// # Errors
 ///
-/// Fails with the first fault of a word, at its index.
+/// Fails with the first fault of an element, at its index.
 fn listed(values: &[Value]) -> Result<[u64; 64], SettingError>
     requires { length values.now ≤ board_words }
     ensures gives { Gives (λ words. words) result (over set_word 0 (replicate board_words 0) (items_view values.now)) }
@@ -42,11 +42,12 @@ fn listed(values: &[Value]) -> Result<[u64; 64], SettingError>
     Ok(words)
 }
 
-/// Returns the words of a list of at most 64. The missing ones are 0.
+/// Returns the board's 64 words from an array. The last words are 0 if the array is shorter.
 ///
 /// # Errors
 ///
-/// Fails with `Range` at `board` if there are more than 64, and otherwise with the first fault of a word.
+/// Fails with `Range` at `board` if the array has more than 64 elements, and otherwise with the first fault of an
+/// element.
 #[tactic(auto, unfolding(crate::specs::Checks::words), using(crate::proofs::Items::items_length_view))]
 fn words(values: &[Value]) -> Result<[u64; 64], SettingError>
     ensures gives { Gives (λ words. words) result (words (items_view values.now)) }
@@ -58,11 +59,12 @@ fn words(values: &[Value]) -> Result<[u64; 64], SettingError>
     listed(values)
 }
 
-/// Returns the words with which the board opens. Without a value all of them are 0.
+/// Returns the board's words at the start of a trial: the words that the key `board` gives, or zeros if the key is
+/// missing.
 ///
 /// # Errors
 ///
-/// Fails with the first fault of the key.
+/// Fails with the first fault of the key `board`.
 #[tactic(auto, unfolding(crate::specs::Checks::board))]
 pub fn board(value: Option<&Value>) -> Result<[u64; 64], SettingError>
     ensures gives { Gives (λ words. words) result (board (option_map (λ v. view v.now) value.entry)) }

@@ -1,4 +1,4 @@
-//! Arithmetic instructions on words: operations on two words, negation and sign extension.
+//! Computes the arithmetic instructions on words: operations on two words, negation and sign extension.
 
 ghost use Rattle.std.specs.Prelude.{◌≡◌, ◌<◌, ◌^◌, ◌%◌, ℤ};
 ghost use Rattle.std.specs.Int.{cast_signed, cast_unsigned, w32, w64, int_shr};
@@ -7,7 +7,8 @@ ghost use Rattle.word.specs.Arithmetic.{arithmetic, operated, negated, sign_exte
 use crate::low_bits::{low_byte, low_half, low_word};
 use crate::{Narrow, Operation, Width};
 
-/// Returns the result of an operation on two words. Shift counts are taken modulo 64.
+/// Returns the 64-bit result of an operation on two words, wrapped if needed. Shift counts are taken modulo 64. A
+/// quotient by 0 is 0, and a remainder by 0 is `a`.
 pub fn alu64(operation: Operation, a: u64, b: u64) -> u64
     ensures { result ≡ arithmetic Width.W64 operation a b }
 {
@@ -54,15 +55,15 @@ fn signed_remainder64(a: u64, b: u64) -> u64
         .cast_unsigned()
 }
 
-/// Returns the word shifted right by `b` modulo 64, with copies of its sign bit shifted in.
+/// Returns `a` shifted right by `b` modulo 64 bits, with copies of its sign bit shifted in.
 fn shifted_signed64(a: u64, b: u64) -> u64
     ensures { result ≡ operated Width.W64 Operation.ArithmeticShiftRight a b }
 {
     (a.cast_signed() >> (b % 64)).cast_unsigned()
 }
 
-/// Returns the result of an operation on the low 32 bits of two words. The result is below 2^32, and shift counts are
-/// taken modulo 32.
+/// Returns the result of an operation on the low 32 bits of two words. The result is below 2^32. Shift counts are
+/// taken modulo 32. A quotient by 0 is 0, and a remainder by 0 is the low 32 bits of `a`.
 pub fn alu32(operation: Operation, a: u64, b: u64) -> u64
     ensures exact { result ≡ arithmetic Width.W32 operation a b }
     ensures below { result < 2 ^ 32 }
@@ -70,7 +71,8 @@ pub fn alu32(operation: Operation, a: u64, b: u64) -> u64
     u64::from(operated32(operation, low_word(a), low_word(b)))
 }
 
-/// Returns the result of an operation on two 32-bit numbers. Shift counts are taken modulo 32.
+/// Returns the result of an operation on two 32-bit numbers, wrapped if needed. Shift counts are taken modulo 32. A
+/// quotient by 0 is 0, and a remainder by 0 is `a`.
 fn operated32(operation: Operation, a: u32, b: u32) -> u32
     ensures { result ≡ operated Width.W32 operation a b }
 {
@@ -117,14 +119,15 @@ fn signed_remainder32(a: u32, b: u32) -> u32
         .cast_unsigned()
 }
 
-/// Returns the 32-bit number shifted right by `b` modulo 32, with copies of its sign bit shifted in.
+/// Returns `a` shifted right by `b` modulo 32 bits, with copies of its sign bit shifted in.
 fn shifted_signed32(a: u32, b: u32) -> u32
     ensures { result ≡ operated Width.W32 Operation.ArithmeticShiftRight a b }
 {
     (a.cast_signed() >> (b % 32)).cast_unsigned()
 }
 
-/// Returns the negated word. At 32 bits, it negates the low 32 bits and the upper half of the result is zero.
+/// Returns the negated word, wrapped at the width. At 32 bits, only the low 32 bits are negated, and the upper half
+/// of the result is zero.
 pub fn negate(width: Width, a: u64) -> u64
     ensures { result ≡ negated width a }
 {
@@ -134,7 +137,8 @@ pub fn negate(width: Width, a: u64) -> u64
     }
 }
 
-/// Returns the low bits of a word, sign-extended to 64 bits, or to 32 bits with a zero upper half.
+/// Returns the low 8, 16 or 32 bits of a word, sign-extended to the width. At 32 bits, the upper half of the result
+/// is zero.
 pub fn sign_extend(width: Width, part: Narrow, a: u64) -> u64
     ensures { result ≡ sign_extended width part a }
 {

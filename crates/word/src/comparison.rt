@@ -1,4 +1,4 @@
-//! Comparisons of two words: the conditions of conditional jumps.
+//! Compares two words by the conditions of conditional jumps.
 
 ghost use Rattle.std.specs.Prelude.{◌≡◌, ◌↔◌, IsTrue};
 ghost use Rattle.word.specs.Arithmetic.{compared, related};
@@ -6,7 +6,7 @@ ghost use Rattle.word.specs.Arithmetic.{compared, related};
 use crate::low_bits::low_word;
 use crate::{Condition, Width};
 
-/// Returns whether two words meet a condition.
+/// Checks whether a condition holds between two words, such as `a > b`.
 pub fn compare64(condition: Condition, a: u64, b: u64) -> bool
     ensures { result ≡ compared Width.W64 condition a b }
 {
@@ -25,14 +25,14 @@ pub fn compare64(condition: Condition, a: u64, b: u64) -> bool
     }
 }
 
-/// Returns whether the low 32 bits of two words meet a condition.
+/// Checks whether a condition holds between the low 32 bits of two words.
 pub fn compare32(condition: Condition, a: u64, b: u64) -> bool
     ensures { result ≡ compared Width.W32 condition a b }
 {
     related32(condition, low_word(a), low_word(b))
 }
 
-/// Returns whether two 32-bit numbers meet a condition.
+/// Checks whether a condition holds between two 32-bit numbers.
 fn related32(condition: Condition, x: u32, y: u32) -> bool
     ensures { result ≡ related Width.W32 condition x y }
 {

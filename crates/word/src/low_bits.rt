@@ -1,4 +1,4 @@
-//! The low 8, 16 or 32 bits of a word.
+//! Returns the low 8, 16 or 32 bits of a word.
 
 ghost use Rattle.std.specs.Prelude.{◌≡◌, ◌^◌, ◌%◌};
 

@@ -1,4 +1,4 @@
-//! Byte swaps: the low bytes of a word in a given byte order.
+//! Computes byte swaps: puts the low bytes of a word in a given byte order.
 
 ghost use Rattle.std.specs.Prelude.{◌≡◌};
 ghost use Rattle.word.specs.Arithmetic.{swapped};

@@ -1,4 +1,4 @@
-//! Calls that audit a chronicle, and audits of chronicles that are cut off or changed.
+//! Audits chronicles: makes the calls that allocate memory, and checks that damaged chronicles are rejected.
 use crate::chronicles::{MessageKind, audited, told, told_freely};
 use crate::hostile_calls::campaign::SampleCampaign;
 use crate::hostile_calls::changes::{next, with_byte};
@@ -11,7 +11,7 @@ use std::str;
 use trace::TraceError;
 use world::Verdict;
 
-/// Plays the campaign by its schedule, and returns the text of its chronicle.
+/// Plays a sample campaign by its schedule, and returns the text of its chronicle.
 fn scheduled(alloc: Global, messages: MessageKind, campaign: SampleCampaign) -> Result<Vec<u8>> {
     let schedule = campaign.schedule(alloc)?;
     told(
@@ -22,7 +22,7 @@ fn scheduled(alloc: Global, messages: MessageKind, campaign: SampleCampaign) -> 
     )
 }
 
-/// Calls `check` or `check_signed` on the campaign's chronicle.
+/// Audits the chronicle of a sample campaign twice, with `check` or `check_signed`, and compares the results.
 pub fn checks<R: Print + AllocGlobal>(
     rt: &R,
     messages: MessageKind,
@@ -33,7 +33,7 @@ pub fn checks<R: Print + AllocGlobal>(
     checks_text(rt, messages, &scenario, str::from_utf8(text.as_slice())?)
 }
 
-/// Calls `check` or `check_signed` on this text.
+/// Audits this text twice, with `check` or `check_signed`, and compares the results.
 fn checks_text<R: Print + AllocGlobal>(
     rt: &R,
     messages: MessageKind,
@@ -48,7 +48,7 @@ fn checks_text<R: Print + AllocGlobal>(
     compared(first, judged(rt.alloc(), again)?)
 }
 
-/// Returns the answer of an audit: the verdict, or that memory ran out.
+/// Returns the answer of an audit: the verdict as bytes, or that memory ran out. Fails if the text is rejected.
 fn judged(alloc: Global, answer: Result<Verdict, TraceError>) -> Result<CallAnswer> {
     match answer {
         Ok(verdict) => Ok(CallAnswer::Bytes(verdict_bytes(alloc, verdict)?)),
@@ -57,7 +57,7 @@ fn judged(alloc: Global, answer: Result<Verdict, TraceError>) -> Result<CallAnsw
     }
 }
 
-/// Encodes a verdict in three bytes.
+/// Returns a verdict as three bytes, one for each of its fields.
 fn verdict_bytes(alloc: Global, verdict: Verdict) -> Result<Vec<u8>, AllocError> {
     let obeyed = match verdict.obeyed {
         Some(true) => b'y',
@@ -68,18 +68,18 @@ fn verdict_bytes(alloc: Global, verdict: Verdict) -> Result<Vec<u8>, AllocError>
     Vec::from_slice(alloc, &bytes)
 }
 
-/// The number of times each byte of the chronicle is changed.
+/// How often each byte of a chronicle is changed.
 const TIMES: u32 = 9;
 
-/// Audits each proper beginning of the chronicle of seven generals, and the chronicle with one byte changed. It does so
-/// with oral and with signed messages.
+/// Audits all proper prefixes of a chronicle of seven generals, and copies of it with one byte changed, with oral and
+/// with signed messages. Fails unless all are rejected.
 pub fn report<R: Print + AllocGlobal>(rt: &R) -> Result<()> {
     damage(rt, MessageKind::Oral)?;
     damage(rt, MessageKind::Signed)
 }
 
-/// Audits each proper beginning of the chronicle of seven generals with this kind of messages, and the chronicle with
-/// one byte changed.
+/// Audits all proper prefixes of a chronicle of seven generals with this kind of messages, and copies of it with one
+/// byte changed. Fails unless all are rejected.
 fn damage<R: Print + AllocGlobal>(rt: &R, messages: MessageKind) -> Result<()> {
     let scenario = SampleCampaign::Seven.scenario(rt.alloc(), messages)?;
     let chronicle = told_freely(rt.alloc(), messages, scenario.copy(rt.alloc())?)?;
@@ -87,7 +87,7 @@ fn damage<R: Print + AllocGlobal>(rt: &R, messages: MessageKind) -> Result<()> {
     change(rt, messages, &scenario, chronicle.as_slice())
 }
 
-/// Audits each proper beginning of a chronicle. It fails unless all are rejected.
+/// Audits all proper prefixes of a chronicle. Fails unless all are rejected.
 fn cut_off<R: Print + AllocGlobal>(
     rt: &R,
     messages: MessageKind,
@@ -102,7 +102,7 @@ fn cut_off<R: Print + AllocGlobal>(
     Ok(())
 }
 
-/// Audits a chronicle with one byte changed. It fails unless all changes are rejected.
+/// Audits copies of a chronicle with one byte changed. Fails unless all are rejected.
 fn change<R: Print + AllocGlobal>(
     rt: &R,
     messages: MessageKind,
@@ -116,7 +116,7 @@ fn change<R: Print + AllocGlobal>(
     Ok(())
 }
 
-/// Checks whether each proper beginning of a chronicle is rejected.
+/// Checks whether all proper prefixes of a chronicle are rejected.
 fn are_beginnings_refused(
     alloc: Global,
     messages: MessageKind,
@@ -131,7 +131,7 @@ fn are_beginnings_refused(
     Ok(true)
 }
 
-/// Checks whether a chronicle with one byte changed is rejected, for `TIMES` changes at each place.
+/// Checks whether all copies of a chronicle with one byte changed are rejected. Each byte is changed `TIMES` times.
 fn are_changes_refused(
     alloc: Global,
     messages: MessageKind,
@@ -150,7 +150,7 @@ fn are_changes_refused(
     Ok(true)
 }
 
-/// Checks whether a chronicle with this byte at this place is rejected.
+/// Checks whether a copy of a chronicle with `byte` at index `place` is rejected.
 fn is_refused_with(
     alloc: Global,
     messages: MessageKind,
@@ -163,18 +163,18 @@ fn is_refused_with(
     is_refused(alloc, messages, scenario, changed.as_slice())
 }
 
-/// Returns a pseudorandom number to add to a byte, which is not 0.
+/// Returns a pseudorandom number from 1 to 255, which is added to a byte in order to change it.
 fn difference(state: &mut u64) -> u8 {
     let [.., more] = next(state).to_be_bytes();
     if more == 0 { 1 } else { more }
 }
 
-/// Checks whether the bytes are rejected as a chronicle of the campaign, because they are not UTF-8 or because of a
-/// line.
+/// Checks whether the bytes are rejected as the chronicle of a scenario, because they are not UTF-8 or because of one
+/// of their lines.
 ///
 /// # Errors
 ///
-/// Fails with `AllocError` if the audit fails for another reason.
+/// Fails with `AllocError` if the audit fails for another reason, such as too little memory.
 fn is_refused(
     alloc: Global,
     messages: MessageKind,

@@ -1,4 +1,4 @@
-//! Calls that make accesses to the board.
+//! Makes calls that access the board and allocate memory.
 use crate::hostile_calls::marks::{back, ready};
 use crate::hostile_calls::outcome::{CallOutcome, led};
 use anyhow::{Result, bail};
@@ -6,12 +6,12 @@ use board::{Access, Board};
 use semantics::{Reply, Request, Slot, Span};
 use std::alloc::{AllocError, Global};
 
-/// The general who makes the accesses.
+/// The general who makes the requests.
 const GENERAL: u32 = 3;
 
 const ROUND: u32 = 1;
 
-/// Returns six requests, two of which are copies.
+/// Returns six requests to the board, two of which copy words.
 fn requests() -> Option<[Request; 6]> {
     let (Some(slot), Some(last)) = (Slot::new(0), Slot::new(63)) else {
         return None;
@@ -36,8 +36,8 @@ fn requests() -> Option<[Request; 6]> {
     ])
 }
 
-/// Calls `Board::apply` for six requests. If memory runs out, the words and the ledger must be unchanged, and the
-/// request is made again.
+/// Calls `Board::apply` for six requests. If memory runs out for one of them, checks that the words and the ledger
+/// are unchanged, and makes this request again.
 pub fn applies<R: Print + AllocGlobal>(rt: &R) -> Result<CallOutcome> {
     let Some(requests) = requests() else {
         bail!("the requests");
@@ -49,7 +49,7 @@ pub fn applies<R: Print + AllocGlobal>(rt: &R) -> Result<CallOutcome> {
     ended(rt.alloc(), served?, &board, requests.as_slice())
 }
 
-/// Compares the ledger with that of a board with enough memory, and returns the outcome of the calls.
+/// Compares a board's ledger with the one that results with enough memory, and returns the outcome of the calls.
 fn ended(
     alloc: Global,
     is_refused: bool,
@@ -61,7 +61,7 @@ fn ended(
     led(is_refused, first.as_slice(), ample.as_slice())
 }
 
-/// Returns the replies to the requests from a board with enough memory.
+/// Returns the ledger that results from these requests with enough memory, as bytes.
 fn ample(alloc: Global, requests: &[Request]) -> Result<Vec<u8>> {
     let mut board = Board::new(alloc, [0; 64]);
     if serve(&mut board, requests)? {
@@ -70,7 +70,7 @@ fn ample(alloc: Global, requests: &[Request]) -> Result<Vec<u8>> {
     Ok(ledger_bytes(alloc, board.ledger())?)
 }
 
-/// Makes the requests, and returns whether memory ran out at any of them.
+/// Makes these requests, and returns whether memory ran out for any of them.
 fn serve(board: &mut Board, requests: &[Request]) -> Result<bool> {
     let mut is_refused = false;
     for request in requests {
@@ -81,8 +81,8 @@ fn serve(board: &mut Board, requests: &[Request]) -> Result<bool> {
     Ok(is_refused)
 }
 
-/// Makes the request, and returns whether memory ran out at the first attempt. In this case it checks that the words
-/// and the ledger are unchanged, and makes the request again.
+/// Makes a request, and returns whether memory ran out for it. If so, checks that the words and the ledger are
+/// unchanged, and makes the request again.
 fn is_served_again(board: &mut Board, request: &Request) -> Result<bool> {
     let words = *board.words();
     let entries = board.ledger().len();
@@ -98,7 +98,7 @@ fn is_served_again(board: &mut Board, request: &Request) -> Result<bool> {
     Ok(true)
 }
 
-/// Returns the replies in a ledger, word by word.
+/// Returns the words of all replies in a ledger as bytes, little-endian.
 fn ledger_bytes(alloc: Global, ledger: &[Access]) -> Result<Vec<u8>, AllocError> {
     let mut bytes = Vec::new(alloc);
     for access in ledger {
@@ -107,7 +107,7 @@ fn ledger_bytes(alloc: Global, ledger: &[Access]) -> Result<Vec<u8>, AllocError>
     Ok(bytes)
 }
 
-/// Appends the words of a reply.
+/// Appends the words of a reply as bytes, little-endian.
 fn push_reply(bytes: &mut Vec<u8>, reply: &Reply) -> Result<(), AllocError> {
     match reply {
         Reply::Word(word) => bytes.extend_from_slice(&word.to_le_bytes()),
@@ -115,7 +115,7 @@ fn push_reply(bytes: &mut Vec<u8>, reply: &Reply) -> Result<(), AllocError> {
     }
 }
 
-/// Appends words as bytes, little endian.
+/// Appends words as bytes, little-endian.
 fn push_words(bytes: &mut Vec<u8>, words: &[u64]) -> Result<(), AllocError> {
     for word in words {
         bytes.extend_from_slice(&word.to_le_bytes())?;

@@ -1,4 +1,4 @@
-//! Random bytes as programs, and the checks that hold for any bytes.
+//! Makes random programs, and checks what the layers promise for any bytes.
 use crate::hostile_calls::changes::stepped;
 use anyhow::{Result, bail};
 use codec::{CodecError, decode, encode};
@@ -7,10 +7,10 @@ use std::alloc::{AllocError, Global};
 use trial::{Setting, run_in};
 use verify::{Verified, VerifyError, verify};
 
-/// The number of random programs.
+/// The number of random programs that are checked.
 const PROGRAMS: u64 = 10_000;
 
-/// Checks random programs. It fails if one of them breaks a promise.
+/// Checks random programs. Fails if one of them is not decoded, verified and run as promised.
 pub fn report<R: Print + AllocGlobal>(rt: &R) -> Result<()> {
     if !are_answered(rt.alloc())? {
         bail!("a program is not answered as it should be");
@@ -29,8 +29,8 @@ fn are_answered(alloc: Global) -> Result<bool, AllocError> {
     Ok(true)
 }
 
-/// Returns the random program with this number, which has 1 to 32 units. Each byte is the upper eight bits of the
-/// generator's state.
+/// Returns the bytes of the random program with this number, which has 1 to 32 units. Each byte is the top 8 bits of
+/// a random generator's state.
 fn generated(alloc: Global, number: u64) -> Result<Vec<u8>, AllocError> {
     let mut bytes = Vec::new(alloc);
     let mut state = number;
@@ -42,8 +42,8 @@ fn generated(alloc: Global, number: u64) -> Result<Vec<u8>, AllocError> {
     Ok(bytes)
 }
 
-/// Checks that these bytes are decoded, verified and run as promised. If they are a program, encoding it must give the
-/// same bytes. If it is accepted, its run must end within as many steps as it has instructions.
+/// Checks whether these bytes are decoded, verified and run as promised. If they are a program, encoding it must give
+/// the same bytes. If the program is accepted, its run must end within as many steps as it has instructions.
 pub fn is_answered(alloc: Global, bytes: &[u8]) -> Result<bool, AllocError> {
     match decode(alloc, bytes) {
         Ok(program) => Ok(is_spelt(alloc, &program, bytes)? && is_judged(alloc, program)?),

@@ -1,4 +1,4 @@
-//! The calls that allocate memory, and their names.
+//! Lists the calls that allocate memory, and their names.
 use crate::chronicles::MessageKind;
 
 /// A call that allocates memory.
@@ -10,21 +10,21 @@ pub enum AllocatingCall {
     Disassemble,
     Verify,
     BoardApply,
-    /// `World::open` or `SignedWorld::open`.
+    /// Calls `World::open` or `SignedWorld::open`.
     Open(MessageKind),
-    /// `World::apply` or `SignedWorld::apply`.
+    /// Calls `World::apply` or `SignedWorld::apply`.
     WorldApply(MessageKind),
-    /// `play` or `play_signed`.
+    /// Calls `play` or `play_signed`.
     Play(MessageKind),
     ResolveAll,
     Muster,
     Read,
     ReadSchedule,
-    /// `check` or `check_signed`.
+    /// Calls `check` or `check_signed`.
     Check(MessageKind),
 }
 
-/// All calls, each with its name on the command line.
+/// All calls that allocate memory, each with its name on the command line.
 pub const CALLS: &[(&str, AllocatingCall)] = &[
     ("decode", AllocatingCall::Decode),
     ("encode", AllocatingCall::Encode),
@@ -49,7 +49,7 @@ pub const CALLS: &[(&str, AllocatingCall)] = &[
     ("check_signed", AllocatingCall::Check(MessageKind::Signed)),
 ];
 
-/// Returns the call with this name, or `None` if there is none.
+/// Returns the call with this name, or `None` if there is no such call.
 pub fn named(name: &str) -> Option<AllocatingCall> {
     for &(own, call) in CALLS {
         if own == name {

@@ -1,4 +1,4 @@
-//! The campaigns on which the calls are made.
+//! Defines the sample campaigns on which the calls are made.
 use crate::chronicles::{MessageKind, scenario_of};
 use crate::texts::COLLUDING;
 use anyhow::{Result, bail};
@@ -11,34 +11,34 @@ use trace::read_schedule;
 use world::{Event, Schedule};
 use world_tests::{campaign, counting, swaying};
 
-/// A campaign on which calls are made.
+/// A sample campaign on which calls that allocate memory are made.
 #[derive(Clone, Copy)]
 pub enum SampleCampaign {
-    /// Four generals, the last of whom sends two others orders to retreat.
+    /// Four generals. The last is a traitor who sends generals 1 and 2 the order to retreat.
     Four,
-    /// Seven generals. The commander and another are traitors, who both add 1 to word 0 of the board.
+    /// Seven generals. The commander and general 4 are traitors, who both add 1 to word 0 of the board.
     Seven,
-    /// Four generals, who decide by the median and have a patience. The last copies words of the board, and acts
-    /// differently in each round.
+    /// Four generals, who decide by the median and have a patience. The last is a traitor who copies words of the
+    /// board, and acts differently in round 1 and later.
     Copying,
 }
 
-/// All campaigns.
+/// All sample campaigns.
 pub const CAMPAIGNS: &[SampleCampaign] = &[
     SampleCampaign::Four,
     SampleCampaign::Seven,
     SampleCampaign::Copying,
 ];
 
-/// A program that sends generals 1 and 2 the order 0.
+/// A program that sends generals 1 and 2 the order 0, RETREAT.
 const SWAYING: &str = swaying!(concat "exit\n");
 
-/// A program that adds 1 to word 0 of the board, and sends generals 1, 2 and 3 the last bit of its old value.
+/// A program that adds 1 to word 0 of the board, and sends generals 1, 2 and 3 the lowest bit of its old value.
 const COUNTING: &str = counting!(concat "exit\n");
 
-/// Passes the beginning of a program to the macro `$form`, followed by `$words`. The program copies four words of the
-/// board to the stack. In round 1 it then stores 9 in word 0. In later rounds it sends general 1 the value that it
-/// found in word 0.
+/// Passes most of a program to the macro `$form`, followed by `$words`, which add the end. The program copies four
+/// words of the board to the stack. In round 1 it then stores 9 in word 0, and in later rounds it sends general 1 the
+/// value that it found in word 0.
 macro_rules! copying {
     ($form:ident $($words:tt)*) => {
         $form!("ldw r6, [r1+16]
@@ -61,12 +61,12 @@ done: mov r0, 0
     };
 }
 
-/// A program that copies words of the board.
+/// A program that copies words of the board, and acts differently in round 1 and later.
 const COPYING: &str = copying!(concat "exit\n");
 
-/// Passes the beginning of a program to the macro `$form`, followed by `$words`. The program signs order 1 for general
-/// 1 and order 0 for general 2, which only the commander can do. It then passes on its first two chains to all
-/// generals.
+/// Passes most of a program to the macro `$form`, followed by `$words`, which add the end. The program signs order 1
+/// for general 1 and order 0 for general 2, which only the commander can do. It then passes on its first two chains
+/// to all generals.
 macro_rules! signing {
     ($form:ident $($words:tt)*) => {
         $form!("mov r1, 1
@@ -85,7 +85,7 @@ call pass_on
     };
 }
 
-/// The scenario of `Four`.
+/// The scenario of the sample campaign `Four`, with oral messages.
 const FOUR: &str = swaying!(
     campaign "exit\n", "generals = 4\nbound = 1\ncommander = 0\norder = 1\n", [3]
 );
@@ -97,7 +97,7 @@ const FOUR_WHO_COPY: &str = copying!(
     [3]
 );
 
-/// The scenario of `Four` with signed messages.
+/// The scenario of the sample campaign `Four`, with signed messages.
 const FOUR_SIGNED: &str = signing!(
     campaign "exit\n",
     "generals = 4\nbound = 1\ncommander = 0\norder = 1\nmessages = \"signed\"\n",
@@ -111,18 +111,19 @@ const SEVEN_SIGNED: &str = signing!(
     [0, 4]
 );
 
-/// The scenario of the sample campaign `Copying`, with signed messages. These have no rule.
+/// The scenario of the sample campaign `Copying`, with signed messages. It names no rule, since campaigns with signed
+/// messages have none.
 const FOUR_SIGNED_WITH_PATIENCE: &str = signing!(
     campaign "exit\n",
     "generals = 4\nbound = 1\ncommander = 0\norder = 1\npatience = 20\nmessages = \"signed\"\n",
     [3]
 );
 
-/// Events, each with the number of times it happens.
+/// Events of a round, each with how often it happens.
 type Turns = &'static [(Event, u32)];
 
-/// The events of a round of four generals without a schedule: the loyal generals' letters, and then more ticks than the
-/// traitor's program has steps.
+/// The events of a round of four generals that act one after another. The loyal generals send their letters, and then
+/// the traitor gets more ticks than his program has steps.
 const TURNS_OF_FOUR: Turns = &[
     (Event::Post(0), 1),
     (Event::Post(1), 1),
@@ -131,7 +132,7 @@ const TURNS_OF_FOUR: Turns = &[
     (Event::Close, 1),
 ];
 
-/// The events of a round of seven generals without a schedule.
+/// The events of a round of seven generals that act one after another.
 const TURNS_OF_SEVEN: Turns = &[
     (Event::Post(1), 1),
     (Event::Post(2), 1),
@@ -144,7 +145,7 @@ const TURNS_OF_SEVEN: Turns = &[
 ];
 
 impl SampleCampaign {
-    /// Returns the campaign's name on the command line.
+    /// Returns the name of the campaign on the command line.
     pub fn name(self) -> &'static str {
         match self {
             SampleCampaign::Four => "four",
@@ -153,7 +154,7 @@ impl SampleCampaign {
         }
     }
 
-    /// Returns the campaign with this name, or `None` if there is none.
+    /// Returns the campaign with this name, or `None` if there is no such campaign.
     pub fn named(name: &str) -> Option<SampleCampaign> {
         for campaign in CAMPAIGNS {
             if campaign.name() == name {
@@ -163,7 +164,7 @@ impl SampleCampaign {
         None
     }
 
-    /// Returns the assembly of the traitors' program.
+    /// Returns the assembly of the program that the campaign's traitors run with oral messages.
     pub fn assembly(self) -> &'static str {
         match self {
             SampleCampaign::Four => SWAYING,
@@ -172,7 +173,7 @@ impl SampleCampaign {
         }
     }
 
-    /// Returns the text of the campaign's schedule.
+    /// Returns the text of the schedule for the campaign.
     pub fn schedule_text(self) -> &'static str {
         match self {
             SampleCampaign::Four => "3*4096 3 12\n",
@@ -190,7 +191,8 @@ impl SampleCampaign {
         }
     }
 
-    /// Returns the text of the campaign's scenario with signed messages, in which the same generals are traitors.
+    /// Returns the text of the campaign's scenario with signed messages. The traitors are the same as with oral
+    /// messages.
     fn signed_text(self) -> &'static str {
         match self {
             SampleCampaign::Four => FOUR_SIGNED,
@@ -199,7 +201,7 @@ impl SampleCampaign {
         }
     }
 
-    /// Reads the campaign's scenario with this kind of messages.
+    /// Returns the campaign's scenario with this kind of messages, read from its text.
     pub fn scenario(self, alloc: Global, messages: MessageKind) -> Result<Scenario> {
         match messages {
             MessageKind::Oral => scenario_of(alloc, messages, self.text()),
@@ -207,7 +209,7 @@ impl SampleCampaign {
         }
     }
 
-    /// Reads the campaign's schedule.
+    /// Returns the schedule for the campaign, read from its text.
     pub fn schedule(self, alloc: Global) -> Result<Schedule> {
         match read_schedule(alloc, self.schedule_text()) {
             Ok(schedule) => Ok(schedule),
@@ -215,7 +217,7 @@ impl SampleCampaign {
         }
     }
 
-    /// Assembles the traitors' program.
+    /// Assembles the program that the campaign's traitors run with oral messages.
     pub fn program(self, alloc: Global) -> Result<Program> {
         match assemble(alloc, self.assembly()) {
             Ok(program) => Ok(program),
@@ -223,12 +225,12 @@ impl SampleCampaign {
         }
     }
 
-    /// Returns the bytecode of the traitors' program.
+    /// Returns the bytecode of the program that the campaign's traitors run with oral messages.
     pub fn bytecode(self, alloc: Global) -> Result<Vec<u8>> {
         Ok(encode(alloc, &self.program(alloc)?)?)
     }
 
-    /// Returns the events of a round without a schedule, and the number of rounds.
+    /// Returns the events of a round in which the generals act one after another, and the number of rounds.
     fn turns(self) -> (Turns, u32) {
         match self {
             SampleCampaign::Four | SampleCampaign::Copying => (TURNS_OF_FOUR, 2),
@@ -236,7 +238,7 @@ impl SampleCampaign {
         }
     }
 
-    /// Returns the events of the whole campaign without a schedule.
+    /// Returns the events of the whole campaign if the generals act one after another.
     pub fn events(self, alloc: Global) -> Result<Vec<Event>, AllocError> {
         let mut events = Vec::new(alloc);
         let (turns, rounds) = self.turns();
@@ -247,7 +249,7 @@ impl SampleCampaign {
     }
 }
 
-/// Appends the events of a round.
+/// Appends the events of a round, each as often as it happens.
 fn push_turns(events: &mut Vec<Event>, turns: Turns) -> Result<(), AllocError> {
     for (event, times) in turns {
         for _ in 0..*times {

@@ -9,7 +9,7 @@ use anyhow::Result;
 use std::sync::Wait;
 use std::thread::Threads;
 
-/// Makes the call, and prints its name, the campaign and the outcome.
+/// Makes a call on a campaign. Prints the names of the call and the campaign, and then the outcome.
 pub fn report<R: Print + Threads + Wait + Sync + AllocGlobal>(
     rt: &R,
     name: &str,

@@ -1,13 +1,13 @@
-//! Pseudorandom numbers, and changes to bytes.
+//! Makes pseudorandom numbers, and changes bytes.
 use std::alloc::{AllocError, Global};
 
-/// Returns the next number of a linear congruential generator, which consists of the upper 31 bits of its state.
+/// Returns the next number of a linear congruential generator, from 0 to 2^31 - 1: the top 31 bits of its new state.
 pub fn next(state: &mut u64) -> u64 {
     *state = stepped(*state);
     *state >> 33
 }
 
-/// Returns the generator's next state.
+/// Returns the state after `state` of the linear congruential generator.
 pub fn stepped(state: u64) -> u64 {
     state
         .wrapping_mul(6364136223846793005)

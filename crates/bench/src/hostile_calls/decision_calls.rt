@@ -1,4 +1,4 @@
-//! Calls that resolve the trees of all lieutenants.
+//! Makes calls that resolve the trees of all lieutenants.
 use crate::hostile_calls::campaign::SampleCampaign;
 use crate::hostile_calls::marks::{back, ready};
 use crate::hostile_calls::outcome::{CallAnswer, CallOutcome, compared};
@@ -10,7 +10,7 @@ use std::alloc::{AllocError, Global};
 use std::thread::Threads;
 use tree::Tree;
 
-/// Calls `resolve_all` on the lieutenants' trees.
+/// Calls `resolve_all` twice on the trees of a campaign's lieutenants, and compares the results.
 pub fn resolves<R: Print + Threads + Sync + AllocGlobal>(
     rt: &R,
     campaign: SampleCampaign,
@@ -24,7 +24,7 @@ pub fn resolves<R: Print + Threads + Sync + AllocGlobal>(
     resolved(rt.alloc(), first, again)
 }
 
-/// Returns the rule of the campaign.
+/// Returns the decision rule of a sample campaign.
 fn rule_of(campaign: SampleCampaign) -> Rule {
     match campaign {
         SampleCampaign::Four | SampleCampaign::Seven => Rule::Majority,
@@ -32,7 +32,7 @@ fn rule_of(campaign: SampleCampaign) -> Rule {
     }
 }
 
-/// Compares the results of two calls of `resolve_all`.
+/// Compares the results of two calls of `resolve_all`, and returns the outcome.
 fn resolved(
     alloc: Global,
     first: Result<Vec<u32>, AllocError>,
@@ -42,7 +42,7 @@ fn resolved(
     compared(first, decided(alloc, again)?)
 }
 
-/// Returns the answer of `resolve_all`: the decisions, each in four bytes, or that memory ran out.
+/// Returns the answer of `resolve_all`: the decisions, each as four bytes, or that memory ran out.
 fn decided(alloc: Global, answer: Result<Vec<u32>, AllocError>) -> Result<CallAnswer, AllocError> {
     let Ok(decisions) = answer else {
         return Ok(CallAnswer::Memory);
@@ -54,8 +54,8 @@ fn decided(alloc: Global, answer: Result<Vec<u32>, AllocError>) -> Result<CallAn
     Ok(CallAnswer::Bytes(bytes))
 }
 
-/// Returns the lieutenants' trees for the campaign: of four generals for `Four`, and otherwise of seven. The commander
-/// is 0, and each value is one of three orders.
+/// Returns trees for a campaign's lieutenants: of four generals for `Four`, and otherwise of seven. The commander is
+/// 0, and each entry is an order from 0 to 2.
 fn trees(alloc: Global, campaign: SampleCampaign) -> Result<Vec<Tree>, AllocError> {
     match campaign {
         SampleCampaign::Four => trees_of_four(alloc),
@@ -63,7 +63,7 @@ fn trees(alloc: Global, campaign: SampleCampaign) -> Result<Vec<Tree>, AllocErro
     }
 }
 
-/// Returns the trees of the lieutenants of four generals.
+/// Returns filled trees for the lieutenants of four generals with commander 0.
 fn trees_of_four(alloc: Global) -> Result<Vec<Tree>, AllocError> {
     let mut trees = Vec::new(alloc);
     for general in 1..4 {
@@ -72,7 +72,7 @@ fn trees_of_four(alloc: Global) -> Result<Vec<Tree>, AllocError> {
     Ok(trees)
 }
 
-/// Returns the trees of the lieutenants of seven generals.
+/// Returns filled trees for the lieutenants of seven generals with commander 0.
 fn trees_of_seven(alloc: Global) -> Result<Vec<Tree>, AllocError> {
     let mut trees = Vec::new(alloc);
     for general in 1..7 {
@@ -81,7 +81,7 @@ fn trees_of_seven(alloc: Global) -> Result<Vec<Tree>, AllocError> {
     Ok(trees)
 }
 
-/// Fills the tree with a value for each label.
+/// Fills a tree with a pseudorandom order from 0 to 2 for each label.
 fn filled(mut tree: Tree) -> Tree {
     let space = tree.space();
     let mut order = u32::from(space.general);

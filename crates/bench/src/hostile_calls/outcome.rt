@@ -3,10 +3,10 @@ use anyhow::Result;
 use std::fmt;
 use thiserror::Error;
 
-/// The answer of a call.
+/// The answer of one call.
 #[derive(Drop)]
 pub enum CallAnswer {
-    /// The call succeeded. Its result is encoded as bytes.
+    /// The call succeeded, and these bytes describe its result.
     Bytes(Vec<u8>),
     /// The call failed because memory ran out.
     Memory,
@@ -14,14 +14,14 @@ pub enum CallAnswer {
     NoThread,
 }
 
-/// The outcome of a call that is made twice.
+/// The outcome of making the same call twice.
 #[derive(Clone, Copy)]
 pub enum CallOutcome {
-    /// The call succeeded, and again with the same result.
+    /// Both calls succeeded, with the same result.
     Answered,
-    /// The call ran out of memory, and succeeded the second time.
+    /// The first call ran out of memory, and the second succeeded.
     Memory,
-    /// The call could not start a thread, and succeeded the second time.
+    /// The first call could not start a thread, and the second succeeded.
     NoThread,
 }
 
@@ -35,7 +35,7 @@ impl fmt::Display for CallOutcome {
     }
 }
 
-/// How the answer of the second call differs from what it must be.
+/// What is wrong with the second call of two, or with the result of several calls.
 #[derive(Clone, Copy, Debug, PartialEq, Eq, Error)]
 pub enum Difference {
     #[error("asked again, the call does not answer")]
@@ -75,12 +75,12 @@ fn asked_again(
     }
 }
 
-/// Compares the end to which several calls led with the end to which they lead with enough memory. `is_refused` says
-/// whether memory ran out in one of the calls.
+/// Compares the result of several calls, `first`, with their result if there is enough memory, `ample`. `is_refused`
+/// says whether memory ran out in one of the calls. Returns the outcome.
 ///
 /// # Errors
 ///
-/// Fails if the two ends differ.
+/// Fails if the two results differ.
 pub fn led(is_refused: bool, first: &[u8], ample: &[u8]) -> Result<CallOutcome> {
     same_end(first, ample)?;
     Ok(if is_refused {

@@ -1,4 +1,4 @@
-//! Calls on programs: `decode`, `encode`, `assemble`, `disassemble` and `verify`.
+//! Makes calls on programs: `decode`, `encode`, `assemble`, `disassemble` and `verify`.
 use crate::hostile_calls::campaign::SampleCampaign;
 use crate::hostile_calls::marks::{back, ready};
 use crate::hostile_calls::outcome::{CallAnswer, CallOutcome, compared};
@@ -9,7 +9,7 @@ use insn::Program;
 use std::alloc::{AllocError, Global};
 use verify::{Refused, Verified, VerifyError, verify};
 
-/// Calls `decode` on the bytecode of the campaign's traitors.
+/// Calls `decode` twice on the bytecode of a campaign's traitors, and compares the results.
 pub fn decodes<R: Print + AllocGlobal>(rt: &R, campaign: SampleCampaign) -> Result<CallOutcome> {
     let bytes = campaign.bytecode(rt.alloc())?;
     ready(rt);
@@ -18,7 +18,7 @@ pub fn decodes<R: Print + AllocGlobal>(rt: &R, campaign: SampleCampaign) -> Resu
     decodes_again(rt.alloc(), first, bytes.as_slice())
 }
 
-/// Calls `decode` again, and compares the results.
+/// Calls `decode` again, and compares both results.
 fn decodes_again(
     alloc: Global,
     first: Result<Program, CodecError>,
@@ -28,7 +28,7 @@ fn decodes_again(
     compared(first, decoded(alloc, decode(alloc, bytes))?)
 }
 
-/// Returns the answer of `decode`.
+/// Returns the answer of `decode`: the program, or that memory ran out. Fails if the bytecode is rejected.
 fn decoded(alloc: Global, answer: Result<Program, CodecError>) -> Result<CallAnswer> {
     match answer {
         Ok(program) => told_program(alloc, &program),
@@ -37,7 +37,7 @@ fn decoded(alloc: Global, answer: Result<Program, CodecError>) -> Result<CallAns
     }
 }
 
-/// Calls `encode` on the program of the campaign's traitors.
+/// Calls `encode` twice on the program of a campaign's traitors, and compares the results.
 pub fn encodes<R: Print + AllocGlobal>(rt: &R, campaign: SampleCampaign) -> Result<CallOutcome> {
     let program = campaign.program(rt.alloc())?;
     ready(rt);
@@ -46,7 +46,7 @@ pub fn encodes<R: Print + AllocGlobal>(rt: &R, campaign: SampleCampaign) -> Resu
     compared(encoded(first), encoded(encode(rt.alloc(), &program)))
 }
 
-/// Returns the answer of `encode`.
+/// Returns the answer of `encode`: the bytecode, or that memory ran out.
 fn encoded(answer: Result<Vec<u8>, AllocError>) -> CallAnswer {
     match answer {
         Ok(bytes) => CallAnswer::Bytes(bytes),
@@ -54,7 +54,7 @@ fn encoded(answer: Result<Vec<u8>, AllocError>) -> CallAnswer {
     }
 }
 
-/// Calls `assemble` on the assembly of the campaign's traitors.
+/// Calls `assemble` twice on the assembly of a campaign's traitors, and compares the results.
 pub fn assembles<R: Print + AllocGlobal>(rt: &R, campaign: SampleCampaign) -> Result<CallOutcome> {
     ready(rt);
     let first = assemble(rt.alloc(), campaign.assembly());
@@ -62,7 +62,7 @@ pub fn assembles<R: Print + AllocGlobal>(rt: &R, campaign: SampleCampaign) -> Re
     assembles_again(rt.alloc(), first, campaign.assembly())
 }
 
-/// Calls `assemble` again, and compares the results.
+/// Calls `assemble` again, and compares both results.
 fn assembles_again(
     alloc: Global,
     first: Result<Program, AsmError>,
@@ -72,7 +72,7 @@ fn assembles_again(
     compared(first, assembled(alloc, assemble(alloc, assembly))?)
 }
 
-/// Returns the answer of `assemble`.
+/// Returns the answer of `assemble`: the program, or that memory ran out. Fails if the assembly is rejected.
 fn assembled(alloc: Global, answer: Result<Program, AsmError>) -> Result<CallAnswer> {
     match answer {
         Ok(program) => told_program(alloc, &program),
@@ -81,7 +81,7 @@ fn assembled(alloc: Global, answer: Result<Program, AsmError>) -> Result<CallAns
     }
 }
 
-/// Calls `disassemble` on the program of the campaign's traitors.
+/// Calls `disassemble` twice on the program of a campaign's traitors, and compares the results.
 pub fn disassembles<R: Print + AllocGlobal>(
     rt: &R,
     campaign: SampleCampaign,
@@ -96,7 +96,7 @@ pub fn disassembles<R: Print + AllocGlobal>(
     )
 }
 
-/// Returns the answer of `disassemble`.
+/// Returns the answer of `disassemble`: the assembly, or that memory ran out.
 fn disassembled(answer: Result<String, AllocError>) -> CallAnswer {
     match answer {
         Ok(text) => CallAnswer::Bytes(text.into_bytes()),
@@ -104,8 +104,8 @@ fn disassembled(answer: Result<String, AllocError>) -> CallAnswer {
     }
 }
 
-/// Calls `verify` on the program of the campaign's traitors. If memory runs out, it is called again with the program
-/// that it returned.
+/// Calls `verify` twice on the program of a campaign's traitors, and compares the results. If memory runs out in the
+/// first call, `verify` is also called with the program that this call returned.
 pub fn verifies<R: Print + AllocGlobal>(rt: &R, campaign: SampleCampaign) -> Result<CallOutcome> {
     let program = campaign.program(rt.alloc())?;
     ready(rt);
@@ -114,7 +114,7 @@ pub fn verifies<R: Print + AllocGlobal>(rt: &R, campaign: SampleCampaign) -> Res
     verifies_again(rt.alloc(), first, campaign)
 }
 
-/// Compares the result with that of another call with enough memory.
+/// Calls `verify` again with enough memory, and compares both results.
 fn verifies_again(
     alloc: Global,
     first: Result<Verified, Refused>,
@@ -130,7 +130,7 @@ fn verifies_again(
     })
 }
 
-/// Returns the answer of `verify`. If memory ran out, this is the answer of another call with the program that it
+/// Returns the answer of `verify`: the program. If memory ran out, calls `verify` again with the program that it
 /// returned.
 fn judged(alloc: Global, answer: Result<Verified, Refused>) -> Result<CallAnswer> {
     match answer {
@@ -139,7 +139,8 @@ fn judged(alloc: Global, answer: Result<Verified, Refused>) -> Result<CallAnswer
     }
 }
 
-/// Calls `verify` again with the program that it returned because memory ran out, and returns the answer.
+/// Calls `verify` again with the program that it returned because memory ran out. Fails if it returned the program
+/// for another reason.
 fn given_again(alloc: Global, program: Program, fault: VerifyError) -> Result<CallAnswer> {
     match fault {
         VerifyError::Memory => accepted(alloc, program),
@@ -147,7 +148,7 @@ fn given_again(alloc: Global, program: Program, fault: VerifyError) -> Result<Ca
     }
 }
 
-/// Calls `verify` on a program that must be accepted, and returns the answer.
+/// Calls `verify` on a program, and returns the answer. Fails if the program is rejected.
 fn accepted(alloc: Global, program: Program) -> Result<CallAnswer> {
     match verify(alloc, program) {
         Ok(verified) => told_program(alloc, verified.program()),
@@ -155,7 +156,7 @@ fn accepted(alloc: Global, program: Program) -> Result<CallAnswer> {
     }
 }
 
-/// Returns the answer for a program, which is its assembly.
+/// Returns a program as an answer: its assembly as bytes.
 fn told_program(alloc: Global, program: &Program) -> Result<CallAnswer> {
     Ok(CallAnswer::Bytes(disassemble(alloc, program)?.into_bytes()))
 }

@@ -1,4 +1,4 @@
-//! Calls that read scenarios and schedules, and random schedules.
+//! Makes calls that read scenarios and schedules, and reads random schedules.
 use crate::chronicles::{MessageKind, played, told, told_freely};
 use crate::hostile_calls::campaign::SampleCampaign;
 use crate::hostile_calls::changes::next;
@@ -11,7 +11,7 @@ use std::alloc::{AllocError, Global};
 use trace::{TraceError, TraceFault, read_schedule};
 use world::Schedule;
 
-/// Calls `read` on the text of the campaign's scenario.
+/// Calls `read` twice on the text of a campaign's scenario, and compares the results.
 pub fn reads<R: Print + AllocGlobal>(rt: &R, campaign: SampleCampaign) -> Result<CallOutcome> {
     ready(rt);
     let first = read(rt.alloc(), campaign.text());
@@ -21,7 +21,8 @@ pub fn reads<R: Print + AllocGlobal>(rt: &R, campaign: SampleCampaign) -> Result
     compared(first, read_as(rt.alloc(), again)?)
 }
 
-/// Returns the answer of `read`: the text of the scenario's chronicle without a schedule, or that memory ran out.
+/// Returns the answer of `read`: the text of the scenario's chronicle if the generals act one after another, or that
+/// memory ran out.
 fn read_as(alloc: Global, answer: Result<Scenario, ScenarioError>) -> Result<CallAnswer> {
     match answer {
         Ok(scenario) => Ok(CallAnswer::Bytes(told_freely(alloc, MessageKind::Oral, scenario)?)),
@@ -30,7 +31,7 @@ fn read_as(alloc: Global, answer: Result<Scenario, ScenarioError>) -> Result<Cal
     }
 }
 
-/// Calls `read_schedule` on the text of the campaign's schedule.
+/// Calls `read_schedule` twice on the text of a campaign's schedule, and compares the results.
 pub fn reads_schedule<R: Print + AllocGlobal>(
     rt: &R,
     campaign: SampleCampaign,
@@ -43,7 +44,8 @@ pub fn reads_schedule<R: Print + AllocGlobal>(
     compared(first, told_by(rt.alloc(), campaign, again)?)
 }
 
-/// Returns the answer of `read_schedule`: the text of the campaign's chronicle by the schedule, or that memory ran out.
+/// Returns the answer of `read_schedule`: the text of the campaign's chronicle by this schedule, or that memory ran
+/// out.
 fn told_by(
     alloc: Global,
     campaign: SampleCampaign,
@@ -62,15 +64,16 @@ fn scheduled(alloc: Global, campaign: SampleCampaign, schedule: &Schedule) -> Re
     Ok(CallAnswer::Bytes(told(alloc, MessageKind::Oral, scenario, schedule)?))
 }
 
-/// The pieces of which a random schedule consists.
+/// The pieces of text that random schedules are made of.
 const PIECES: &[&str; 16] = &[
     "0", "3", "4", "12", "13", "*15", "*4096", "*4097", "*0", " ", " ", " ", "\n", "\n", "01", "-",
 ];
 
-/// The number of random schedules.
+/// The number of random schedules that are read.
 const SCHEDULES: u32 = 10_000;
 
-/// Reads random schedules, and plays a campaign by those that are accepted.
+/// Reads random schedules, and plays a campaign by each that is accepted. Fails if one is not accepted or rejected as
+/// promised.
 pub fn report<R: Print + AllocGlobal>(rt: &R) -> Result<()> {
     let alloc = rt.alloc();
     let scenario = SampleCampaign::Seven.scenario(alloc, MessageKind::Oral)?;
@@ -93,8 +96,8 @@ fn are_answered(alloc: Global, scenario: &Scenario) -> Result<bool, AllocError> 
     Ok(true)
 }
 
-/// Reads the text as a schedule, and plays the campaign by it if it is accepted. Checks that a text is only rejected
-/// because of one of its first six lines.
+/// Reads a text as a schedule and, if it is accepted, plays the campaign by it. Returns whether the text is accepted,
+/// or is rejected because of one of its first six lines.
 fn is_answered(alloc: Global, scenario: &Scenario, text: &str) -> Result<bool, AllocError> {
     match read_schedule(alloc, text) {
         Ok(schedule) => {
@@ -106,7 +109,7 @@ fn is_answered(alloc: Global, scenario: &Scenario, text: &str) -> Result<bool, A
     }
 }
 
-/// Returns a random schedule of up to 31 pieces.
+/// Returns a random text of up to 31 pieces, which may be a schedule.
 fn schedule(alloc: Global, state: &mut u64) -> Result<String, AllocError> {
     let mut schedule = String::new(alloc);
     for _ in 0..next(state) % 32 {

@@ -1,4 +1,4 @@
-//! Stored programs that are cut off and changed.
+//! Checks stored programs that are cut off or changed.
 use crate::hostile_calls::bytecode::is_answered;
 use crate::hostile_calls::changes::with_byte;
 use anyhow::{Result, bail};
@@ -8,14 +8,15 @@ use std::alloc::{AllocError, Global};
 use std::fs;
 use std::rt::Files;
 
-/// A program in assembly, and its name.
+/// A stored program: its name and its assembly.
 #[derive(Drop)]
 struct Program {
     name: String,
     text: String,
 }
 
-/// Checks each beginning of the programs in these files, and each program with one byte changed in one of three ways.
+/// Checks all prefixes of the programs in these files, and copies of each program with one byte changed in three
+/// ways. Fails unless all are decoded, verified and run as promised.
 pub fn report<R: Print + Files + AllocGlobal>(rt: &R, files: &[String]) -> Result<()> {
     for file in files {
         report_file(rt, file.as_str())?;
@@ -23,7 +24,7 @@ pub fn report<R: Print + Files + AllocGlobal>(rt: &R, files: &[String]) -> Resul
     Ok(())
 }
 
-/// Checks each beginning and each change of the programs in one file.
+/// Checks all prefixes and changed copies of the programs in one file.
 fn report_file<R: Print + Files + AllocGlobal>(rt: &R, file: &str) -> Result<()> {
     let text = fs::read_to_string(rt, file)?;
     let programs = programs(rt.alloc(), text.as_str())?;
@@ -33,7 +34,7 @@ fn report_file<R: Print + Files + AllocGlobal>(rt: &R, file: &str) -> Result<()>
     Ok(())
 }
 
-/// Checks each beginning and each change of these programs.
+/// Checks all prefixes and changed copies of these programs.
 fn answer_all(alloc: Global, programs: &[Program]) -> Result<()> {
     for program in programs {
         let bytes = assembled(alloc, program.text.as_str())?;
@@ -42,7 +43,7 @@ fn answer_all(alloc: Global, programs: &[Program]) -> Result<()> {
     Ok(())
 }
 
-/// Splits a text into its programs. Each begins after a line of two semicolons, a blank and its name.
+/// Splits a text into programs. A line such as `;; name` begins the next program.
 fn programs(alloc: Global, text: &str) -> Result<Vec<Program>> {
     let mut programs = Vec::new(alloc);
     for line in text.lines() {
@@ -57,7 +58,7 @@ fn programs(alloc: Global, text: &str) -> Result<Vec<Program>> {
     Ok(programs)
 }
 
-/// Appends a line to the last program.
+/// Appends a line to the assembly of the last program. Fails if there is no program.
 fn add_line(programs: &mut Vec<Program>, line: &str) -> Result<()> {
     let Some(program) = programs.last_mut() else {
         bail!("a line stands before the first program");
@@ -67,7 +68,7 @@ fn add_line(programs: &mut Vec<Program>, line: &str) -> Result<()> {
     Ok(())
 }
 
-/// Checks each beginning and each change of the program with this name.
+/// Checks all prefixes and changed copies of one program. Fails unless all are decoded, verified and run as promised.
 fn answer(alloc: Global, name: &str, bytes: &[u8]) -> Result<()> {
     if !are_answered(alloc, bytes)? {
         bail!("{name} is not answered as it should be");
@@ -83,8 +84,8 @@ fn assembled(alloc: Global, text: &str) -> Result<Vec<u8>> {
     }
 }
 
-/// Checks that each beginning of the program is decoded, verified and run as promised. The same must hold if any byte
-/// is replaced by 00, by ff, or by itself with its top bit changed.
+/// Checks whether all prefixes of a program are decoded, verified and run as promised, and also its copies with one
+/// byte changed. A byte is replaced by 00, by ff, or by itself with its top bit inverted.
 fn are_answered(alloc: Global, bytes: &[u8]) -> Result<bool, AllocError> {
     for place in 0..bytes.len() {
         let old = bytes[place];
@@ -99,7 +100,7 @@ fn are_answered(alloc: Global, bytes: &[u8]) -> Result<bool, AllocError> {
     is_answered(alloc, bytes)
 }
 
-/// Checks that the program with this byte at this place is decoded, verified and run as promised.
+/// Checks whether a copy of the program with `byte` at index `place` is decoded, verified and run as promised.
 fn is_answered_with(
     alloc: Global,
     bytes: &[u8],

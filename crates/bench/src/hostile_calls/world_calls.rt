@@ -1,4 +1,4 @@
-//! Calls on worlds: `open`, `apply`, `play`, and `muster`, which uses threads.
+//! Makes calls on worlds: `open`, `apply`, `play`, and `muster`, which uses threads.
 use crate::chronicles::{MessageKind, text, told_freely};
 use crate::hostile_calls::campaign::SampleCampaign;
 use crate::hostile_calls::marks::{back, ready};
@@ -14,7 +14,8 @@ use threads::{MusterError, Open, muster};
 use trace::check;
 use world::{Chronicle, Event, EventError, Schedule};
 
-/// Calls `World::open` or `SignedWorld::open` on the campaign's scenario.
+/// Opens the world of a campaign's scenario twice, with `World::open` or `SignedWorld::open`, and compares the
+/// results.
 pub fn opens<R: Print + AllocGlobal>(
     rt: &R,
     messages: MessageKind,
@@ -27,7 +28,7 @@ pub fn opens<R: Print + AllocGlobal>(
     opens_again(rt.alloc(), messages, campaign, first)
 }
 
-/// Opens the world again, and compares the results.
+/// Opens the world of a campaign's scenario again, and compares both results.
 fn opens_again(
     alloc: Global,
     messages: MessageKind,
@@ -39,8 +40,8 @@ fn opens_again(
     compared(first, opened(alloc, again, campaign)?)
 }
 
-/// Returns the answer of a call that opens a world: the text of its chronicle after the campaign's events, or that
-/// memory ran out.
+/// Returns the answer of a call that opens a world: the text of the world's chronicle after the campaign's events, or
+/// that memory ran out.
 fn opened(
     alloc: Global,
     answer: Result<Led, AllocError>,
@@ -59,8 +60,8 @@ fn led_on(alloc: Global, mut world: Led, campaign: SampleCampaign) -> Result<Vec
     world.text(alloc)
 }
 
-/// Calls `apply` for each of the campaign's events. At the end, the world must have the same chronicle as with enough
-/// memory.
+/// Calls `apply` for each of a campaign's events. If memory runs out for an event, applies it again. Fails if the
+/// chronicle at the end differs from the one that results with enough memory.
 pub fn happens<R: Print + AllocGlobal>(
     rt: &R,
     messages: MessageKind,
@@ -78,7 +79,8 @@ pub fn happens<R: Print + AllocGlobal>(
     ended(rt.alloc(), happened?, world, messages, campaign)
 }
 
-/// Compares the chronicle of a world after all events with the chronicle that results with enough memory.
+/// Compares the chronicle of a world after all events with the one that results with enough memory, and returns the
+/// outcome.
 fn ended(
     alloc: Global,
     is_refused: bool,
@@ -91,7 +93,7 @@ fn ended(
     led(is_refused, first.as_slice(), ample.as_slice())
 }
 
-/// Applies the events to the world, and returns whether memory ran out at any of them.
+/// Applies these events to the world, and returns whether memory ran out for any of them.
 fn happen(world: &mut Led, events: &[Event]) -> Result<bool> {
     let mut is_refused = false;
     for event in events {
@@ -102,8 +104,8 @@ fn happen(world: &mut Led, events: &[Event]) -> Result<bool> {
     Ok(is_refused)
 }
 
-/// Applies the event to the world, and returns whether memory ran out at the first attempt. In this case it checks that
-/// the decisions are unchanged, and applies the event again.
+/// Applies an event to the world, and returns whether memory ran out for it. If so, checks that the decisions are
+/// unchanged, and applies the event again.
 fn is_refused_first(world: &mut Led, event: Event) -> Result<bool> {
     let before = world.decisions();
     match world.apply(event) {
@@ -113,7 +115,8 @@ fn is_refused_first(world: &mut Led, event: Event) -> Result<bool> {
     }
 }
 
-/// Checks that the decisions are unchanged after an event for which memory ran out, and applies the event again.
+/// Checks that the decisions are still `before` after an event for which memory ran out, and applies this event
+/// again.
 fn happens_again(world: &mut Led, event: Event, before: &[u32]) -> Result<bool> {
     if world.decisions().as_slice() != before {
         bail!("a refused event changed the decisions");
@@ -124,7 +127,7 @@ fn happens_again(world: &mut Led, event: Event, before: &[u32]) -> Result<bool> 
     Ok(true)
 }
 
-/// Calls `play` or `play_signed` with the campaign's schedule.
+/// Plays a campaign by its schedule twice, with `play` or `play_signed`, and compares the results.
 pub fn plays<R: Print + AllocGlobal>(
     rt: &R,
     messages: MessageKind,
@@ -138,7 +141,7 @@ pub fn plays<R: Print + AllocGlobal>(
     plays_again(rt.alloc(), messages, campaign, &schedule, first)
 }
 
-/// Plays the campaign again, and compares the results.
+/// Plays a campaign by its schedule again, and compares both results.
 fn plays_again(
     alloc: Global,
     messages: MessageKind,
@@ -152,7 +155,7 @@ fn plays_again(
     compared(first, chronicled(alloc, again)?)
 }
 
-/// Returns the answer of a call that plays a campaign: the text of its chronicle, or that memory ran out.
+/// Returns the answer of a call that plays a campaign: the text of the chronicle, or that memory ran out.
 fn chronicled(alloc: Global, answer: Result<Made, AllocError>) -> Result<CallAnswer> {
     match answer {
         Ok(chronicle) => Ok(CallAnswer::Bytes(chronicle.text(alloc)?)),
@@ -160,7 +163,7 @@ fn chronicled(alloc: Global, answer: Result<Made, AllocError>) -> Result<CallAns
     }
 }
 
-/// Calls `muster` on the campaign's scenario. The order of the accesses depends on the threads, so that the chronicles
+/// Calls `muster` twice on a campaign's scenario. The order of the accesses depends on the threads, so the chronicles
 /// are audited and not compared.
 pub fn musters<R: Print + Threads + Wait + Sync + AllocGlobal>(
     rt: &R,
@@ -173,7 +176,7 @@ pub fn musters<R: Print + Threads + Wait + Sync + AllocGlobal>(
     musters_again(rt, campaign, first)
 }
 
-/// Calls `muster` again, and compares the results.
+/// Calls `muster` again, audits both chronicles, and returns the outcome.
 fn musters_again<R: Threads + Wait + Sync + AllocGlobal>(
     rt: &R,
     campaign: SampleCampaign,
@@ -185,7 +188,8 @@ fn musters_again<R: Threads + Wait + Sync + AllocGlobal>(
     compared(first, audited(rt.alloc(), again, &scenario)?)
 }
 
-/// Returns the answer of `muster`, which is an empty text if an audit accepts the chronicle.
+/// Returns the answer of `muster`. It has no bytes if an audit accepts the chronicle. Otherwise it says that memory
+/// ran out, or that a thread could not be started.
 fn audited(
     alloc: Global,
     answer: Result<Chronicle, MusterError>,
@@ -199,7 +203,7 @@ fn audited(
     }
 }
 
-/// Audits the chronicle, and fails if it is rejected.
+/// Audits a chronicle, and returns an answer without bytes. Fails if the chronicle is rejected.
 fn audit(alloc: Global, scenario: &Scenario, chronicle: &Chronicle) -> Result<CallAnswer> {
     let text = text(alloc, chronicle)?;
     let told = str::from_utf8(text.as_slice())?;

@@ -1,4 +1,4 @@
-//! Worlds and chronicles of oral or of signed messages.
+//! Defines worlds and chronicles with oral or signed messages.
 use crate::chronicles::{MessageKind, signed_text, text};
 use anyhow::{Result, bail};
 use arrayvec::ArrayVec;
@@ -7,7 +7,7 @@ use signed::{SignedChronicle, SignedWorld, play_signed};
 use std::alloc::{AllocError, Global};
 use world::{Chronicle, Event, EventError, Schedule, World, play};
 
-/// A world of oral or of signed messages.
+/// A world with oral or signed messages.
 #[derive(Drop)]
 pub enum Led {
     Oral(World),
@@ -15,7 +15,7 @@ pub enum Led {
 }
 
 impl Led {
-    /// Calls `World::open` or `SignedWorld::open`.
+    /// Opens the world of a scenario, with `World::open` or `SignedWorld::open`.
     pub fn open(
         alloc: Global,
         messages: MessageKind,
@@ -35,7 +35,7 @@ impl Led {
         }
     }
 
-    /// Returns the lieutenants' decisions.
+    /// Returns the decision of each lieutenant.
     pub fn decisions(&self) -> ArrayVec<u32, 12> {
         match self {
             Led::Oral(world) => world.decisions(),
@@ -43,7 +43,7 @@ impl Led {
         }
     }
 
-    /// Returns the world's chronicle, or `None` if it has none.
+    /// Returns the world's chronicle, or `None` if its campaign is not over.
     fn chronicle(self) -> Option<Made> {
         match self {
             Led::Oral(world) => oral_chronicle(world),
@@ -51,7 +51,7 @@ impl Led {
         }
     }
 
-    /// Returns the text of the world's chronicle, and fails if it has none.
+    /// Returns the text of the world's chronicle. Fails if the campaign is not over.
     pub fn text(self, alloc: Global) -> Result<Vec<u8>> {
         match self.chronicle() {
             Some(chronicle) => chronicle.text(alloc),
@@ -60,7 +60,7 @@ impl Led {
     }
 }
 
-/// Returns the chronicle of a world of oral messages, or `None` if it has none.
+/// Returns the chronicle of a world with oral messages, or `None` if its campaign is not over.
 fn oral_chronicle(world: World) -> Option<Made> {
     match world.chronicle() {
         Some(chronicle) => Some(Made::Oral(chronicle)),
@@ -68,7 +68,7 @@ fn oral_chronicle(world: World) -> Option<Made> {
     }
 }
 
-/// Returns the chronicle of a world of signed messages, or `None` if it has none.
+/// Returns the chronicle of a world with signed messages, or `None` if its campaign is not over.
 fn signed_chronicle(world: SignedWorld) -> Option<Made> {
     match world.chronicle() {
         Some(chronicle) => Some(Made::Signed(chronicle)),
@@ -76,7 +76,7 @@ fn signed_chronicle(world: SignedWorld) -> Option<Made> {
     }
 }
 
-/// A chronicle of oral or of signed messages.
+/// A chronicle with oral or signed messages.
 #[derive(Drop)]
 pub enum Made {
     Oral(Chronicle),
@@ -84,7 +84,7 @@ pub enum Made {
 }
 
 impl Made {
-    /// Calls `play` or `play_signed`.
+    /// Plays a scenario by a schedule, with `play` or `play_signed`.
     pub fn play(
         alloc: Global,
         messages: MessageKind,

@@ -1,4 +1,4 @@
-//! Writes chronicles to writers that fail, and checks which bytes they received.
+//! Writes chronicles to writers that fail, and checks which bytes the writers received.
 use crate::chronicles::{MessageKind, freely, signed_text, text};
 use crate::hostile_calls::campaign::SampleCampaign;
 use crate::hostile_calls::writer::Writer;
@@ -8,13 +8,13 @@ use std::alloc::Global;
 use trace::{Latch, TraceError, write_chronicle, write_signed};
 use world::{Chronicle, play};
 
-/// How many bytes a writer takes at most in one call.
+/// The numbers of bytes that the writers accept at most in one call.
 const SIZES: &[usize] = &[1, 7, 4096];
 
-/// More writes than any of the texts needs.
+/// A number of writes that is greater than any of the chronicles needs.
 const MOST_WRITES: u32 = 100_000;
 
-/// A chronicle of oral or of signed messages.
+/// A chronicle with oral or signed messages.
 #[derive(Clone, Copy)]
 enum Told<'a> {
     Oral(&'a Chronicle),
@@ -22,7 +22,7 @@ enum Told<'a> {
 }
 
 impl<'a> Told<'a> {
-    /// Writes the chronicle.
+    /// Writes the chronicle as text to `sink`.
     fn write(&self, sink: &mut Latch<Writer>) -> Result<(), TraceError> {
         match self {
             Told::Oral(chronicle) => write_chronicle(chronicle, sink),
@@ -31,7 +31,8 @@ impl<'a> Told<'a> {
     }
 }
 
-/// Writes the chronicles of seven generals to writers that fail at each of their writes.
+/// Writes the chronicles of seven generals to writers that fail at one write, for each write. Fails unless every
+/// failure is reported.
 pub fn report<R: Print + AllocGlobal>(rt: &R) -> Result<()> {
     for size in SIZES {
         report_size(rt, *size)?;
@@ -39,8 +40,8 @@ pub fn report<R: Print + AllocGlobal>(rt: &R) -> Result<()> {
     Ok(())
 }
 
-/// Writes the chronicles of seven generals to writers that take `size` bytes in one call. It fails unless each failure
-/// is reported.
+/// Writes the chronicles of seven generals to writers that accept at most `size` bytes in one call and fail at one
+/// write, for each write. Fails unless every failure is reported.
 fn report_size<R: Print + AllocGlobal>(rt: &R, size: usize) -> Result<()> {
     if !are_told(rt.alloc(), size)? || !are_signed_told(rt.alloc(), size)? {
         bail!("a failure is not told");
@@ -49,7 +50,7 @@ fn report_size<R: Print + AllocGlobal>(rt: &R, size: usize) -> Result<()> {
     Ok(())
 }
 
-/// Checks whether each failure is reported while the chronicle of oral messages is written.
+/// Checks whether every failure to write the chronicle with oral messages is reported.
 fn are_told(alloc: Global, size: usize) -> Result<bool> {
     let schedule = SampleCampaign::Seven.schedule(alloc)?;
     let scenario = SampleCampaign::Seven.scenario(alloc, MessageKind::Oral)?;
@@ -58,7 +59,7 @@ fn are_told(alloc: Global, size: usize) -> Result<bool> {
     Ok(fails_at_each_write(alloc, Told::Oral(&chronicle), whole.as_slice(), size))
 }
 
-/// Checks whether each failure is reported while the chronicle of signed messages is written.
+/// Checks whether every failure to write the chronicle with signed messages is reported.
 fn are_signed_told(alloc: Global, size: usize) -> Result<bool> {
     let scenario = SampleCampaign::Seven.scenario(alloc, MessageKind::Signed)?;
     let chronicle = play_signed(alloc, scenario, &freely(alloc))?;
@@ -66,19 +67,20 @@ fn are_signed_told(alloc: Global, size: usize) -> Result<bool> {
     Ok(fails_at_each_write(alloc, Told::Signed(&chronicle), whole.as_slice(), size))
 }
 
-/// The result of writing a text to a writer that fails at one of its writes.
+/// What happens if a text is written to a writer that fails at one of its writes.
 #[derive(Clone, Copy)]
 enum End {
     /// The writer received the whole text.
     Whole,
-    /// The failure was reported, and the writer had received a beginning of the text.
+    /// The failure was reported, and the writer had received a prefix of the text.
     Told,
     /// Anything else happened.
     Other,
 }
 
-/// Writes the chronicle to a writer that fails at its first write, then to one that fails at its second, and so on,
-/// until one receives the whole text. Returns whether one does, and each failure before is reported.
+/// Writes a chronicle to a writer that fails at its first write, then to one that fails at its second write, and so
+/// on, until a writer receives the whole text. Returns whether this happens, and all failures before that are
+/// reported.
 fn fails_at_each_write(alloc: Global, chronicle: Told<'_>, whole: &[u8], size: usize) -> bool {
     for nth in 1..MOST_WRITES {
         let writer = Writer::new(alloc, size, nth);
@@ -91,7 +93,7 @@ fn fails_at_each_write(alloc: Global, chronicle: Told<'_>, whole: &[u8], size: u
     false
 }
 
-/// Writes the chronicle to the writer, and returns the result. `whole` is the text of the chronicle.
+/// Writes a chronicle to a writer, and returns what happens. `whole` is the text of the chronicle.
 fn written(chronicle: Told<'_>, whole: &[u8], writer: Writer) -> End {
     let mut sink = Latch::new(writer);
     let answer = chronicle.write(&mut sink);

@@ -1,10 +1,10 @@
-//! A writer that fails once, for tests of write failures.
+//! Defines a writer that fails at one of its writes, for tests.
 ghost use Rattle.std.specs.Prelude.{◌≤◌, IfOk, length};
 
 use std::alloc::{AllocError, Global};
 use std::io::{self, ErrorKind, Write};
 
-/// A writer that takes few bytes in one call, and fails once.
+/// A writer that accepts only a few bytes in one call, and fails at one of its writes.
 #[derive(Drop)]
 pub struct Writer {
     most: usize,
@@ -15,7 +15,7 @@ pub struct Writer {
 }
 
 impl Writer {
-    /// Creates a writer that takes at most `most` bytes in one call, and fails at the write number `fails`, counted
+    /// Creates a writer that accepts at most `most` bytes in one call, and fails at write number `fails`, counted
     /// from 1.
     pub fn new(alloc: Global, most: usize, fails: u32) -> Writer {
         Writer {
@@ -26,12 +26,12 @@ impl Writer {
         }
     }
 
-    /// Returns the bytes that the writer has received.
+    /// Returns all bytes that the writer has received.
     pub fn taken(&self) -> &[u8] {
         self.taken.as_slice()
     }
 
-    /// Appends the first bytes to those received, at most `most` of them, and returns how many it appended.
+    /// Receives the first bytes of `bytes`, at most `most`, and returns their number.
     fn take(&mut self, bytes: &[u8]) -> Result<usize, AllocError>
         ensures { IfOk result (λ n. n ≤ length bytes.now) }
     {

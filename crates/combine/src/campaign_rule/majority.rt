@@ -1,4 +1,4 @@
-//! The majority rule: finds the order in more than half of the places.
+//! The majority rule: finds the order that makes up more than half of a list.
 ghost use Rattle.std.specs.Prelude.{◌≡◌, ◌==◌, ◌<◌, ◌*◌, ℕ, count_by, find, length, ◌∷◌};
 ghost use Rattle.combine.specs.Rule.{majority, is_most};
 ghost use Rattle.combine.specs.Laws.{majority_is_rule};
@@ -6,7 +6,7 @@ ghost use Rattle.combine.specs.Laws.{majority_is_rule};
 use crate::orders::orders_of;
 use crate::rule::Combine;
 
-/// The rule that returns the order in more than half of the places, or RETREAT, which is 0, if there is none (TOPLAS
+/// The rule that returns the order that makes up more than half of the list, or RETREAT, 0, if there is none (TOPLAS
 /// 1982, section 3).
 #[derive(Clone, Copy, PartialEq, Eq)]
 pub struct Majority;
@@ -19,9 +19,9 @@ impl Combine for Majority {
         most(orders).unwrap_or(0)
     }
 
-    /// Returns the order to which the majority rule combines the received orders and one's own. It makes no list if
-    /// one's own order is in more than half of the places, or if the only other order is. Otherwise it lists and counts
-    /// all orders.
+    /// Combines the received orders and the general's own order by the majority rule. It builds no list if his own
+    /// order has a majority, or if only one other order occurs and has a majority. Otherwise it builds the list of
+    /// all orders and counts them.
     fn combine_told(&self, told: &[u32], place: usize, own: u32) -> u32 {
         if is_in_most_told(told, own, own) {
             return own;
@@ -37,7 +37,7 @@ impl Combine for Majority {
     ghost most_decide = { λ _. majority_is_rule };
 }
 
-/// Returns the order in more than half of the places, if there is one.
+/// Returns the order that makes up more than half of the list, or `None` if there is none.
 pub(crate) fn most(orders: &[u32]) -> Option<u32>
     ensures { result ≡ find (is_most orders.now) orders.now }
 {
@@ -49,8 +49,8 @@ pub(crate) fn most(orders: &[u32]) -> Option<u32>
     }
 }
 
-/// Returns the only order that can be in more than half of the places. It strikes out pairs of different orders (Boyer
-/// and Moore 1981).
+/// Returns the only order that can make up more than half of the list. The function removes pairs of different orders
+/// (Boyer and Moore 1981). If no order makes up more than half, the result may be any order.
 fn candidate(orders: &[u32]) -> u32
     ensures { (v : ℕ) → length orders.now < 2 * count_by (λ x. x == v) orders.now → result ≡ v }
 {
@@ -69,7 +69,7 @@ fn candidate(orders: &[u32]) -> u32
     candidate
 }
 
-/// Returns whether the order is in more than half of the places.
+/// Checks whether the order makes up more than half of the list.
 fn is_in_most(orders: &[u32], order: u32) -> bool
     ensures { result ≡ is_most orders.now order }
 {
@@ -77,7 +77,8 @@ fn is_in_most(orders: &[u32], order: u32) -> bool
     count > orders.len() - count
 }
 
-/// Returns the other order, if one's own and exactly one other order occur. Otherwise the result may be any number.
+/// Returns the order other than `own`, if exactly one other order occurs in `told`. Otherwise the result may be any
+/// number.
 fn other_of_two(told: &[u32], own: u32) -> u32 {
     let mut differences = 0;
     for x in told {
@@ -86,7 +87,7 @@ fn other_of_two(told: &[u32], own: u32) -> u32 {
     own ^ differences
 }
 
-/// Returns whether the order is in more than half of the places, counting one's own.
+/// Checks whether the order makes up more than half of the received orders and the general's own order together.
 fn is_in_most_told(told: &[u32], own: u32, order: u32) -> bool
     requires few { length told.now < 13 }
     ensures { result ≡ is_most (own ∷ told.now) order }
@@ -95,7 +96,7 @@ fn is_in_most_told(told: &[u32], own: u32, order: u32) -> bool
     count > told.len() + 1 - count
 }
 
-/// Returns the number of places that have the order.
+/// Returns how often the order occurs in the list.
 fn count(orders: &[u32], order: u32) -> usize
     ensures { result ≡ count_by (λ x. x == order) orders.now }
 {

@@ -1,12 +1,12 @@
-//! The median rule: finds the middle of the sorted orders.
+//! The median rule: finds the order in the middle of the sorted list.
 ghost use Rattle.std.specs.Prelude.{◌≡◌, count_by, nat_lt, nat_le, find};
 ghost use Rattle.combine.specs.Rule.{median, is_middle};
 ghost use Rattle.combine.specs.Laws.{median_is_rule};
 
 use crate::rule::Combine;
 
-/// The rule that returns the middle of the sorted list: the element at half of its length, from 0 and rounded down. The
-/// result is RETREAT, which is 0, if the list is empty.
+/// The rule that returns the order in the middle of the sorted list. It has the index n / 2, rounded down, among n
+/// orders, where indices begin at 0. The result is RETREAT, 0, if the list is empty.
 #[derive(Clone, Copy, PartialEq, Eq)]
 pub struct Median;
 
@@ -21,7 +21,7 @@ impl Combine for Median {
     ghost most_decide = { λ _. median_is_rule };
 }
 
-/// Returns the first order that is in the middle, or `None` if the list is empty.
+/// Returns the order in the middle of the sorted list, or `None` if the list is empty.
 fn middle(orders: &[u32]) -> Option<u32>
     ensures { result ≡ find (is_middle orders.now) orders.now }
 {
@@ -31,7 +31,8 @@ fn middle(orders: &[u32]) -> Option<u32>
         .find(|v| is_in_the_middle(orders, *v))
 }
 
-/// Returns whether at most half of the places have less than the order, and more than half have at most the order.
+/// Checks whether the order is in the middle of the sorted list: at most half of the orders are less, and more than
+/// half are less or equal.
 #[tactic(auto, unfolding(crate::specs::Rule::is_middle))]
 fn is_in_the_middle(orders: &[u32], order: u32) -> bool
     ensures { result ≡ is_middle orders.now order }
@@ -40,7 +41,7 @@ fn is_in_the_middle(orders: &[u32], order: u32) -> bool
     count_less(orders, order) <= half && half < count_no_more(orders, order)
 }
 
-/// Returns the number of places that have less than the order.
+/// Returns how many orders of the list are less than this order.
 fn count_less(orders: &[u32], order: u32) -> usize
     ensures { result ≡ count_by (λ x. nat_lt x order) orders.now }
 {
@@ -51,7 +52,7 @@ fn count_less(orders: &[u32], order: u32) -> usize
     count
 }
 
-/// Returns the number of places that have at most the order.
+/// Returns how many orders of the list are less than this order or equal to it.
 fn count_no_more(orders: &[u32], order: u32) -> usize
     ensures { result ≡ count_by (λ x. nat_le x order) orders.now }
 {

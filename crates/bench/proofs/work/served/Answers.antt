@@ -1,4 +1,4 @@
--- Each answer leads on.
+-- The run continues after each answer.
 use Rattle.bench.proofs.work.served.Goals as goal
 
 pub loop-init : goal.loop-init

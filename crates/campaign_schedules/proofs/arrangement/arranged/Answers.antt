@@ -1,4 +1,4 @@
--- The first access that cannot come is named.
+-- The fault names the first access that cannot be made.
 use Rattle.std.proofs.Common.{rules, ◌≡◌, ◌≤◌, ◌∙◌, List, Vec, ℕ, length, ap, subst, sym, arith}
 use Rattle.std.specs.String.{string_bytes}
 use Rattle.std.proofs.lemmas.List.{length-map}

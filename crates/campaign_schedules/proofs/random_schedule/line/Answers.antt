@@ -1,4 +1,4 @@
--- Word by word.
+-- A line is made word by word.
 use Rattle.std.proofs.Common.{◌∙◌, ◌++◌, ◌∷◌, [], ap, arith}
 use Rattle.world.specs.declared.schedule.Repeat.{Repeat}
 use Rattle.campaign_schedules.proofs.Seeds.{line_begins_with, line_ends, line_goes_on}

@@ -1,4 +1,4 @@
--- Line by line.
+-- A schedule is made line by line.
 use Rattle.std.proofs.Common.{refl, arith}
 use Rattle.rand_chacha.specs.ChaCha.{of_seed}
 use Rattle.rand_core.specs.Pcg32Seed.{pcg32_seed}

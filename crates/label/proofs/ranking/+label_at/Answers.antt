@@ -20,7 +20,7 @@ pub label_at-parent-requires : goal.label_at-parent-requires
 label_at-parent-requires t c =
     (let h = c.decreases in omega arith, (c.requires.space, (omega arith, (omega arith, rw (c.from-width.ensures, c.saturating_sub.ensures) (parent-within c.args.space c.requires.space c.args.size c.args.rank (omega arith) c.requires.within).1))))
 
--- what the parent and the place give, with the width under its own name
+-- Proves the result from the shorter label and the index, with the width as a variable.
 placed : (s : Space) → IsSpace s → (size r width : ℕ) (w v : List ℕ) → 1 < size → 0 < width → width ≡ s.generals - size → slice_get (labels_of s (size - 1)) (r / width) ≡ Some w → v ≡ w → r % width < length (others s.generals (s.general ∷ v))
 placed s i size r width w v l some e stands same =
     rw (same, e) (place-within s i size (r / (s.generals - size)) (r % (s.generals - size)) w l (rw e at stands) (rw e at (mod_below r width some)))

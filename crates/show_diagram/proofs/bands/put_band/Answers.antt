@@ -5,7 +5,7 @@ use Rattle.show_diagram.specs.Layout.{top_of}
 use Rattle.show_diagram.specs.Shapes.{group_end, group_start}
 use Rattle.show_diagram.proofs.bands.put_band.Goals as goal
 
--- three texts behind what was there
+-- Proves that three texts after a given one can be grouped.
 grouped : (old first second third a b d : List ℕ) → a ≡ old ++ first → b ≡ a ++ second → d ≡ b ++ third → d ≡ old ++ (first ++ second ++ third)
 grouped old first second third a b d e f g =
     let parts : (old ++ first) ++ second ++ third ≡ old ++ (first ++ second ++ third) = simp append_assoc in

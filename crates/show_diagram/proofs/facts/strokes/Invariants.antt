@@ -4,7 +4,7 @@ use Rattle.show_diagram.specs.Facts.{tellings_of}
 use Rattle.show_diagram.specs.Lists.{lists_to}
 use Rattle.show_diagram.proofs.facts.strokes.Given as goal
 
--- those to the receivers so far
+-- The strokes to the receivers so far.
 abbrev pub invariant-loop-receiver : goal.invariant-loop-receiver
 invariant-loop-receiver g l =
     let t = g.H.Heard.seen l.table in

@@ -6,7 +6,7 @@ use Rattle.show_diagram.specs.Lists.{is_same}
 use Rattle.show_diagram.specs.Order.{firsts}
 use Rattle.show_diagram.proofs.lists.told_once.Given as goal
 
--- what was seen, and each thing of it once
+-- The messages seen so far, and each of them once.
 abbrev pub invariant-loop-telling : goal.invariant-loop-telling
 invariant-loop-telling l =
     ((q : Telling) → contains is_same l.seen q ≡ list_any (is_same q) (take l.telling-index l.tellings))

@@ -2,6 +2,6 @@ use Rattle.std.proofs.Common.{take}
 use Rattle.round.specs.Told.{WasTold}
 use Rattle.show_table.proofs.letter_table.hear.Given as goal
 
--- the rounds so far
+-- What the lieutenants received in the rounds so far.
 abbrev pub invariant-loop-round : goal.invariant-loop-round
 invariant-loop-round l = WasTold l.scenario (take l.round-index l.letters) l.told

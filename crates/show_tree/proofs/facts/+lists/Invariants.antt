@@ -9,6 +9,6 @@ decreases-held g l = 2 * l.relays
 abbrev pub decreases-orders : goal.decreases-orders
 decreases-orders g l = 2 * l.relays + 1
 
--- the orders of the generals so far
+-- The orders of the generals so far.
 abbrev pub invariant-orders-loop-other : goal.invariant-orders-loop-other
 invariant-orders-loop-other g l = l.orders.items ≡ map (element (g.H.Heard.seen l.table) l.relays l.label l.general) (others l.other l.label)

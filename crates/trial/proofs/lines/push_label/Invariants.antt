@@ -5,7 +5,7 @@ use Rattle.outbox.specs.Contents.{order_at}
 use Rattle.trial.specs.Lines.{put_line}
 use Rattle.trial.proofs.lines.push_label.Given as goal
 
--- the lines of the receivers so far
+-- The lines for the receivers so far.
 abbrev pub invariant-loop-receiver : goal.invariant-loop-receiver
 invariant-loop-receiver l =
     string_bytes l.text ≡ string_bytes l.initial.text ++ flat_map (λ p. put_line l.rank p (order_at l.outbox.relay l.outbox.rows l.rank p)) (take l.receiver-index l.receiver-items)

@@ -5,7 +5,7 @@ use Rattle.semantics.specs.Relay.{relayed}
 use Rattle.trial.specs.Lines.{label_lines}
 use Rattle.trial.proofs.lines.push_orders.Given as goal
 
--- the lines of the labels so far
+-- The lines for the labels so far.
 abbrev pub invariant-loop-rank : goal.invariant-loop-rank
 invariant-loop-rank l =
     string_bytes l.text ≡ string_bytes l.initial.text ++ flat_map (λ label. label_lines l.outbox label.0 label.1) (enumerate_from 0 (take l.rank (relayed l.outbox.relay)))

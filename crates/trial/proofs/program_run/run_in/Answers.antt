@@ -1,4 +1,4 @@
--- The run in the setting's context and relay.
+-- The run in the context and relay of the setting.
 use Rattle.std.proofs.Common.{◌∙◌}
 use Rattle.std.proofs.lemmas.Result.{IfOk-weaker}
 use Rattle.trial.proofs.Entering.{entered_in}

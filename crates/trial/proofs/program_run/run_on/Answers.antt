@@ -1,4 +1,4 @@
--- Each answer leads on.
+-- The run continues after each answer.
 use Rattle.std.proofs.Common.{◌≤◌, length, ap, arith}
 use Rattle.semantics.specs.Replies.{words_in}
 use Rattle.semantics.specs.Relay.{oral}

@@ -1,4 +1,4 @@
--- A label that nobody receives.
+-- The reason for a label that nobody receives.
 use Rattle.std.proofs.Common.{◌≡◌, ◌<◌, ◌++◌, length, arith}
 use Rattle.std.specs.Prelude.{codes}
 use Rattle.std.specs.String.{string_bytes}
