@@ -325,24 +325,26 @@ static void messages(void) {
     message(BYZLAB_REFUSED, UINT32_MAX, "");
 }
 
-/* NULL for bytes of which there are none: the program is told to be none, and only the fault is written. */
+/* No bytes spell no program. The fault is set back for the next call. */
+static void refused_as_none(uint32_t status, struct byzlab_fault *fault) {
+    WANT(status == BYZLAB_MISSPELT && fault->number == BYZLAB_C8_COUNT && fault->unit == 0);
+    *fault = (struct byzlab_fault){777, 888};
+}
+
+/* NULL for a program of no bytes: only the fault is written. */
 static void without_program(void) {
     static const uint8_t context[BYZLAB_CONTEXT_BYTES];
     uint64_t board[BYZLAB_BOARD_WORDS] = {[0] = 7};
+    struct byzlab_fault fault = {777, 888};
     struct byzlab_outcome outcome = {111, 222};
     struct byzlab_program loaded = {0};
     size_t needed = 55;
-    enum { CALLS = 6 };
-    for (int call = 0; call < CALLS; call++) {
-        struct byzlab_fault fault = {777, 888};
-        uint32_t status = call == 0   ? byzlab_verify(NULL, 0, &fault)
-                          : call == 1 ? byzlab_run(NULL, 0, context, sizeof context, board, &fault, &outcome)
-                          : call == 2 ? byzlab_run_many(NULL, 0, NULL, 0, &fault, NULL, 0)
-                          : call == 3 ? byzlab_load(NULL, 0, BYZLAB_ALL_HELPERS, &loaded, &fault)
-                          : call == 4 ? byzlab_explain(NULL, 0, NULL, 0, &needed, &fault)
-                                      : byzlab_disassemble(NULL, 0, NULL, 0, &needed, &fault);
-        WANT(status == BYZLAB_MISSPELT && fault.number == BYZLAB_C8_COUNT && fault.unit == 0);
-    }
+    refused_as_none(byzlab_verify(NULL, 0, &fault), &fault);
+    refused_as_none(byzlab_run(NULL, 0, context, sizeof context, board, &fault, &outcome), &fault);
+    refused_as_none(byzlab_run_many(NULL, 0, NULL, 0, &fault, NULL, 0), &fault);
+    refused_as_none(byzlab_load(NULL, 0, BYZLAB_ALL_HELPERS, &loaded, &fault), &fault);
+    refused_as_none(byzlab_explain(NULL, 0, NULL, 0, &needed, &fault), &fault);
+    refused_as_none(byzlab_disassemble(NULL, 0, NULL, 0, &needed, &fault), &fault);
     WANT(board[0] == 7 && outcome.r0 == 111 && outcome.steps == 222 && !loaded.full && !loaded.at && needed == 55);
 }
 
