@@ -1,4 +1,4 @@
-/* Sends general 1 what this traitor took, and the others 0 in one run and 1 in the next, by a counter on the board. */
+/* Sends general 1 what this traitor took, and the others 0 in one round and 1 in the next, by a counter on the board. */
 #include "byzlab.h"
 
 u64 counted(const struct context *context)

@@ -1,7 +1,7 @@
 /*
  * byzlab_sandbox.h: a proved verifier and interpreter of BPF programs (RFC 9669; no loops, no maps), called from C.
  *
- *     cc program.c $(pkg-config --cflags --libs byzlab_sandbox)
+ *     cc program.c $(pkg-config --cflags --libs byzlab)
  *
  * A program that is accepted (status 0) never traps, never leaves its memory, and ends within as many steps as it has
  * instructions, whatever its context and board contain. What is said here about each status is proved
@@ -10,8 +10,10 @@
  *
  * The caller must ensure the following, which nothing checks:
  *
- * - Each pointer points to memory of the given size, is aligned for its type, and is not null. Only if the size beside it
- *   is 0 it may be NULL, which does no harm (this is tested, and not proved).
+ * - Each pointer points to memory of the given size, is aligned for its type, and is not NULL. Only a pointer with a size
+ *   next to it may be NULL, and only if this size is 0. It then has the effect that is described for the function, and
+ *   nothing else is read or written at it (this is tested, and not proved).
+ * - So NULL for board, fault, outcome, needed or loaded is undefined, at every status. It most likely ends the process.
  * - The memory that a function writes (fault, outcome, outcomes, board, text, needed, loaded) does not overlap any
  *   other argument, and no other thread reads or writes it during the call. No other thread writes the memory that a
  *   function only reads (program, context, contexts) during the call.
@@ -107,12 +109,19 @@ struct byzlab_program {
     void *at;
 };
 
-/* Checks whether the program is accepted. Returns 0 to 3. */
+/*
+ * Checks whether the program is accepted. Returns 0 to 3.
+ *
+ * NULL: the program, if length is 0. The status is then 1, and the number BYZLAB_C8_COUNT.
+ */
 uint32_t byzlab_verify(const uint8_t *program, size_t length, struct byzlab_fault *fault);
 
 /*
  * Verifies the program and runs it once. Returns 0 to 4. The helpers 1 to 5 read and write the board; after the call it
  * has the words that the program left. Board and outcome are written only at status 0.
+ *
+ * NULL: the context, if context_length is 0. The status is then 4, whatever the program is. And the program, if length is
+ * 0. The status is then 1, and the number BYZLAB_C8_COUNT, if the context has 4,096 bytes.
  */
 uint32_t byzlab_run(const uint8_t *program, size_t length, const uint8_t *context, size_t context_length,
                     uint64_t board[BYZLAB_BOARD_WORDS], struct byzlab_fault *fault, struct byzlab_outcome *outcome);
@@ -121,6 +130,9 @@ uint32_t byzlab_run(const uint8_t *program, size_t length, const uint8_t *contex
  * Verifies the program once and runs it in each of `count` contexts, which follow one another in memory. Each run has a
  * board of zeros. contexts_length is 4,096 * count. Returns 0 to 4. At status 0 all outcomes are written. At 3, if a run
  * had not enough memory, each outcome is either that of its run or unchanged.
+ *
+ * NULL: contexts and outcomes, if contexts_length and count are 0. The program is then only verified. And the program, if
+ * length is 0. The status is then 1, and the number BYZLAB_C8_COUNT, if contexts_length is 4,096 * count.
  */
 uint32_t byzlab_run_many(const uint8_t *program, size_t length, const uint8_t *contexts, size_t contexts_length,
                          struct byzlab_fault *fault, struct byzlab_outcome *outcomes, size_t count);
@@ -128,6 +140,8 @@ uint32_t byzlab_run_many(const uint8_t *program, size_t length, const uint8_t *c
 /*
  * Verifies the program and, at status 0, loads it in place of one that is loaded there. The program may only call helpers
  * that the mask allows. Returns 0 to 3, or 6. The bytes are not needed any more.
+ *
+ * NULL: the program, if length is 0. The status is then 1, and the number BYZLAB_C8_COUNT. What was loaded stays loaded.
  */
 uint32_t byzlab_load(const uint8_t *program, size_t length, uint64_t helpers, struct byzlab_program *loaded,
                      struct byzlab_fault *fault);
@@ -137,33 +151,37 @@ uint32_t byzlab_load(const uint8_t *program, size_t length, uint64_t helpers, st
  * finds zeros after them. Board and outcome are written only at status 0. The program stays loaded.
  *
  * A loaded program is for one call at a time. It may be passed to another thread. Threads that run the same program at
- * the same time load it once each.
+ * the same time load it once each, so each spends the time of a verification and the memory of a loaded program.
+ *
+ * NULL: the context, if context_length is 0. The program then finds only zeros.
  */
 uint32_t byzlab_run_loaded(struct byzlab_program *loaded, const uint8_t *context, size_t context_length,
                            uint64_t board[BYZLAB_BOARD_WORDS], struct byzlab_outcome *outcome);
 
-/* Frees the memory of the loaded program. If none is loaded, it does nothing. */
+/* Frees the memory of the loaded program. If none is loaded, it does nothing. NULL: never allowed. */
 void byzlab_unload(struct byzlab_program *loaded);
 
 /*
  * Returns the same as byzlab_verify, 0 to 3. At 0 and 2 it writes what the verifier knows at each unit about the
  * registers that are read, and at 2 why it rejects the program: at most `room` bytes into text, and the length of the
  * whole text into needed. Each line begins with a line feed, and there is no terminating 0. At 1 and 3 it writes neither.
- * A call with NULL and 0 for text and room asks for the length.
+ *
+ * NULL: text, if room is 0. The call then asks for the length. And the program, if length is 0. The status is then 1, and
+ * the number BYZLAB_C8_COUNT.
  */
 uint32_t byzlab_explain(const uint8_t *program, size_t length, char *text, size_t room, size_t *needed,
                         struct byzlab_fault *fault);
 
 /*
  * Writes at status 0, in the same way, the program's assembly text: a line for each instruction, which ends with a line
- * feed. The program need not be accepted. Returns 0, 1 or 3.
+ * feed. The program need not be accepted. Returns 0, 1 or 3. NULL: the same as for byzlab_explain.
  */
 uint32_t byzlab_disassemble(const uint8_t *program, size_t length, char *text, size_t room, size_t *needed,
                             struct byzlab_fault *fault);
 
 /*
  * Writes in the same way a sentence that describes the status or, at 1 and 2, the fault with this number. It is empty if
- * there is no such status or fault.
+ * there is no such status or fault. NULL: text, if room is 0. The call then asks for the length.
  */
 void byzlab_message(uint32_t status, uint32_t number, char *text, size_t room, size_t *needed);
 

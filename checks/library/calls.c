@@ -325,24 +325,54 @@ static void messages(void) {
     message(BYZLAB_REFUSED, UINT32_MAX, "");
 }
 
-/* NULL beside the size 0. */
+/* No bytes spell no program. The fault is set back for the next call. */
+static void refused_as_none(uint32_t status, struct byzlab_fault *fault) {
+    WANT(status == BYZLAB_MISSPELT && fault->number == BYZLAB_C8_COUNT && fault->unit == 0);
+    *fault = (struct byzlab_fault){777, 888};
+}
+
+/* NULL for a program of no bytes: only the fault is written. */
+static void without_program(void) {
+    static const uint8_t context[BYZLAB_CONTEXT_BYTES];
+    uint64_t board[BYZLAB_BOARD_WORDS] = {[0] = 7};
+    struct byzlab_fault fault = {777, 888};
+    struct byzlab_outcome outcome = {111, 222};
+    struct byzlab_program loaded = {0};
+    size_t needed = 55;
+    refused_as_none(byzlab_verify(NULL, 0, &fault), &fault);
+    refused_as_none(byzlab_run(NULL, 0, context, sizeof context, board, &fault, &outcome), &fault);
+    refused_as_none(byzlab_run_many(NULL, 0, NULL, 0, &fault, NULL, 0), &fault);
+    refused_as_none(byzlab_load(NULL, 0, BYZLAB_ALL_HELPERS, &loaded, &fault), &fault);
+    refused_as_none(byzlab_explain(NULL, 0, NULL, 0, &needed, &fault), &fault);
+    refused_as_none(byzlab_disassemble(NULL, 0, NULL, 0, &needed, &fault), &fault);
+    WANT(board[0] == 7 && outcome.r0 == 111 && outcome.steps == 222 && !loaded.full && !loaded.at && needed == 55);
+}
+
+/* NULL beside the size 0, of all that has a size but the program. */
 static void without(void) {
     uint64_t board[BYZLAB_BOARD_WORDS] = {0};
     struct byzlab_fault fault = {777, 888};
     struct byzlab_outcome outcome = {111, 222};
     struct byzlab_program loaded = {0};
     size_t needed = 0;
-    WANT(byzlab_verify(NULL, 0, &fault) == BYZLAB_MISSPELT && fault.number == BYZLAB_C8_COUNT);
     WANT(byzlab_run(answer, 16, NULL, 0, board, &fault, &outcome) == BYZLAB_LENGTH);
+    WANT(byzlab_run(NULL, 0, NULL, 0, board, &fault, &outcome) == BYZLAB_LENGTH && outcome.r0 == 111);
     WANT(byzlab_run_many(answer, 16, NULL, 0, &fault, NULL, 0) == BYZLAB_DONE);
-    WANT(byzlab_load(NULL, 0, BYZLAB_NO_HELPERS, &loaded, &fault) == BYZLAB_MISSPELT);
+    WANT(byzlab_run_many(unset, 16, NULL, 0, &fault, NULL, 0) == BYZLAB_REFUSED && fault.number == BYZLAB_V5_UNSET);
     WANT(byzlab_load(answer, 16, BYZLAB_NO_HELPERS, &loaded, &fault) == BYZLAB_DONE);
+    WANT(byzlab_load(NULL, 0, BYZLAB_NO_HELPERS, &loaded, &fault) == BYZLAB_MISSPELT && loaded.full);
     WANT(byzlab_run_loaded(&loaded, NULL, 0, board, &outcome) == BYZLAB_DONE && outcome.r0 == 42);
+    WANT(byzlab_load(last, 16, BYZLAB_NO_HELPERS, &loaded, &fault) == BYZLAB_DONE);
+    WANT(byzlab_run_loaded(&loaded, NULL, 0, board, &outcome) == BYZLAB_DONE && outcome.r0 == 0 && outcome.steps == 2);
     byzlab_unload(&loaded);
+    WANT(byzlab_run_loaded(&loaded, NULL, 0, board, &outcome) == BYZLAB_UNLOADED);
     WANT(byzlab_explain(answer, 16, NULL, 0, &needed, &fault) == BYZLAB_DONE && needed > 10);
+    WANT(byzlab_explain(unset, 16, NULL, 0, &needed, &fault) == BYZLAB_REFUSED && needed > 10 && fault.unit == 0);
     WANT(byzlab_disassemble(answer, 16, NULL, 0, &needed, &fault) == BYZLAB_DONE && needed == 16);
     byzlab_message(BYZLAB_DONE, 0, NULL, 0, &needed);
     WANT(needed == 26);
+    byzlab_message(7, 0, NULL, 0, &needed);
+    WANT(needed == 0);
 }
 
 static void *all(void *none) {
@@ -356,6 +386,7 @@ static void *all(void *none) {
     alike();
     texts();
     messages();
+    without_program();
     without();
     WANT(byzlab_version() == BYZLAB_VERSION);
     return none;

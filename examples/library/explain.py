@@ -18,8 +18,7 @@ for name in ("byzlab_explain", "byzlab_disassemble"):
 def text_of(function, program):
     """Returns status, text and fault. The first call asks for the length of the text."""
     needed, fault = SIZE(0), Fault()
-    room = ctypes.create_string_buffer(1)
-    function(program, len(program), room, 0, ctypes.byref(needed), ctypes.byref(fault))
+    function(program, len(program), None, 0, ctypes.byref(needed), ctypes.byref(fault))
     room = ctypes.create_string_buffer(needed.value + 1)
     status = function(program, len(program), room, needed.value, ctypes.byref(needed), ctypes.byref(fault))
     return status, room.raw[: needed.value].decode("ascii"), fault

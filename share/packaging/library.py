@@ -1,22 +1,34 @@
-"""The library for C: libbyzlab.a and libbyzlab.so, made of the archive of the crate capi, and its pkg-config file."""
+"""The library for C: libbyzlab.a and libbyzlab.so, made of the archive of the crate capi, and their files for pkg-config and
+CMake."""
 import os
+import re
 import shutil
 
-from checkout import TOP, Failure, call, product, toolchain, version
+from checkout import TOP, Failure, call, product, read, toolchain, version
 
 EXPORTS = ["byzlab_verify", "byzlab_run", "byzlab_run_many", "byzlab_load", "byzlab_run_loaded", "byzlab_unload",
            "byzlab_explain", "byzlab_disassemble", "byzlab_message", "byzlab_version"]
 TOOLS = {"cc": "gcc", "ld": "binutils", "objcopy": "binutils", "ar": "binutils"}
-CONFIG = """prefix={prefix}
+# The files for pkg-config. The second has the name under which 1.0.0 is found.
+CONFIGS = {
+    "byzlab.pc": """prefix={prefix}
 includedir=${{prefix}}/include
 libdir=${{prefix}}/{lib}
 
-Name: byzlab_sandbox
+Name: byzlab
 Description: A proved verifier and machine of BPF programs
 Version: {version}
 Cflags: -I${{includedir}}
 Libs: -L${{libdir}} -lbyzlab
-"""
+""",
+    "byzlab_sandbox.pc": """Name: byzlab_sandbox
+Description: The older name of byzlab
+Version: {version}
+Requires: byzlab
+""",
+}
+# The files for CMake in share/cmake, in which the names between @ signs are replaced.
+CMAKE = ("byzlab-config.cmake", "byzlab-config-version.cmake")
 
 
 def soname():
@@ -59,12 +71,22 @@ def build(folder, capi):
     return static, shared
 
 
+def configs(prefix, lib):
+    """Returns the texts of the files for pkg-config and CMake by their paths in the folder of the libraries."""
+    found = {os.path.join("pkgconfig", name): text.format(prefix=prefix, lib=lib, version=version()) for name, text in CONFIGS.items()}
+    folder = os.path.join("cmake", "byzlab")
+    include = os.path.relpath("include", os.path.join(lib, folder))
+    values = {"include": include, "soname": soname(), "version": version(), "major": version().split(".")[0]}
+    for name in CMAKE:
+        found[os.path.join(folder, name)] = re.sub(r"@(\w+)@", lambda mark: values[mark[1]], read(os.path.join("share", "cmake", name)))
+    return found
+
+
 def install(tree, capi, prefix, lib="lib"):
-    """Puts into a folder the libraries, the header, the pkg-config file and the man page. `prefix` is the folder that the
-    pkg-config file names. Returns the paths of both libraries."""
-    libraries, include = os.path.join(tree, lib), os.path.join(tree, "include")
-    config, pages = os.path.join(libraries, "pkgconfig"), os.path.join(tree, "share", "man", "man3")
-    for folder in (libraries, include, config, pages):
+    """Puts into a folder the libraries, the header, the man page, and the files for pkg-config and CMake. `prefix` is the folder
+    that the pkg-config file names. Returns the paths of both libraries."""
+    libraries, include, pages = os.path.join(tree, lib), os.path.join(tree, "include"), os.path.join(tree, "share", "man", "man3")
+    for folder in (libraries, include, pages):
         os.makedirs(folder, exist_ok=True)
     static, shared = build(libraries, capi)
     plain = os.path.join(libraries, "libbyzlab.so")
@@ -73,6 +95,9 @@ def install(tree, capi, prefix, lib="lib"):
     os.symlink(os.path.basename(shared), plain)
     shutil.copyfile(os.path.join(TOP, "share", "byzlab_sandbox.h"), os.path.join(include, "byzlab_sandbox.h"))
     shutil.copyfile(os.path.join(TOP, "share", "byzlab_sandbox.3"), os.path.join(pages, "byzlab_sandbox.3"))
-    with open(os.path.join(config, "byzlab_sandbox.pc"), "w", encoding="ascii") as file:
-        file.write(CONFIG.format(prefix=prefix, lib=lib, version=version()))
+    for name, text in configs(prefix, lib).items():
+        path = os.path.join(libraries, name)
+        os.makedirs(os.path.dirname(path), exist_ok=True)
+        with open(path, "w", encoding="utf-8") as file:
+            file.write(text)
     return static, shared
