@@ -63,8 +63,8 @@ fn push_blanks(
     Ok(())
 }
 
-/// Appends one line for each receiver of a label, which is each general who is not on the label. The line has a question
-/// mark in place of the order.
+/// Appends one line for each receiver of a label, which is each general who is not on the label. The line has a
+/// question mark in place of the order.
 fn push_receivers(
     alloc: Global,
     text: &mut String,
