@@ -94,7 +94,7 @@ fn campaign_again(alloc: Global, campaign: &Campaign, text: &[u8]) -> Result<Vec
 }
 
 /// Returns the report on a rejected line of a schedule or a chronicle. Returns an empty report if the file is neither,
-/// as `of` says, or if memory ran out.
+/// as `of` says, or if `error` is not about a line. Fails with `AllocError` if it runs out of memory.
 fn trace_told(
     alloc: Global,
     of: FileRole<'_>,

@@ -49,8 +49,9 @@ fn misfit_at(
     misfit_of(helper, r, argument, state.known(r))
 }
 
-/// Returns the sentence that says that the words from a slot on may go past the end of the board, which has 64.
-/// `counts` is what is known of their number. Returns `None` if slot or count is not known to be a number up to 64.
+/// Returns the sentence that says that the words from a slot on may go past the end of the board, which has 64. It is
+/// not checked that they may. `counts` is what is known of their number. Returns `None` if slot or count is not known to
+/// be a number up to 64.
 fn past_board(slots: AbsVal, counts: AbsVal) -> Option<Sentence>
     ensures { result ≡ past_board slots counts }
 {
@@ -68,7 +69,8 @@ fn past_board(slots: AbsVal, counts: AbsVal) -> Option<Sentence>
 }
 
 /// Returns the sentence that says that the arguments of a call are rejected: the first that the helper does not accept
-/// or, if it accepts each, that slot and count together go past the end of the board.
+/// or, if it accepts each, that slot and count together may go past the end of the board. Returns `None` if it accepts
+/// each, and r1 or r3 is not known to be a number up to 64.
 fn arguments_misfit(
     helper: Helper,
     state: &AbsState,
