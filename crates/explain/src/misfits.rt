@@ -50,8 +50,8 @@ fn misfit_at(
 }
 
 /// Returns the sentence that says that the words from a slot on may go past the end of the board, which has 64. It is
-/// not checked that they may. `counts` is what is known of their number. Returns `None` if slot or count is not known to
-/// be a number up to 64.
+/// not checked that they may. `counts` is what is known of their number. Returns `None` if slot or count is not known
+/// to be a number up to 64.
 fn past_board(slots: AbsVal, counts: AbsVal) -> Option<Sentence>
     ensures { result ≡ past_board slots counts }
 {
