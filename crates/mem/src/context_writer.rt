@@ -11,7 +11,7 @@ use std::alloc::{AllocError, Global};
 
 /// Replaces `bytes` by the context of a general in one round of a campaign with this bound. `shape` has the general,
 /// the round and the other numbers of the campaign. `values` are the orders that he took for the labels that he relays,
-/// in the order of their ranks, and must be at most 1,000.
+/// in the order of their ranks. There may be at most 1,000 of them.
 ///
 /// The vector must have room for 4,096 bytes, so that nothing is allocated. A general relays at most 990 labels, with
 /// 13 generals in round 5 (11 * 10 * 9), and there is room for 1,016 orders.

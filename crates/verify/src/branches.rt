@@ -54,7 +54,8 @@ fn used_number(width: Width, number: i32) -> u64
 }
 
 /// Narrows what is known of register `dst`, which a jump compares with a number, to the case that the jump is `taken`
-/// or not. Returns true. If this case is known to be impossible, returns false, and the registers are unchanged.
+/// or not. Returns false, and leaves the registers unchanged, if this case is known to be impossible. Otherwise returns
+/// true.
 #[inline(always)]
 fn refine_by_number(
     registers: &mut [AbsVal; 11],
@@ -80,8 +81,8 @@ fn refine_by_number(
 }
 
 /// Narrows what is known of registers `dst` and `src`, which a jump compares, to the case that the jump is `taken` or
-/// not. Returns true. If this case is known to be impossible, returns false, and the registers are unchanged. If a
-/// register is compared with itself, nothing is learned, and the result is true.
+/// not. Returns false, and leaves the registers unchanged, if this case is known to be impossible. Otherwise returns
+/// true. If a register is compared with itself, nothing is learned, and the result is true.
 #[inline(always)]
 fn refine_registers(
     registers: &mut [AbsVal; 11],
