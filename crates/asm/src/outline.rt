@@ -82,7 +82,8 @@ fn push_operands<'a>(words: &mut Vec<&'a [u8]>, text: &'a [u8]) -> Result<(), Li
     Ok(())
 }
 
-/// Appends the mnemonic and the operands in `body` to `words`. Fails with `Line` if `body` does not have this form.
+/// Appends the mnemonic and the operands in `body` to `words`, which must be empty. Appends nothing if `body` is empty.
+/// Fails with `Line` if `body` does not have this form, and with `Memory`.
 #[tactic(auto, unfolding(crate::specs::Line::line_words))]
 fn push_words<'a>(words: &mut Vec<&'a [u8]>, body: &'a [u8]) -> Result<(), LineError>
     requires { words.old.items ≡ [] }

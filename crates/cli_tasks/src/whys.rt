@@ -94,7 +94,7 @@ fn campaign_again(alloc: Global, campaign: &Campaign, text: &[u8]) -> Result<Vec
 }
 
 /// Returns the report on a rejected line of a schedule or a chronicle. Returns an empty report if the file is neither,
-/// as `of` says, or if memory ran out.
+/// as `of` says, or if `error` is not about a line. Fails with `AllocError` if it runs out of memory.
 fn trace_told(
     alloc: Global,
     of: FileRole<'_>,
@@ -160,6 +160,7 @@ fn told_by(
 }
 
 /// Returns the failure of a task that rejects the file named `file` for the reason `refusal`, with `text` as the hint.
+/// There is no hint if the file is not UTF-8 or memory ran out: these are failures of their own, `Text` and `Memory`.
 fn with_text<'a>(refusal: InputRefusal, file: &'a str, text: String) -> TaskFailure<'a>
     ensures { result ≡ text_fault refusal file.entry text }
 {
@@ -171,7 +172,8 @@ fn with_text<'a>(refusal: InputRefusal, file: &'a str, text: String) -> TaskFail
 }
 
 /// Returns the failure of a task that rejects the file named `file` with the bytes `bytes`, with a report on the fault
-/// as the hint.
+/// as the hint. The report is empty for a fault that needs none. The failure is `Text`, without a hint, if the file is
+/// not UTF-8, and `Memory` if memory runs out.
 fn told<'a>(
     alloc: Global,
     of: FileRole<'_>,
