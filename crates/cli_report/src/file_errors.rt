@@ -472,8 +472,8 @@ fn own_source(table: Option<usize>, own: &[u8]) -> Option<Found<'_>>
     }
 }
 
-/// Returns what follows the report of an error: the explanation of the program if the verifier rejects it, and
-/// otherwise an empty text.
+/// Returns what follows the report of an error: the explanation of the program if the verifier rejects it. Returns an
+/// empty text for any other error, and if `made`, the resolved scenario, does not contain the program.
 fn made_judged(
     alloc: Global,
     own: &str,

@@ -9,7 +9,8 @@ pub struct TaskRequest {
     pub task: Task,
     /// Whether the answer is printed as JSON Lines, with an object for each line.
     pub json: bool,
-    /// Whether the answer is printed as only one line, which begins with the file's name.
+    /// Whether the answer is printed as only one line, which begins with the file's name. With `json`, the line is an
+    /// object with the file's name as a member.
     pub verdicts: bool,
     /// Whether a scenario that names a file is refused, without opening the file.
     pub no_files: bool,

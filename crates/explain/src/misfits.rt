@@ -22,8 +22,9 @@ fn above(helper: Helper, r: Reg, numbers: NumberSet, most: u64) -> Option<Senten
     Some(Sentence::Call(Misfit::Above(helper, r, value, most)))
 }
 
-/// Returns the sentence that says that the argument in register `r` is rejected, or `None` if it is accepted. The
-/// helper accepts a number up to its limit or, if it has no limit, a pointer. `value` is what is known of the argument.
+/// Returns the sentence that says that the argument in register `r` is rejected. The helper accepts a number up to its
+/// limit or, if it has no limit, a pointer. `value` is what is known of the argument. Returns `None` if it is accepted,
+/// and also if a pointer is needed and the value may be unset.
 fn misfit_of(helper: Helper, r: Reg, argument: Argument, value: AbsVal) -> Option<Sentence>
     ensures { result ≡ misfit_of helper r (bound_of argument) value }
 {
@@ -36,7 +37,7 @@ fn misfit_of(helper: Helper, r: Reg, argument: Argument, value: AbsVal) -> Optio
 }
 
 /// Returns the sentence that says that the argument in register `r` is rejected. Returns `None` if the helper accepts
-/// it, or takes no argument there.
+/// it or takes no argument there, and also if it needs a pointer there and the register may be unset.
 fn misfit_at(
     helper: Helper,
     state: &AbsState,
