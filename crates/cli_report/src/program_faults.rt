@@ -338,7 +338,7 @@ fn bytecode_shown(alloc: Global, general: u8, text: &[u8]) -> Result<Option<Mark
 }
 
 /// Marks what the verifier rejects in a general's program: the statement of unit `unit` in assembly, or the key of
-/// bytecode.
+/// bytecode. Returns `None` if the file `text` does not have it.
 fn refused_at<'a>(
     alloc: Global,
     text: &'a [u8],

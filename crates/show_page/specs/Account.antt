@@ -144,7 +144,8 @@ program_if room g (Some program) = program_told room g program
 abbrev pub program_part : ℕ → Scenario → ℕ → List ℕ
 program_part room s g = program_if room g (program_of s g)
 
--- Writes the programs of all traitors. The explanation of each program may have `room` bytes.
+-- Writes the programs of all traitors. If the explanation of a program has more than `room` bytes, a paragraph in its
+-- place says where to find it.
 abbrev pub each_program : ℕ → Scenario → List ℕ
 each_program room s = flat_map (program_part room s) (range_with_len 0 s.generals)
 
