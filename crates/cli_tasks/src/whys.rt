@@ -172,7 +172,8 @@ fn with_text<'a>(refusal: InputRefusal, file: &'a str, text: String) -> TaskFail
 }
 
 /// Returns the failure of a task that rejects the file named `file` with the bytes `bytes`, with a report on the fault
-/// as the hint. If memory ran out, also here, or if the file is not UTF-8 text, the failure has no hint.
+/// as the hint. If memory ran out, before or while the report was made, or if the file is not UTF-8 text, the failure
+/// has no hint.
 fn told<'a>(
     alloc: Global,
     of: FileRole<'_>,

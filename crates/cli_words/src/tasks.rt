@@ -107,7 +107,7 @@ pub enum Task {
     },
     /// Draw the tree of what this general received, in a message table or in a campaign. The drawing has `depth` levels
     /// below the commander's, 0 to 4, and marks the lies of `traitors`. If `folded` is true, it omits the labels below
-    /// one if the same was received for all of them.
+    /// a label if the same was received for it and for all of them, and none is known to be a lie.
     Tree {
         file: String,
         general: u8,

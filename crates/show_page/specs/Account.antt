@@ -187,7 +187,8 @@ abbrev pub diagram_section : MessageTable → Chronicle → Section
 diagram_section t c = picture_section (is_wide c.scenario c.accesses) (svg_text t c)
 
 -- Returns how a page shows the trees of the lieutenants: with two levels of labels below the commander's. The labels
--- below a label are left out if the lieutenant received the same for all of them.
+-- below a label are left out if the lieutenant received the same for it and for all of them, and none is known to be a
+-- lie.
 abbrev pub view_of : Scenario → View
 view_of s = record { depth = 2; folds = true; order = Some s.order }
 

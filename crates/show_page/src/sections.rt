@@ -261,7 +261,8 @@ fn put_lieutenant_of<H: Heard>(
 }
 
 /// Returns how a page shows the trees of the lieutenants: with two levels of labels below the commander's, and with the
-/// commander's order. The labels below a label are left out if the lieutenant received the same for all of them.
+/// commander's order. The labels below a label are left out if the lieutenant received the same for it and for all of
+/// them, and none is known to be a lie.
 fn view_of(scenario: &Scenario) -> View
     ensures { result ≡ view_of scenario.now }
 {
