@@ -61,8 +61,8 @@ fn explore_all(alloc: Global, scenario: &Scenario) -> Result<Exploration, AllocE
     }
 }
 
-/// Returns the outcomes of all orders. It follows them together, access by access, and merges equal worlds. Fails with
-/// `AllocError` if it runs out of memory.
+/// Returns the outcomes of all orders. It follows them together, access by access, and merges alike worlds, from which
+/// the same outcomes follow. Fails with `AllocError` if it runs out of memory.
 fn explore_layers(alloc: Global, scenario: &Scenario) -> Result<Exploration, AllocError>
     ensures { IfOk result (λ exploration. IsExploration oral_kind oral_outcome scenario.now (2 ^ 64 - 1) exploration) }
 {

@@ -203,9 +203,11 @@ fn is_reported(task: &Task, refusal: &InputRefusal) -> bool
     }
 }
 
-/// Returns the failure of a task that rejects its first file, without explaining a program. If the task must explain
-/// its errors, the hint is a report on `own`, the bytes in which the fault is located. Otherwise the hint only says
-/// what the bytes seem to be or why an ELF object is at fault, if either applies.
+/// Returns the failure of a task that rejects its first file, without explaining a program. If an ELF object has no
+/// code for the entry function, the hint says why. For another refusal, if the task must explain its errors, the hint
+/// is a report on `own`, the bytes in which the fault is located. Otherwise there is a hint only if `own` should be
+/// bytecode and is not: it says what these bytes seem to be. If memory ran out, or if the file is not UTF-8 text, there
+/// is never a hint.
 pub fn unjudged<'a>(
     alloc: Global,
     task: &Task,
@@ -223,7 +225,8 @@ pub fn unjudged<'a>(
 }
 
 /// Returns the failure of a task that rejects the second file, which has the name `file` and the bytes `bytes`. If
-/// `explained` is set, the hint is a report on the fault. Otherwise there is no hint.
+/// `explained` is set, the hint is a report on the fault, except if memory ran out or the file is not UTF-8 text.
+/// Otherwise there is no hint.
 pub fn later<'a>(
     alloc: Global,
     explained: bool,

@@ -108,7 +108,7 @@ fn edge_where(condition: Condition, a: Range, b: Range) -> Option<(Range, Range)
     }
 }
 
-/// Exchanges the two ranges of a pair.
+/// Exchanges the two ranges of a pair. Returns `None` if there is no pair.
 fn turned(pair: Option<(Range, Range)>) -> Option<(Range, Range)>
     ensures exact { result ≡ exchanged pair }
     ensures holds { (x y : ℕ) → HoldBoth pair y x → HoldBoth result x y }
