@@ -42,7 +42,8 @@ class Laboratory:
         self.hosts = frozenset(name.lower() for name in hosts)
         self.files = pages(page)
         known = {"stories": texts(examples, ".toml", is_story), "strategies": texts(os.path.join(examples, "strategies"), ".asm")}
-        known.update(exercises=exercises(os.path.join(examples, "exercises")), searches=programs.has("surveyor"))
+        known.update(tables=texts(examples, ".table"), schedules=texts(examples, ".schedule"), searches=programs.has("surveyor"))
+        known.update(exercises=exercises(os.path.join(examples, "exercises")), tasks=tasks(examples))
         self.files["/examples.json"] = "application/json", json.dumps(known).encode()
         self.late_order = text_of(os.path.join(examples, "surveys", "late_order.asm"))
 
@@ -156,6 +157,11 @@ def texts(folder, ending, is_wanted=lambda text: True):
 def exercises(folder):
     """Returns the texts of the exercises' files by their names."""
     return {name + ending: text for ending in EXERCISES for name, text in texts(folder, ending).items()}
+
+
+def tasks(examples):
+    """Returns what examples/exercises/tasks.json says about the exercises, by their names."""
+    return json.loads(text_of(os.path.join(examples, "exercises", "tasks.json")) or b"{}")
 
 
 def text_of(path):
