@@ -2,6 +2,7 @@
 import json
 import os
 import re
+import time
 
 from . import commands
 from .program import Turns
@@ -10,6 +11,8 @@ from .refused import Refused
 MOST_BODY = 256 * 1024
 # What a browser sends anyway is read up to this size: otherwise it would not see the answer.
 MOST_READ = 4 * MOST_BODY
+# The seconds in which a request must arrive.
+SECONDS = 10
 EXERCISES = (".toml", ".asm", ".table", ".chronicle")
 KINDS = {".html": "text/html", ".css": "text/css", ".js": "text/javascript", ".svg": "image/svg+xml"}
 POLICY = "; ".join(
@@ -111,16 +114,29 @@ def body(environ):
     if environ.get("CONTENT_TYPE", "").split(";")[0].strip().lower() != "application/json":
         raise Refused("415 Unsupported Media Type", "A request is application/json.")
     try:
-        content = environ["wsgi.input"].read(int(length))
-    except OSError:
-        raise Refused("408 Request Timeout", "The request did not arrive.") from None
-    try:
-        request = json.loads(content.decode("utf-8"))
+        request = json.loads(content_of(environ["wsgi.input"], int(length)).decode("utf-8"))
     except (ValueError, RecursionError):
         raise Refused("400 Bad Request", "The request is not JSON.") from None
     if not isinstance(request, dict):
         raise Refused("400 Bad Request", "A request is an object.")
     return request
+
+
+def content_of(stream, length):
+    """Returns the bytes of a body. Each part of it may take the time that the connection allows, and all of it has its own limit."""
+    read, parts, end = getattr(stream, "read1", stream.read), [], time.monotonic() + SECONDS
+    while length > 0:
+        try:
+            part = read(length)
+        except OSError:
+            part = None
+        if part is None or time.monotonic() > end:
+            raise Refused("408 Request Timeout", "The request did not arrive.")
+        if not part:
+            raise Refused("400 Bad Request", "The request is shorter than it says.")
+        parts.append(part)
+        length -= len(part)
+    return b"".join(parts)
 
 
 def drain(stream, rest):
