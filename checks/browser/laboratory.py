@@ -548,7 +548,7 @@ def in_a_grid(browser, address, wrong):
         tab.to_the_end()
         wrong.unless("the grid: its messages", tab.messages(), chronicle.spoken(len(chronicle.rounds)))
         decided(tab, "the grid", chronicle, wrong)
-        tab.click(".message.lie")
+        tab.click(".grid .message")
         wrong.unless("the grid: where a message came from", tab.ask("document.querySelectorAll('.grid .lit').length > 0"))
         wrong.look(tab, "a grid")
         wrong.add(*messages(tab))

@@ -99,6 +99,7 @@ function changed() {
 /* ---- showing */
 
 function show() {
+  if ($("course").hidden) return; // (a message table is shown)
   const isTwo = Boolean(compared()) && other.course !== null;
   $("panes").classList.toggle("two", isTwo);
   if (isTwo && !other.element.isConnected) $("panes").append(other.element);
@@ -180,13 +181,16 @@ function reveal() {
 /* ---- links and files */
 
 async function share(isExercise) {
-  const fragment = `${isExercise ? `${PREDICT},` : ""}${await packed(page.campaign)}`;
+  const campaign = await packed(page.campaign).catch(() => null);
+  if (campaign === null) return complain({ why: "This browser cannot make links. Keep the scenario instead." });
+  const fragment = `${isExercise ? `${PREDICT},` : ""}${campaign}`;
   history.replaceState(null, "", `#${fragment}`);
   $("link").value = location.href;
   $("shared").hidden = false;
   $("link").select();
   const isCopied = await (navigator.clipboard?.writeText(location.href) ?? Promise.reject()).then(() => true, () => false);
   $("copied").textContent = isCopied ? "The link is copied." : "Copy the link from here.";
+  return undefined;
 }
 
 async function save(command, name, type) {
@@ -332,7 +336,7 @@ async function begin() {
     },
     strategy: FIRST_STRATEGY in known.strategies ? FIRST_STRATEGY : Object.keys(known.strategies)[0],
   });
-  tools = new Tools(page, known.tables, (text) => exercise.answered(text));
+  tools = new Tools(page, known.tables, (text) => exercise.answered(text), show);
   breaking = new Breaking(page, known.searches, load, (text, liars) => tools.table(text, liars));
   orders = new Orders(page, () => {
     page.step = 0;

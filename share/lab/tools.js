@@ -8,8 +8,8 @@ const WAIT = 300; // milliseconds after the last key
 const label = (name) => name.replaceAll("_", " ");
 
 export class Tools {
-  /* `answered` is called with a text and what the program says about it. */
-  constructor(page, tables, answered) {
+  /* `answered` is called with a text and what the program says about it, and `show` shows the campaign again. */
+  constructor(page, tables, answered, show) {
     this.page = page;
     this.tables = tables;
     this.answered = answered;
@@ -21,7 +21,11 @@ export class Tools {
     $("table").addEventListener("input", later(WAIT, () => this.read()));
     $("decide").addEventListener("click", () => this.reveal());
     $("lieutenant").addEventListener("change", () => this.draw());
-    $("leave").addEventListener("click", () => this.leave());
+    $("leave").addEventListener("click", () => {
+      this.leave();
+      show();
+      $("stage").focus();
+    });
     $("audit").addEventListener("click", () => this.audit());
   }
 
@@ -42,7 +46,7 @@ export class Tools {
     return this.read();
   }
 
-  /* Shows the campaign again. */
+  /* Puts the table back into its fold, and the campaign into its place. */
   leave() {
     if ($("tables").parentElement !== $("stage")) return;
     $("tables").open = false;
