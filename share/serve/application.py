@@ -123,28 +123,34 @@ def body(environ):
 
 
 def content_of(stream, length):
-    """Returns the bytes of a body. Each part of it may take the time that the connection allows, and all of it has its own limit."""
-    read, parts, end = getattr(stream, "read1", stream.read), [], time.monotonic() + SECONDS
+    """Returns the bytes of a body."""
+    content = b"".join(parts_of(stream, length))
+    if len(content) < length:
+        raise Refused("400 Bad Request", "The request is shorter than it says.")
+    return content
+
+
+def drain(stream, length):
+    """Reads a body and forgets it."""
+    for _ in parts_of(stream, length):
+        pass
+
+
+def parts_of(stream, length):
+    """Yields the parts of a body as they arrive, until it has this length or ends. The connection limits the time for each part,
+    and SECONDS the time for all of them."""
+    read, end = getattr(stream, "read1", stream.read), time.monotonic() + SECONDS
     while length > 0:
         try:
-            part = read(length)
+            part = read(min(length, 65536))
         except OSError:
             part = None
         if part is None or time.monotonic() > end:
             raise Refused("408 Request Timeout", "The request did not arrive.")
         if not part:
-            raise Refused("400 Bad Request", "The request is shorter than it says.")
-        parts.append(part)
-        length -= len(part)
-    return b"".join(parts)
-
-
-def drain(stream, rest):
-    while rest > 0:
-        part = stream.read(min(rest, 65536))
-        if not part:
             return
-        rest -= len(part)
+        length -= len(part)
+        yield part
 
 
 def pages(folder):
