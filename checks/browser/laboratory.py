@@ -517,6 +517,9 @@ def a_story(tab, fragment, name, wrong):
     schedule = [] if name == base else ["--schedule", os.path.join(TOP, "examples", f"{name}.schedule")]
     tab.to_the_end()
     wrong.unless(f"{fragment}: hidden decisions", set(tab.decisions().values()), {"?"})
+    tab.ask("document.querySelector('.held').open = true")
+    count = tab.ask("document.querySelectorAll('#generals button').length") - 1
+    wrong.unless(f"{fragment}: what each lieutenant holds", tab.until(f"document.querySelectorAll('.held section li').length >= {count} && document.querySelectorAll('.held section').length === {count}"))
     wrong.unless(f"{fragment}: the hidden story", tab.ask("document.querySelector('#told').checkVisibility()"), False)
     tab.click("#reveal")
     decided(tab, fragment, chronicle_of(known[base], *schedule), wrong)

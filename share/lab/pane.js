@@ -7,6 +7,8 @@ import { ask } from "./server.js";
 
 /* Trees with more labels than this are drawn without the labels below which all messages are the same. */
 const MANY_LABELS = 200;
+/* What all lieutenants hold is shown together only of at most this many messages. */
+const MANY_HELD = 2000;
 /* A list of this many generals or more begins with the messages of one. */
 const MANY_GENERALS = 6;
 
@@ -23,6 +25,7 @@ export class Pane {
     this.isFresh = true; // whether nobody has chosen a general yet
     this.lit = []; // the messages that are an order's origin
     this.asked = 0; // the number of the last request: an older answer is dropped
+    this.isHeldOpen = false; // whether it is unfolded what each lieutenant holds
     this.detail = make("section", { class: "detail", hidden: true, "aria-live": "polite" });
     this.body = make("div", {});
     this.element = make("section", { class: "pane" }, this.body, this.detail);
@@ -77,10 +80,27 @@ export class Pane {
     this.element.setAttribute("aria-label", about(campaign));
     const shown = course.rounds.slice(0, page.step).map((_, at) => round(course, campaign, at, view));
     const hasAll = page.step > course.rounds.length;
+    const held = page.step >= course.rounds.length ? this.held() : null;
     const wrong = page.wrongGuesses(this);
-    refill(this.body, make("h2", { class: "about" }, about(campaign)), heads(campaign, view), ...shown,
+    refill(this.body, make("h2", { class: "about" }, about(campaign)), heads(campaign, view), ...shown, held,
       hasAll ? decisions(course, campaign, view, { revealed: page.isRevealed(), wrong }) : null,
       hasAll && page.isRevealed() ? make("p", { class: `outcome ${isBroken(course) ? "broken" : ""}` }, make("span", { class: "ending" }, `${ending(course)} `), promise(course, campaign), ` ${sent(course)}`) : null);
+  }
+
+  /* What each lieutenant holds after the last round. It is made when it is unfolded. */
+  held() {
+    const { campaign, course } = this;
+    if (course.byLabel.size > MANY_HELD) return make("p", { class: "hint" }, "Choose a general to see what he holds.");
+    const fold = make("details", { class: "held" }, make("summary", { "data-key": "held" }, "What each lieutenant holds"));
+    const one = (general) => make("section", {}, make("h4", {}, `General ${general}`), holdings(course, campaign, general, course.rounds.length));
+    const fill = () => {
+      this.isHeldOpen = fold.open;
+      if (fold.open && fold.childElementCount === 1) fold.append(make("div", {}, ...lieutenants(campaign).map(one)));
+    };
+    fold.open = this.isHeldOpen;
+    fill();
+    fold.addEventListener("toggle", fill);
+    return fold;
   }
 
   /* Forgets which general was chosen. */
