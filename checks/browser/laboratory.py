@@ -291,6 +291,7 @@ def story(browser, address, name, text, wrong, place):
         decided(tab, name, chronicle, wrong)
         why(tab, name, chronicle, wrong)
         wrong.look(tab, name)
+        at_all_widths(tab, name, chronicle, wrong)
         predicted(tab, name, chronicle, wrong)
         tab.click("#share")
         tab.until("document.querySelector('#copied').textContent !== ''")
@@ -307,6 +308,20 @@ def story(browser, address, name, text, wrong, place):
             frame = tab.call("Page.getFrameTree")["frameTree"]["frame"]["id"]
             tab.world = tab.call("Page.createIsolatedWorld", frameId=frame, worldName="checks")["executionContextId"]
             tab.settle()
+
+
+def at_all_widths(tab, name, chronicle, wrong):
+    """The messages and decisions are the chronicle's at each width, light and dark, whether they are drawn or listed."""
+    for width, height in WIDTHS:
+        for scheme in SCHEMES:
+            tab.show(width, height, scheme)
+            time.sleep(0.3)
+            if tab.ask("document.querySelector('.everybody') !== null"):
+                tab.click(".everybody")
+            wrong.unless(f"{name}, {width} {scheme}: messages", tab.messages(), chronicle.spoken(len(chronicle.rounds)))
+            decided(tab, f"{name}, {width} {scheme}", chronicle, wrong)
+    tab.show(*tab.size, tab.scheme)
+    time.sleep(0.3)
 
 
 def decided(tab, name, chronicle, wrong):
