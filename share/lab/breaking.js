@@ -13,7 +13,7 @@ const CERTAIN = "This is proved for all programs of the traitors, in whatever or
 
 /* Returns the traitors of a table that `refute` printed. The generals form three groups (docs/FORMATS.md, "refute"), and a group
    are traitors: the commander's group if he sends different orders, else one of the others, according to the order. */
-export function refuters(table, { n, c }) {
+function refuters(table, { n, c }) {
   const sent = [...table.matchAll(new RegExp(`^tell ${c} \\d+ (\\d+)$`, "gm"))].map(([, order]) => order);
   const lying = sent.some((order) => order !== sent[0]) ? 0 : sent[0] === "0" ? 2 : 1;
   const group = (general) => (general === c ? 0 : (general < c ? general + 1 : general) % 3);

@@ -332,6 +332,7 @@ async function begin() {
     load,
     edit: (general) => {
       tools.leave();
+      show();
       editor.open(general, program(page.campaign.traitors[general]));
     },
     strategy: FIRST_STRATEGY in known.strategies ? FIRST_STRATEGY : Object.keys(known.strategies)[0],
@@ -339,6 +340,7 @@ async function begin() {
   tools = new Tools(page, known.tables, (text) => exercise.answered(text), show);
   breaking = new Breaking(page, known.searches, load, (text, liars) => tools.table(text, liars));
   orders = new Orders(page, () => {
+    tools.leave();
     page.step = 0;
     play();
   });
