@@ -1,4 +1,4 @@
--- Where orders are oral, a letter with the context of its round has what its general received and has to send.
+-- An oral letter with the context of its round has the relay of its round, and sends what a loyal general must.
 use Rattle.std.proofs.Common.{◌≡◌, ℕ, suc, ◌<◌, ◌≤◌, List, length, sym, ap, subst, ◌∙◌, Option, None}
 use Rattle.insn.specs.declared.insn.Insn.{Insn}
 use Rattle.semantics.specs.Relay.{oral}

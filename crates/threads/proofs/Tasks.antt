@@ -33,14 +33,14 @@ duties_more K s before g old new task items so_far is =
     let f : ℕ → List Duty = λ h. duty_of K s before h ∷ [] in
     items ∙ ((λ i. so_far i ++ is i ∷ []) ∙ ap (λ n. each n f) (sym (add-one g)))
 
--- the outbox with which he begins is the one that his context has
+-- The outbox with which a general begins an oral round follows from his context.
 pub begun_is : (s : Scenario) (before : List (List Letter)) (g : ℕ) (o : Option (List Insn)) → IsScenario s → g < s.generals → length before ≤ s.bound → AreWords s before g
     → outbox_by g (suc (length before)) (context_of s before g) o None ≡ begun_outbox oral_kind s before g o
 begun_is s before g None is lt le small = ap (λ (l : Letter). l.outbox) (letter_is s before g is lt le small)
 begun_is s before g (Some program) is lt le small =
     ap (λ (shape : Shape). empty_contents (oral shape)) (shape_is_told s before g (suc (length before)) is)
 
--- so the task is the duty
+-- So the task is his duty.
 pub duty_is : (s : Scenario) (before : List (List Letter)) (g h round : ℕ) (bytes : List ℕ) (program : Option (List Insn)) (patience : Option ℕ) → IsScenario s → g < s.generals → length before ≤ s.bound → AreWords s before g
     → h ≡ g → round ≡ suc (length before) → bytes ≡ context_of s before g → program ≡ program_of s g → patience ≡ s.patience
     → record { general = h; round = round; context = bytes; program = program; patience = patience; outbox = outbox_by h round bytes program None } ≡ duty_of oral_kind s before g

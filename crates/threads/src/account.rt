@@ -94,8 +94,8 @@ fn holds_letter<D: Delivered>(
 }
 
 /// Returns whether `letters` has exactly one letter of round `rounds` + 1 for each general, in ascending order, and
-/// `piece` has exactly the accesses in these letters. `told` contains what the lieutenants received in the first
-/// `rounds` rounds, and perhaps in later ones.
+/// `piece` has exactly the accesses in these letters. `told` is what the letters of the first
+/// `rounds` rounds have delivered, and perhaps later ones.
 ///
 /// # Errors
 ///
@@ -141,8 +141,7 @@ fn count_accesses(letters: &[Letter], most: usize) -> usize
 }
 
 /// Returns whether `rest`, the ledger's accesses from index `at` of the rounds on, accounts for the letters of these
-/// rounds: `rows[at]` and all later ones. `rows` has the letters of all rounds, and `told` is what the lieutenants
-/// received from them.
+/// rounds: `rows[at]` and all later ones. `rows` has the letters of all rounds, and `told` is what they have delivered.
 ///
 /// # Errors
 ///

@@ -1,4 +1,4 @@
-//! Defines a campaign whose letters are accounted for, before its chronicle is made.
+//! Defines a campaign that was played with threads, before its chronicle is made.
 use arrayvec::ArrayVec;
 use board::Access;
 use round::Round;
@@ -8,10 +8,10 @@ use round::Round;
 pub struct AccountedCampaign<D> {
     /// The accesses of the traitors' programs, in the board's order.
     pub accesses: Vec<Access>,
-    /// The letters by round, and in a round by general.
+    /// The letters by round, within a round ascending by general.
     pub rounds: Vec<Round>,
     /// What these letters have delivered.
     pub told: D,
-    /// What the lieutenants decide, ascending by number.
+    /// The lieutenants' decisions, ascending by lieutenant.
     pub decisions: ArrayVec<u32, 12>,
 }

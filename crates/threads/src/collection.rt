@@ -195,7 +195,7 @@ fn finish<R: Threads + Wait, G, J: Room, C: Claim, D: Delivered>(
 }
 
 /// Conducts the rounds if all threads were started (`refused` is `None`). Returns the letters of all rounds, and what
-/// the lieutenants received from them.
+/// they have delivered.
 ///
 /// # Errors
 ///

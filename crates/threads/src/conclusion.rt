@@ -1,5 +1,6 @@
 //! Judges a campaign that has ended: compares its letters with the ledger, and makes its decisions and its chronicle.
 ghost use Rattle.std.specs.Prelude.{◌≡◌, ◌≢◌, ◌≤◌, [], suc, All, List, length, Ok, IfOk, OnOk, IfErr, IsErrAnd, MatchBool};
+ghost use Rattle.std.specs.Thread.{IsSync};
 ghost use Rattle.board.specs.Board.{IsLegal};
 ghost use Rattle.round.specs.Letters.{Letter as LetterSeen, messages};
 ghost use Rattle.world.specs.KindAccounted.{AreAccounted};
@@ -77,6 +78,7 @@ pub(crate) fn judge<R: Threads + Sync, D: Delivered + Sync>(
             ensures unlike { IfErr result (λ e. IfUnlike e (λ b. b ≡ board.entry.now)) }
         { account(alloc, scenario, board, rows, told) },
         || -> Result<ArrayVec<u32, 12>, AllocError>
+            requires shared { IsSync R.row }
             requires told { (before : List (List LetterSeen)) × D.was_told scenario.now before told.now }
             requires all { D.count told.now ≡ suc scenario.now.bound }
             ensures { IfOk result (λ orders. (before : List (List LetterSeen)) →

@@ -59,8 +59,8 @@ pub(crate) fn conduct<R: Wait, G, J: Room, C: Claim, D: Delivered>(
     Ok((rows, told))
 }
 
-/// Returns the generals' tasks in the next round, ascending by general. `told` is what the lieutenants received in the
-/// earlier rounds.
+/// Returns the generals' tasks in the next round, ascending by general. `told` is what the letters of the earlier
+/// rounds have delivered.
 ///
 /// # Errors
 ///

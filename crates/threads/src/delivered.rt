@@ -1,5 +1,6 @@
-//! Defines what the letters of closed rounds have delivered, in campaigns of some kind.
+//! Defines what the letters of closed rounds have delivered, in oral or in signed campaigns.
 ghost use Rattle.std.specs.Prelude.{◌≡◌, ◌↔◌, ◌<◌, ◌≤◌, ◌++◌, ◌∷◌, [], ℕ, List, suc, take, length, IsTrue, IfOk, OnOk};
+ghost use Rattle.std.specs.Thread.{IsSync};
 ghost use Rattle.round.specs.Letters.{Letter as LetterSeen};
 ghost use Rattle.round.specs.Origin.{AreLettersOf};
 ghost use Rattle.round.specs.Scenario.{Scenario as ScenarioSeen, shape_of};
@@ -13,22 +14,22 @@ use round::{Letter, Scenario};
 use std::alloc::{AllocError, Global};
 use std::thread::Threads;
 
-/// What the letters of the closed rounds have delivered to the generals of a campaign of some kind. A muster delivers
-/// the letters of each round. It takes the generals' tasks and the lieutenants' decisions from what was delivered.
+/// What the letters of the closed rounds have delivered to the generals of an oral or of a signed campaign. A muster
+/// adds the letters of each round, and makes the generals' tasks and the lieutenants' decisions from it.
 pub trait Delivered: Drop {
-    /// The kind of the campaigns.
+    /// Says whether the campaigns are oral or signed.
     ghost kind: { Kind };
 
-    /// How many rounds were delivered.
+    /// Returns the number of rounds whose letters were delivered.
     ghost count: { Self → ℕ };
 
-    /// That the letters of these rounds of the scenario's campaign have delivered this.
+    /// States that the letters of these rounds of the scenario's campaign have delivered this.
     ghost was_told: { ScenarioSeen → List (List LetterSeen) → Self → Type 0 };
 
-    /// What the lieutenants decide from the letters of these rounds, ascending by number.
+    /// Returns the lieutenants' decisions from the letters of these rounds, ascending by lieutenant.
     ghost decided: { ScenarioSeen → List (List LetterSeen) → List ℕ };
 
-    /// Returns what is delivered before the first round is closed.
+    /// Returns what was delivered before the first round is closed, which is nothing.
     ///
     /// # Errors
     ///
@@ -37,11 +38,11 @@ pub trait Delivered: Drop {
         ensures told { IfOk result (was_told scenario.now []) }
         ensures count { IfOk result (λ told. count told ≡ 0) };
 
-    /// Returns how many rounds were delivered.
+    /// Returns the number of rounds whose letters were delivered.
     fn rounds(&self) -> u8
         ensures { result ≡ count self.now };
 
-    /// Returns a general's task in the next round.
+    /// Returns the task of a general in the next round.
     ///
     /// # Errors
     ///
@@ -58,8 +59,13 @@ pub trait Delivered: Drop {
     ///
     /// # Errors
     ///
-    /// `AllocError` if an allocation fails. Nothing is known then of what was delivered, and it should be dropped.
-    fn add(&mut self, alloc: Global, scenario: &Scenario, letters: &[Letter]) -> Result<(), AllocError>
+    /// `AllocError` if an allocation fails. Then nothing is known about what was delivered, and it should be dropped.
+    fn add(
+        &mut self,
+        alloc: Global,
+        scenario: &Scenario,
+        letters: &[Letter],
+    ) -> Result<(), AllocError>
         requires told { (before : List (List LetterSeen)) × was_told scenario.now before self.old }
         requires left { count self.old ≤ scenario.now.bound }
         requires letters { AreLettersOf scenario.now (suc (count self.old)) letters.now }
@@ -67,8 +73,8 @@ pub trait Delivered: Drop {
             was_told scenario.now (before ++ letters.now ∷ []) self.new) }
         ensures count { OnOk result (count self.new ≡ suc (count self.old)) };
 
-    /// Returns whether a general's letter of round `rounds` + 1 has the context and the relay that he received as the
-    /// round began, and, if he is loyal, what he has to send.
+    /// Returns whether `letter` has the context and the relay with which this general begins round `rounds` + 1 and, if
+    /// he is loyal, exactly what he then sends. It must be his letter of that round.
     ///
     /// # Errors
     ///
@@ -89,7 +95,8 @@ pub trait Delivered: Drop {
         ensures { IfOk result (λ b. (before : List (List LetterSeen)) → was_told scenario.now before self.now →
             IsTrue b ↔ IsBriefed kind scenario.now (take rounds before) general letter.now) };
 
-    /// Returns what the lieutenants decide, ascending by number, after all rounds were delivered.
+    /// Returns the lieutenants' decisions, ascending by lieutenant, once the letters of all rounds were delivered. Its
+    /// clause `shared` repeats the bound `Sync` for the proofs of impls, which do not see the bound itself.
     ///
     /// # Errors
     ///
@@ -100,16 +107,17 @@ pub trait Delivered: Drop {
         alloc: Global,
         scenario: &Scenario,
     ) -> Result<ArrayVec<u32, 12>, AllocError>
+        requires shared { IsSync R.row }
         requires told { (before : List (List LetterSeen)) × was_told scenario.now before self.now }
         requires all { count self.now ≡ suc scenario.now.bound }
         ensures { IfOk result (λ orders. (before : List (List LetterSeen)) → was_told scenario.now before self.now →
             orders.items ≡ decided scenario.now before) };
 
-    /// What was delivered is of as many rounds as it counts.
+    /// States that what the letters of some rounds have delivered counts these rounds.
     ghost counted: { (s : ScenarioSeen) (before : List (List LetterSeen)) (told : Self) → was_told s before told →
         count told ≡ length before };
 
-    /// A relay has the shape of its general and its round.
+    /// States that a relay has the shape of its general and its round.
     ghost shapes: { (s : ScenarioSeen) (before : List (List LetterSeen)) (g : ℕ) →
         (kind.relay s before g).shape ≡ shape_of s g (suc (length before)) };
 }

@@ -37,7 +37,8 @@ pub fn gather(
     gather_as::<Received>(alloc, scenario, ledger, letters)
 }
 
-/// Returns the letters of a campaign of some kind by round, and in a round by general, as `gather` does.
+/// Returns the letters of an oral or of a signed campaign by round, within a round ascending by general, if the ledger
+/// accounts for them. `gather` does this for an oral campaign.
 ///
 /// # Errors
 ///

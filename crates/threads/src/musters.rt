@@ -121,13 +121,13 @@ pub fn muster_with<R: Threads + Wait + Sync, G: Gate + Sync>(
     Ok(conclude(scenario, accesses, rounds, decisions))
 }
 
-/// Plays the scenario's campaign of some kind, with one thread for each general, each with a stack of `stack` bytes.
+/// Plays the scenario's oral or signed campaign, with one thread for each general, each with a stack of `stack` bytes.
 /// Returns its accesses, its letters, what they have delivered, and the lieutenants' decisions. The accesses are a legal
 /// history from the scenario's words on, and account for the letters. Each access has passed the gate.
 ///
 /// # Errors
 ///
-/// `Mishap` says why there is no such campaign, with the evidence for it.
+/// The errors are those of `muster`.
 pub fn muster_as<R: Threads + Wait + Sync, G: Gate + Sync, D: Delivered + Sync>(
     rt: &R,
     alloc: Global,
@@ -150,7 +150,7 @@ pub fn muster_as<R: Threads + Wait + Sync, G: Gate + Sync, D: Delivered + Sync>(
 ///
 /// # Errors
 ///
-/// Why the letters are not accounted for, with the evidence for it.
+/// `Mishap` says why there is no such campaign, with the evidence for it.
 fn muster_on<R: Threads + Wait + Sync, G: Gate + Sync, D: Delivered + Sync>(
     rt: &R,
     alloc: Global,

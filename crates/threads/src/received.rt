@@ -1,4 +1,4 @@
-//! What oral letters have delivered: the lieutenants' trees.
+//! Defines what oral letters deliver: the messages in the lieutenants' trees.
 ghost use Rattle.std.specs.Prelude.{◌≡◌, ◌↔◌, ◌<◌, ◌≤◌, List, length, take, IsTrue, IfOk, OnOk};
 ghost use Rattle.round.specs.Contexts.{context_of, AreWords};
 ghost use Rattle.round.specs.Letters.{Letter as LetterSeen, messages};
@@ -77,7 +77,8 @@ impl Delivered for Received {
     ghost shapes = { λ s before g. refl };
 }
 
-/// Returns whether a letter has the context that its general has after the first `rounds` rounds.
+/// Returns whether the context in `letter` is the one that this general has after the first `rounds` rounds. `told`
+/// contains what the lieutenants received in these rounds, and perhaps in later ones.
 ///
 /// # Errors
 ///
@@ -103,7 +104,7 @@ fn has_context(
     Ok(letter.context.as_slice() == context.as_slice())
 }
 
-/// Returns the same orders in an array.
+/// Copies at most 12 orders into an array.
 fn as_array(orders: &[u32]) -> ArrayVec<u32, 12>
     requires { length orders.now ≤ 12 }
     ensures { result.items ≡ orders.now }

@@ -27,7 +27,7 @@ pub struct Task {
     general: u32,
     round: u32,
     patience: Option<u32>,
-    /// The outbox with which he begins, or `None` if it follows from his context, as it does where orders are oral.
+    /// The outbox with which he begins, or `None` if it follows from his context, as in an oral campaign.
     outbox: Option<Outbox>,
 }
 
@@ -164,7 +164,7 @@ impl Task {
     }
 }
 
-/// Runs a traitor's program with the given outbox or, if there is none, with an oral one.
+/// Runs a traitor's program with the given outbox or, if there is none, with an empty one for oral orders.
 ///
 /// # Errors
 ///
@@ -196,8 +196,8 @@ fn run<S: Server>(
     }
 }
 
-/// Writes a loyal general's letter, which sends what the given outbox has or, if there is none, what his context
-/// contains.
+/// Returns a loyal general's letter. He sends what the given outbox contains or, if there is none, the orders in his
+/// context.
 ///
 /// # Errors
 ///

@@ -15,7 +15,7 @@ loop-round-preserved g c =
     let old = c.loop-round.invariant in
     let s = c.args.scenario.now in
     let rows = c.loop-round.rows.items in
-    let told = c.add.new.told in
+    let told = c.add.new.self in
     record {
       told = subst (λ (all : List (List Letter)). g.D.Delivered.was_told s all told) (sym c.in_ok-push.ensures.items)
           (subst (λ (letters : List Letter). g.D.Delivered.was_told s (rows ++ letters ∷ []) told) c.as_slice.ensures.value (c.in_ok-add.ensures.told rows old.told));

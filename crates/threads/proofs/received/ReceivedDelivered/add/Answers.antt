@@ -1,4 +1,4 @@
--- A round more.
+-- One more round is delivered.
 use Rattle.std.proofs.Common.{◌∷◌, [], arith, length-append}
 use Rattle.threads.proofs.received.ReceivedDelivered.add.Goals as goal
 

@@ -1,3 +1,4 @@
+-- The lieutenants' trees are resolved.
 use Rattle.std.proofs.Common.{List, length, ◌∙◌, ap, subst, arith}
 use Rattle.std.specs.List.{AllZip}
 use Rattle.combine.specs.Rule.{combined_by}
@@ -6,6 +7,9 @@ use Rattle.tree.specs.LieutenantTree.{LieutenantTree}
 use Rattle.resolve.specs.Decided.{Decides}
 use Rattle.threads.proofs.Deciding.{zip_long, all_decided}
 use Rattle.threads.proofs.received.ReceivedDelivered.decide.Goals as goal
+
+pub resolve_all-requires-sync-R : goal.resolve_all-requires-sync-R
+resolve_all-requires-sync-R g c = c.requires.shared
 
 pub as_array-requires : goal.as_array-requires
 as_array-requires g c =

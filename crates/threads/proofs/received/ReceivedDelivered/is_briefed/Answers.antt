@@ -1,4 +1,4 @@
--- The context decides.
+-- The context of an oral letter decides what it must send.
 use Rattle.std.proofs.Common.{◌≡◌, suc, length, take, ap, ◌∙◌, arith}
 use Rattle.std.proofs.lemmas.List.{length-take-le}
 use Rattle.threads.proofs.Briefings.{briefed}
