@@ -147,7 +147,7 @@ fn with_a_stranger(alloc: Global, ledger: &[Access]) -> Result<Vec<Access>, Allo
 
 /// Returns whether this ledger does not account for the chronicle's letters.
 fn is_another(alloc: Global, chronicle: &Chronicle, ledger: &[Access]) -> bool {
-    match letters(alloc, chronicle) {
+    match letters(alloc, chronicle.letters()) {
         Ok(letters) => refuses(alloc, chronicle, ledger, letters),
         Err(_) => false,
     }
