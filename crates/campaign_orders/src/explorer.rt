@@ -1,5 +1,5 @@
 //! Explores the orders in which a campaign's accesses can come. It follows all orders together, access by access, or
-//! plays the least ones separately.
+//! plays the first ones, in lexicographic order, one by one.
 ghost use Rattle.std.specs.Prelude.{◌≡◌, ◌↔◌, IsTrue, ◌<◌, ◌+◌, ◌-◌, ◌^◌, ℕ, All, IfOk, OnOk, MatchOption, true, false, length, slice_index_or, option_map, bytes_eq};
 ghost use Rattle.campaign_orders.specs.Entering.{entered};
 ghost use Rattle.campaign_orders.specs.Exploring.{Finding as Found, IsExploration, counted_in};

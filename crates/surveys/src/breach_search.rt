@@ -125,7 +125,7 @@ pub fn least(found: Vec<Option<Breach>>) -> Option<Breach>
 }
 
 /// Returns the least of the reduced campaigns of the seeds from `first` to `end` - 1, by `is_before`. Returns `None` if
-/// no campaign of these seeds is broken.
+/// IC1 and IC2 hold in all campaigns of these seeds.
 ///
 /// # Errors
 ///
