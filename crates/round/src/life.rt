@@ -60,8 +60,8 @@ pub fn live<S: Server>(
     )
 }
 
-/// Runs a general's program as `live` does, with this outbox, which must be empty. It says how orders are sent, and
-/// which labels or chains the general relays.
+/// Runs a general's program as `live` does, for oral or signed orders, and with `outbox`. This must be empty, and for
+/// the relay that the context describes.
 ///
 /// # Errors
 ///

@@ -37,8 +37,8 @@ pub fn loyal_letter(
     Ok(loyal_letter_with(alloc, general, round, context, outbox))
 }
 
-/// Returns a loyal general's letter of a round, in which he sends what the outbox has. The context must be that of this
-/// general in this round. Where orders are oral, the outbox must have the orders that the context says he took.
+/// Returns a loyal general's letter of a round, in which he sends what `outbox` contains. The context must be for this
+/// general and round. In an oral campaign the outbox must have the orders in the context for all their receivers.
 pub fn loyal_letter_with(
     alloc: Global,
     general: u32,

@@ -1,4 +1,4 @@
--- What a log has of the letters of closed rounds.
+-- Lemmas about logs: which chains a log has after some rounds, and after the first of them.
 use Rattle.std.proofs.Common.{◌≡◌, ℕ, suc, ◌+◌, ◌≤◌, List, [], ◌∷◌, ◌++◌, length, take, drop, refl, sym, ap, subst, ◌∙◌, arith, inr, append-nil, append_assoc, length-append, Option, Some, None}
 use Rattle.std.specs.Prelude.{All}
 use Rattle.std.proofs.lemmas.List.{take-append-drop, take_at, length-take-le}
@@ -17,14 +17,14 @@ use Rattle.signed.specs.Sent.{Sent, delivered, held_behind, sends, round_sent, s
 use Rattle.signed.proofs.Along.{sent_length, sent_more, sent_none}
 use Rattle.signed.proofs.Behind.{relayed_behind, told_behind}
 
--- letters with few entries are written so
+-- Letters with at most eight entries are letters that a campaign allows.
 few_written : (s : Scenario) (closed : List (List Letter)) → All (λ row. All HasFewEntries row) closed → AreWritten s closed
 few_written s closed few k g row l at lt of =
     let here : All HasFewEntries row = subst (λ (r : List Letter). All HasFewEntries r) (get_or_from_slice_get closed k row row at) (few k row (slice_get_within closed k row at)) in
     let there = letter_stands row g l of in
     inr (subst (λ (m : Letter). HasFewEntries m) (get_or_from_slice_get row there.0 l l there.1) (here there.0 l (slice_get_within row there.0 l there.1)))
 
--- what further letters send comes behind
+-- The chains of further letters come after the chains that were sent already.
 along_behind : (s : Scenario) (sent : Sent) (rows : List (List Letter)) → (rest : Sent) × (sent_along s sent rows ≡ sent ++ rest)
 along_behind s sent [] = ([], sym (append-nil sent))
 along_behind s sent (row ∷ rows) =
@@ -35,7 +35,7 @@ along_append : (s : Scenario) (sent : Sent) (rows more : List (List Letter)) →
 along_append s sent [] more = refl
 along_append s sent (row ∷ rows) more = along_append s (sent ++ round_sent s sent row ∷ []) rows more
 
--- the first rounds of what was sent are what the letters of the first rounds sent
+-- The chains of the first rounds are those that the letters of these rounds send.
 pub sent_front : (s : Scenario) (closed : List (List Letter)) (k : ℕ) → k ≤ length closed → take k (sent_in s closed) ≡ sent_in s (take k closed)
 unfolding sent_in
 sent_front s closed k le =
@@ -46,7 +46,7 @@ sent_front s closed k le =
     let long : length (sent_along s [] front) ≡ k = sent_length s front ∙ length-take-le k closed le in
     ap (take k) (all ∙ behind.1) ∙ take_at (sent_along s [] front) behind.0 k long
 
--- before the first round
+-- A new log is the log of no rounds.
 pub log_begun : (s : Scenario) (log : LogSeen) → log.rounds ≡ 0 → log.sent ≡ [] → log.signers ≡ signatures s.generals s.commander → IsLogOf s [] log
 log_begun s log rounds none signing = record {
   rounds = rounds;
@@ -55,7 +55,7 @@ log_begun s log rounds none signing = record {
   few = All-nil (λ row. All HasFewEntries row);
 }
 
--- a round more
+-- After one more round the log is still that of all its letters.
 pub log_more : (s : Scenario) (before : List (List Letter)) (letters : List Letter) (old new : LogSeen) (sendings : List (List Dispatch)) → IsLogOf s before old → new.rounds ≡ old.rounds + 1 →
     new.sent ≡ old.sent ++ sendings ∷ [] → sendings ≡ round_sent s old.sent letters → new.signers ≡ old.signers → All HasFewEntries letters → IsLogOf s (before ++ letters ∷ []) new
 log_more s before letters old new sendings log rounds pushed sent signers few = record {
@@ -75,7 +75,7 @@ module _ (s : Scenario) (before : List (List Letter)) (log : LogSeen) (is : IsLo
   pub front_length : length (take k log.sent) ≡ k
   front_length = ap length front_is ∙ (sent_length s (take k before) ∙ length-take-le k before within)
 
-  -- the first rounds were sent by the letters of the first rounds
+  -- The letters of the first rounds have sent the chains of these rounds.
   pub front_sent : IsSent s (take k log.sent)
   front_sent = (take k before, few_written s (take k before) (All-take (λ row. All HasFewEntries row) k before is.few), front_is)
 
@@ -94,7 +94,7 @@ module _ (s : Scenario) (before : List (List Letter)) (log : LogSeen) (is : IsLo
   front_entries g None = front_loyal g
   front_entries g (Some program) = refl
 
--- what a letter sends is what its entries send
+-- A letter sends what its entries send.
 pub sends_by : (s : Scenario) (sent : Sent) (g : ℕ) (o : Option Letter) → dispatched s.generals s.commander g (held_behind s.generals sent g) (entries_in o) ≡ sends s sent g o
 sends_by s sent g None = refl
 sends_by s sent g (Some l) = refl

@@ -1,4 +1,4 @@
--- What a log has of the letters of closed rounds (own).
+-- Logs: the chains that the letters of closed rounds have sent (own).
 use Rattle.std.specs.Prelude.{ℕ, ◌≡◌, ◌≤◌, All, List, [], length, Option, None, Some}
 use Rattle.insn.specs.declared.insn.Insn.{Insn}
 use Rattle.round.specs.Scenario.{Scenario}
@@ -9,7 +9,7 @@ use Rattle.signed.specs.Sending.{signatures}
 use Rattle.signed.specs.Sent.{Sent, sent_in}
 use Rattle.signed.specs.Signers.{Signature}
 
--- A log: the number of rounds, what was sent in them, and a signer for each general.
+-- A log: the number of closed rounds, the chains sent in them, and a signer for each general.
 pub record LogSeen : Type 0 where
   pub rounds : ℕ
   pub sent : Sent
@@ -20,8 +20,8 @@ abbrev pub entries_in : Option Letter → List Entry
 entries_in None = []
 entries_in (Some l) = l.outbox.entries
 
--- Returns the entries with which general `g` begins the round after these closed rounds: those of a loyal general, who
--- has no program, and none of a traitor.
+-- Returns the entries with which general `g` begins the round after these closed rounds. A loyal general, who has no
+-- program, begins with all that he sends, and a traitor with none.
 abbrev pub begun_entries : Scenario → List (List Letter) → ℕ → Option (List Insn) → List Entry
 begun_entries s closed g None = signed_entries s closed g
 begun_entries s closed g (Some program) = []
@@ -30,7 +30,7 @@ begun_entries s closed g (Some program) = []
 abbrev pub HasFewEntries : Letter → Type 0
 HasFewEntries l = length l.outbox.entries ≤ most_entries
 
--- States that the letters of these rounds of the campaign have sent what is in the log.
+-- States that the log has exactly the chains that the letters of these rounds of the campaign send.
 pub record IsLogOf (s : Scenario) (before : List (List Letter)) (log : LogSeen) : Type 0 where
   pub rounds : log.rounds ≡ length before
   pub chains : log.sent ≡ sent_in s before

@@ -154,7 +154,7 @@ sent_drafted s sent drafts parts =
     (entries_drafted (slice_get drafts g) (slice_get parts g))) (generals s.generals)
 
 -- Returns the entries with which general `g` begins the round after those in which `sent` was sent. A loyal general,
--- who has no program, begins with all that he relays, and a traitor with none.
+-- who has no program, begins with all that he sends, and a traitor with none.
 abbrev pub entries_behind : Scenario → Sent → ℕ → Option (List Insn) → List Entry
 entries_behind s sent g None =
     loyal_entries s.generals s.commander s.bound s.order (delivered sent) (suc (length sent)) g

@@ -1,4 +1,4 @@
-//! The log of a signed campaign: the chains that the letters of its closed rounds have sent.
+//! Defines the log of a signed campaign: the chains that the letters of its closed rounds have sent.
 ghost use Rattle.std.specs.Prelude.{◌≡◌, ◌≤◌, ◌<◌, ◌++◌, ◌∷◌, [], suc, List, take, length, IfOk, OnOk};
 ghost use Rattle.round.specs.Letters.{Letter as LetterSeen};
 ghost use Rattle.round.specs.Scenario.{program_of};
@@ -19,10 +19,10 @@ use std::alloc::{AllocError, Global};
 use std::marker::Model;
 
 /// The chains that the letters of the closed rounds have sent, and the generals' signers. The letters need not be those
-/// of a world: the log of any letters has just the chains that these letters send, each signed by its sender.
+/// of a world: a log has the chains that its letters send, whoever has written these, each signed by its sender.
 #[derive(Drop)]
 pub struct ChainLog {
-    /// How many rounds are closed.
+    /// The number of closed rounds.
     rounds: u8,
     pub(crate) sent: Vec<SentRound>,
     /// The generals' signers, by general. Each general has only one.
@@ -55,19 +55,19 @@ impl ChainLog {
         })
     }
 
-    /// Returns how many rounds are closed.
+    /// Returns the number of closed rounds.
     pub fn rounds(&self) -> u8
         ensures { result ≡ self.now.rounds }
     {
         self.rounds
     }
 
-    /// Adds the chains that the letters of the next round send. The first letter of each general counts.
+    /// Adds the chains that the letters of the next round send. Of several letters of one general, the first counts.
     ///
     /// # Errors
     ///
-    /// Fails with `AllocError` if there is no memory for the chains. The log is then valid, but nothing else is known
-    /// about it, and it should be dropped.
+    /// Fails with `AllocError` if there is no memory for the chains. Then nothing is known about the log, and it should
+    /// be dropped.
     pub fn add(
         &mut self,
         alloc: Global,
@@ -95,7 +95,7 @@ impl ChainLog {
     }
 
     /// Returns the context and the outbox with which a general begins the round after the first `rounds` rounds. A
-    /// loyal general's outbox has the chains that he has to send, and a traitor's is empty.
+    /// loyal general's outbox has the chains that SM(m) has him sign, and a traitor's is empty.
     ///
     /// # Errors
     ///
@@ -124,8 +124,7 @@ impl ChainLog {
         Ok((context, outbox))
     }
 
-    /// Returns the decisions of the lieutenants from the chains sent so far, in ascending order of the lieutenants.
-    /// Allocates no memory.
+    /// Returns the lieutenants' decisions, ascending by lieutenant, from the chains sent so far. It allocates no memory.
     pub fn decisions(&self, scenario: &Scenario) -> ArrayVec<u32, 12>
         requires told { (before : List (List LetterSeen)) × IsLogOf scenario.now before self.now }
         requires few { self.now.rounds ≤ suc scenario.now.bound }

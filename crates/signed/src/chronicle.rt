@@ -46,10 +46,9 @@ impl Model for SignedChronicle {
 }
 
 impl SignedChronicle {
-    /// Returns the chronicle of a campaign. `accesses` are in the board's order, `letters` has a round's letters by
-    /// general in each entry, and `decisions` has the decision of each lieutenant, in ascending order of the
-    /// lieutenants. `log` must be the log of these letters. The verdict is computed from the scenario and the
-    /// decisions.
+    /// Returns the chronicle of a campaign. `accesses` are in the board's order, `letters` has the letters by round and
+    /// within a round by general, and `decisions` are ascending by lieutenant. `log` must be the log of these letters.
+    /// The verdict is computed from the scenario and the decisions.
     pub fn of(
         scenario: Scenario,
         accesses: Vec<Access>,

@@ -13,8 +13,8 @@ use round::{Letter, Scenario};
 use semantics::Entry;
 use std::alloc::{AllocError, Global};
 
-/// Returns the chains that these letters of the round after the sent rounds send, each signed by its sender. The first
-/// letter of each general counts.
+/// Returns the chains that these letters send in the round after those in `sent`, each signed by its sender. Of several
+/// letters of one general, the first counts. Fails with `AllocError` if it runs out of memory.
 pub(crate) fn round_sendings(
     alloc: Global,
     scenario: &Scenario,
@@ -34,8 +34,8 @@ pub(crate) fn round_sendings(
     Ok(SentRound { sendings })
 }
 
-/// Returns the chains that one general's letter of the round after the sent rounds sends, each ending with his
-/// signature.
+/// Returns the chains that this general's letter sends in the round after those in `sent`, with his signature as the
+/// last. Fails with `AllocError` if it runs out of memory.
 fn letter_sending(
     alloc: Global,
     scenario: &Scenario,

@@ -1,4 +1,4 @@
-//! The context and the outbox with which a general begins a round.
+//! Makes the context and the outbox with which a general begins a round of a signed campaign.
 ghost use Rattle.std.specs.Prelude.{◌≡◌, ◌≤◌, ◌<◌, [], length, IfOk};
 ghost use Rattle.round.specs.Scenario.{program_of};
 ghost use Rattle.signed.specs.Sending.{context_behind, entries_behind, held_of, relay_behind, IsSent};
@@ -11,8 +11,9 @@ use outbox::Outbox;
 use round::Scenario;
 use std::alloc::{AllocError, Global};
 
-/// Returns the context and the outbox with which a general begins the round after the sent rounds. A loyal general's
-/// outbox has the chains that he has to send, and a traitor's is empty.
+/// Returns the context and the outbox with which a general begins the round after those in `sent`. A loyal general's
+/// outbox has the chains that SM(m) has him sign, and a traitor's is empty. Fails with `AllocError` if it runs out of
+/// memory.
 pub(crate) fn outset(
     alloc: Global,
     scenario: &Scenario,
@@ -35,7 +36,8 @@ pub(crate) fn outset(
     Ok((context, outbox))
 }
 
-/// Returns the outbox with which a general begins the round after the sent rounds.
+/// Returns the outbox with which a general begins the round after those in `sent`. Fails with `AllocError` if it runs
+/// out of memory.
 fn begun_outbox(
     alloc: Global,
     scenario: &Scenario,

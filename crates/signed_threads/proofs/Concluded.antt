@@ -1,4 +1,5 @@
--- The chronicle of accounted letters is that of their replay, which is a complete run; hence what holds of it.
+-- If a ledger accounts for signed letters, their chronicle is the one of the ledger's replay, which is a complete run.
+-- What holds for chronicles of complete runs therefore holds for it.
 use Rattle.std.proofs.Common.{◌≡◌, ℕ, suc, List, [], sym, ap, subst, ◌∙◌}
 use Rattle.std.specs.Prelude.{All}
 use Rattle.board.specs.Board.{Access, IsLegal}

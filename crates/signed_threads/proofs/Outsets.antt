@@ -1,4 +1,4 @@
--- What a general begins a round with is what his task may have.
+-- The context and the outbox with which a general begins a signed round make his task.
 use Rattle.std.proofs.Common.{◌≡◌, ℕ, suc, ◌<◌, ◌≤◌, List, [], length, take, take_all, sym, ap, subst, ◌∙◌, Option, Some, None, arith}
 use Rattle.insn.specs.declared.insn.Insn.{Insn}
 use Rattle.label.specs.declared.shape.Shape.{Shape}
@@ -16,7 +16,7 @@ use Rattle.signed.proofs.Telling.{not_oral, signed_relays}
 use Rattle.signed.proofs.Worlds.{signed_campaigns}
 use Rattle.threads.specs.Duties.{HasBegun, IsOutset, begun_outbox, duty_of}
 
--- all rounds are the first ones
+-- The first rounds are all rounds if there are no more.
 pub all_rounds : (before : List (List Letter)) (rounds : ℕ) → rounds ≡ length before → take rounds before ≡ before
 all_rounds before rounds e = take_all rounds before (omega arith)
 

@@ -1,4 +1,4 @@
--- What a letter has of the context and the outbox with which its general began (own).
+-- How a letter is compared with the context and the outbox with which its general began (own).
 use Rattle.std.specs.Prelude.{ℕ, ◌≡◌, false, List}
 use Rattle.outbox.specs.Contents.{Contents}
 use Rattle.round.specs.Scenario.{Scenario, is_traitor}

@@ -16,9 +16,9 @@ use board::Access;
 use round::{Round, Scenario};
 use signed::SignedChronicle;
 
-/// Returns the chronicle of a signed campaign, made of its accesses, its letters by round, the chains that these have
-/// sent, and its decisions. The accesses must account for the letters. The chronicle is that of the replay of the
-/// accesses.
+/// Returns the chronicle of a signed campaign: its accesses, its letters by round, the chains that they have sent, and
+/// the lieutenants' decisions. The accesses must account for the letters, so the chronicle is the same as that of the
+/// replay of the accesses.
 pub(crate) fn conclude(
     scenario: Scenario,
     accesses: Vec<Access>,

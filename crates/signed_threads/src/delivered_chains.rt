@@ -1,4 +1,4 @@
-//! What signed letters have delivered: the chains that they have sent.
+//! Defines what signed letters deliver: the chains that they send.
 ghost use Rattle.std.specs.Prelude.{◌≡◌, ◌↔◌, ◌<◌, IsTrue};
 ghost use Rattle.signed.specs.Chronicle.{signed_decisions};
 ghost use Rattle.signed.specs.Kind.{signed_kind};
@@ -91,8 +91,8 @@ impl Delivered for DeliveredChains {
     ghost shapes = { λ s before g. refl };
 }
 
-/// Returns whether a general's letter has this context and the relay of this outbox, and, if he is loyal, the orders in
-/// it.
+/// Returns whether the letter of a general has this context and is for the relay of `outbox`. If he is loyal, its outbox
+/// must be exactly `outbox`.
 fn has_outset(
     scenario: &Scenario,
     general: u8,

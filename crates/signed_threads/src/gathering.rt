@@ -10,14 +10,14 @@ use round::{Letter, Round, Scenario};
 use std::alloc::Global;
 use threads::{MusterError, gather_as};
 
-/// Returns the letters by round, and in a round by general, if the ledger accounts for them. Then there is one letter
-/// for each general and round, and no other. Each letter has its general's program, and the context and the relay that
-/// result from the letters of the rounds before, and a loyal general's has the chains that he has to send. Each traitor
-/// has ended. The ledger has exactly the letters' accesses, round by round.
+/// Returns the letters by round, and within a round by general, if the ledger accounts for them. Then there is exactly
+/// one letter for each general and round. Each letter has its general's program, and the context and the relay that
+/// result from the letters of the earlier rounds. A loyal general's letter sends the chains that SM(m) has him sign. Each
+/// traitor's activation has ended. The ledger contains exactly the accesses in the letters, round by round.
 ///
 /// # Errors
 ///
-/// `Memory` if an allocation fails, and otherwise `Unaccounted` exactly if the ledger does not account for the letters.
+/// `Memory` if an allocation fails, otherwise `Unaccounted` exactly if the ledger does not account for the letters.
 pub fn gather_signed(
     alloc: Global,
     scenario: &Scenario,

@@ -1,4 +1,4 @@
-//! Plays signed campaigns with a thread for each general.
+//! Plays signed campaigns with one thread for each general.
 ghost use Rattle.std.specs.Prelude.{◌≡◌, suc, All, IfOk};
 ghost use Rattle.board.specs.Board.{IsLegal};
 ghost use Rattle.signed.specs.Chronicle.{signed_chronicle_of, signed_decisions};
@@ -21,24 +21,24 @@ use threads::{AccountedCampaign, Gate, MusterError, muster_as};
 /// The stack size of each thread, in bytes.
 const STACK: usize = 1 << 20;
 
-/// Plays the scenario's signed campaign with a thread for each general. A general acts in his thread through all rounds,
-/// and posts his letters. Before each access of a traitor's program to the board, the gate may hold the traitor.
+/// Plays the scenario's signed campaign with one thread for each general. The thread makes its general's letter in each
+/// round. Before each access to the board, `gate` may hold the traitor who makes it.
 ///
-/// The following is so for all programs that the verifier accepts, for all gates, and in whatever order the generals
-/// take the lock:
+/// The following holds for all programs that the verifier accepts, for all gates, and in whatever order the generals
+/// take the board's lock:
 ///
-/// - The chronicle is that of a complete run, namely of the replay of its own accesses.
-/// - The accesses are one legal history that begins with the scenario's words.
+/// - The chronicle is the one that replaying its own accesses gives, and this replay is a complete run.
+/// - The accesses are a legal ledger of a board that has the scenario's words at first.
 /// - No activation traps or takes more steps than its program has instructions (`safe`).
-/// - Each letter is complete: a traitor's is the run of his program to its end, with his accesses (`whole`).
+/// - Each letter is complete: a traitor's letter is the run of his program to its end, with his accesses (`whole`).
 /// - Each lieutenant decides what SM(m) gives from the chains that the letters send.
-/// - With at most m traitors among at least m + 2 generals, all loyal lieutenants decide alike, on the commander's order
-///   if he is loyal (TOPLAS 1982, Theorem 2).
+/// - With at most m traitors among at least m + 2 generals, all loyal lieutenants decide on the same order, and on the
+///   commander's order if he is loyal (TOPLAS 1982, Theorem 2).
 ///
-/// Each access in a letter of the chronicle satisfies what the gate says of an access that has passed. `Gate::passed`
-/// holds for its general, its round and its number, counted from 0 in the letter.
+/// For each access in a letter of the chronicle, `Gate::passed` holds for its general, its round and its number in the
+/// letter, counted from 0.
 ///
-/// The function joins its threads, and returns when all of them have ended.
+/// The function returns after it has joined all its threads.
 ///
 /// # Errors
 ///
@@ -70,7 +70,7 @@ pub fn muster_signed<R: Threads + Wait + Sync, G: Gate + Sync>(
     muster_signed_with(rt, alloc, scenario, gate, STACK)
 }
 
-/// Plays the scenario's signed campaign as `muster_signed` does, where each thread gets a stack of `stack` bytes.
+/// Plays the scenario's signed campaign as `muster_signed` does. Each thread gets a stack of `stack` bytes.
 ///
 /// # Errors
 ///

@@ -1,5 +1,5 @@
--- A letter that passes the code's checks and is that of its round's briefing is its general's letter of the round. Also,
--- when letters are those of a round.
+-- A letter that passes the code's checks and has its round's briefing is its general's letter of the round. Also, when
+-- letters are those of a round.
 use Rattle.std.proofs.Common.{◌≡◌, IsTrue, ℕ, zero, suc, ◌+◌, List, [], ◌∷◌, ◌++◌, length, length-append, take, drop, refl, sym, ap, subst, ◌∙◌, Bool, arith, Option, None, Some}
 use Rattle.std.specs.Prelude.{◌↔◌, slice_get, sum_by}
 use Rattle.insn.specs.declared.insn.Insn.{Insn}

@@ -70,7 +70,7 @@ pub record IsOutset (g round : ℕ) (context : List ℕ) (program : Option (List
   pub kind : tells_oral context → o.relay.kind ≡ Oral
   pub begun : HasBegun context program o
 
--- States this of the given outbox, if there is one.
+-- States that a general with this context and program can begin with the given outbox, if there is one.
 abbrev pub IsOutsetIf : ℕ → ℕ → List ℕ → Option (List Insn) → Option Contents → Type 0
 IsOutsetIf g round context program None = Unit {0}
 IsOutsetIf g round context program (Some o) = IsOutset g round context program o

@@ -28,8 +28,8 @@ pub record IsOwn (s : Scenario) (g round : ℕ) (l : Letter) : Type 0 where
   pub round_is : l.round ≡ round
   pub program : l.program ≡ program_of s g
 
--- States that the letter has the context and the relay of general `g` in the round after these closed rounds, and, if
--- he is loyal, what he has to send.
+-- States that the letter has the context and the relay with which general `g` begins the round after these closed
+-- rounds. If he is loyal, it sends exactly what he then sends.
 pub record IsBriefed (K : Kind) (s : Scenario) (before : List (List Letter)) (g : ℕ) (l : Letter) : Type 0 where
   pub context : l.context ≡ K.context s before g
   pub relay : l.outbox.relay ≡ K.relay s before g

@@ -1,4 +1,4 @@
--- From the start to the end.
+-- The program runs from its start to its end.
 use Rattle.std.proofs.Common.{◌∙◌, ℕ, List, [], ◌++◌, ap, sym, subst, arith, refl}
 use Rattle.std.specs.Arc.{arc_value}
 use Rattle.semantics.specs.Relay.{Relay}

@@ -1,4 +1,4 @@
--- Lieutenant by lieutenant.
+-- One more lieutenant decides.
 use Rattle.std.proofs.Common.{◌≡◌, ◌≢◌, ◌<◌, ◌≤◌, length, refl, sym, ap, ◌∙◌, arith, lit<}
 use Rattle.signed.specs.Accepted.{decided}
 use Rattle.signed.specs.Chronicle.{signed_decisions}

@@ -1,4 +1,4 @@
--- Of the first letter of the general, or none.
+-- The entries are those of the general's first letter, or none.
 use Rattle.std.proofs.Common.{◌≡◌, ◌∙◌, length, sym, ap, None, arith}
 use Rattle.std.proofs.lemmas.Option.{slice_get_past}
 use Rattle.round.specs.Letters.{Letter, letter_of}

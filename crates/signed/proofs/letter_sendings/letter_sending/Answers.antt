@@ -1,4 +1,4 @@
--- By what he holds, and what his letter enters.
+-- A general's letter sends chains from those that he holds.
 use Rattle.std.proofs.Common.{◌≡◌, List, ap, ◌∙◌}
 use Rattle.std.proofs.lemmas.Result.{IfOk-weaker}
 use Rattle.round.specs.Letters.{letter_of}

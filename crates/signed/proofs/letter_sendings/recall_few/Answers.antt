@@ -1,4 +1,4 @@
--- One letter more.
+-- One more letter has at most eight entries.
 use Rattle.std.proofs.Common.{◌∙◌, List, take_all, subst, arith}
 use Rattle.std.specs.Prelude.{All}
 use Rattle.std.proofs.lemmas.List.Elements.{All-more}

@@ -1,4 +1,4 @@
--- One general more.
+-- One more general's letter sends its chains.
 use Rattle.std.proofs.Common.{◌<◌, length, ap, ◌∙◌, arith}
 use Rattle.round.specs.Letters.{letter_of}
 use Rattle.signed.specs.Sent.{sends}

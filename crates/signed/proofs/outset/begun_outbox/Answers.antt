@@ -1,4 +1,4 @@
--- Empty, or with what a loyal general enters.
+-- A traitor begins with an empty outbox, and a loyal general with his chains.
 use Rattle.signed.proofs.Receipts.{sent_rows}
 use Rattle.signed.proofs.outset.begun_outbox.Goals as goal
 

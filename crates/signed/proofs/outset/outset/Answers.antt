@@ -1,4 +1,4 @@
--- By what he holds.
+-- The context and the outbox follow from the chains that the general holds.
 use Rattle.signed.proofs.Receipts.{sent_rows}
 use Rattle.signed.proofs.outset.outset.Goals as goal
 

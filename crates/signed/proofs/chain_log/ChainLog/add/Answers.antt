@@ -1,4 +1,4 @@
--- The letters' round more.
+-- The log gets the chains of one more round.
 use Rattle.std.proofs.Common.{◌+◌, ◌∙◌, ◌++◌, ◌∷◌, [], sym, ap, subst}
 use Rattle.signed.specs.Logs.{LogSeen}
 use Rattle.signed.specs.Sending.{AreRows}

@@ -1,4 +1,4 @@
--- From what the letters sent.
+-- The decisions follow from the chains that the letters have sent.
 use Rattle.std.proofs.Common.{◌∙◌, length, ap, arith}
 use Rattle.signed.specs.Logs.{LogSeen}
 use Rattle.signed.proofs.Along.{sent_length}

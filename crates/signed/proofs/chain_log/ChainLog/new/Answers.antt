@@ -1,4 +1,4 @@
--- Nothing was sent.
+-- In a new log nothing was sent.
 use Rattle.std.proofs.Common.{◌∙◌, refl}
 use Rattle.signed.specs.Sending.{signatures}
 use Rattle.signed.proofs.Logs.{log_begun}

@@ -1,4 +1,4 @@
--- Behind the first rounds.
+-- The context and the outbox follow from the chains of the first rounds.
 use Rattle.std.proofs.Common.{◌∙◌, take, length, sym, ap, subst, arith}
 use Rattle.round.specs.Scenario.{program_of}
 use Rattle.signed.specs.Logs.{LogSeen}

@@ -1,4 +1,4 @@
--- The context, the relay and a loyal general's outbox decide.
+-- The context, the relay and a loyal general's outbox decide whether a letter has its briefing.
 use Rattle.std.proofs.Common.{◌∙◌, take}
 use Rattle.signed_threads.proofs.Briefings.{briefed, has_briefing}
 use Rattle.signed_threads.proofs.delivered_chains.DeliveredChainsDelivered.is_briefed.Goals as goal

@@ -1,4 +1,4 @@
--- The task has what its general begins with.
+-- The task is the general's duty.
 use Rattle.std.proofs.Common.{◌+◌, ◌∙◌, List, ap, sym, arith}
 use Rattle.round.specs.Letters.{Letter}
 use Rattle.round.specs.Scenario.{program_of}
