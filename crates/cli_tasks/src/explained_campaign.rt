@@ -48,8 +48,8 @@ fn know_asked_in(campaign: &Campaign, explained: Option<Lieutenants>) -> Result<
     }
 }
 
-/// Reads the campaign that `play`, `muster` or `audit` needs. `account` says whether it is printed as a chronicle or as a
-/// message table, and `explained` which decisions are explained. Only an oral campaign has a message table.
+/// Reads the campaign that `play`, `muster` or `audit` needs. `account` says whether it is printed as a chronicle or as
+/// a message table, and `explained` which decisions are explained. Only an oral campaign has a message table.
 ///
 /// # Errors
 ///

@@ -124,7 +124,8 @@ impl ChainLog {
         Ok((context, outbox))
     }
 
-    /// Returns the lieutenants' decisions, ascending by lieutenant, from the chains sent so far. It allocates no memory.
+    /// Returns the lieutenants' decisions, ascending by lieutenant, from the chains sent so far. It allocates no
+    /// memory.
     pub fn decisions(&self, scenario: &Scenario) -> ArrayVec<u32, 12>
         requires told { (before : List (List LetterSeen)) × IsLogOf scenario.now before self.now }
         requires few { self.now.rounds ≤ suc scenario.now.bound }

@@ -1,4 +1,5 @@
--- A signed letter with the context and the relay of its round has its briefing if a loyal general's also has the outbox.
+-- A signed letter with the context and the relay of its round has its briefing if a loyal general's also has the
+-- outbox.
 use Rattle.std.proofs.Common.{◌≡◌, ℕ, false, List, [], refl, sym, ap, ◌∙◌, Option, Some, None}
 use Rattle.std.specs.Prelude.{is_some}
 use Rattle.insn.specs.declared.insn.Insn.{Insn}

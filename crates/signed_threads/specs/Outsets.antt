@@ -4,7 +4,8 @@ use Rattle.outbox.specs.Contents.{Contents}
 use Rattle.round.specs.Scenario.{Scenario, is_traitor}
 use Rattle.round.specs.Letters.{Letter}
 
--- States that the letter of general `g` has this context and the relay of this outbox, and, if he is loyal, this outbox.
+-- States that the letter of general `g` has this context and the relay of this outbox, and, if he is loyal, this
+-- outbox.
 pub record HasOutset (s : Scenario) (g : ℕ) (l : Letter) (context : List ℕ) (o : Contents) : Type 0 where
   pub same_context : l.context ≡ context
   pub relay : l.outbox.relay ≡ o.relay

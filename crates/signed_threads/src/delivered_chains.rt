@@ -91,8 +91,8 @@ impl Delivered for DeliveredChains {
     ghost shapes = { λ s before g. refl };
 }
 
-/// Returns whether the letter of a general has this context and is for the relay of `outbox`. If he is loyal, its outbox
-/// must be exactly `outbox`.
+/// Returns whether the letter of a general has this context and is for the relay of `outbox`. If he is loyal, its
+/// outbox must be exactly `outbox`.
 fn has_outset(
     scenario: &Scenario,
     general: u8,

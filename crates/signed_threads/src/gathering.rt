@@ -12,8 +12,8 @@ use threads::{MusterError, gather_as};
 
 /// Returns the letters by round, and within a round by general, if the ledger accounts for them. Then there is exactly
 /// one letter for each general and round. Each letter has its general's program, and the context and the relay that
-/// result from the letters of the earlier rounds. A loyal general's letter sends the chains that SM(m) has him sign. Each
-/// traitor's activation has ended. The ledger contains exactly the accesses in the letters, round by round.
+/// result from the letters of the earlier rounds. A loyal general's letter sends the chains that SM(m) has him sign.
+/// Each traitor's activation has ended. The ledger contains exactly the accesses in the letters, round by round.
 ///
 /// # Errors
 ///

@@ -1,5 +1,5 @@
-//! Plays signed campaigns with one thread for each general (`muster_signed`). `gather_signed` checks their letters against
-//! the board's ledger.
+//! Plays signed campaigns with one thread for each general (`muster_signed`). `gather_signed` checks their letters
+//! against the board's ledger.
 #![tactic(auto)]
 
 mod conclusion;

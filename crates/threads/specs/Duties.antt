@@ -43,8 +43,8 @@ duty_of K s before g =
       outbox = begun_outbox K s before g (program_of s g);
     }
 
--- States that this letter fulfils the duty. A loyal general's letter sends what his outbox contains. A traitor's program
--- was run in his context and for his relay until it exited or used up the patience.
+-- States that this letter fulfils the duty. A loyal general's letter sends what his outbox contains. A traitor's
+-- program was run in his context and for his relay until it exited or used up the patience.
 abbrev pub IsDoneBy : Option (List Insn) → Duty → Letter → Type 0
 IsDoneBy None d l = l ≡ faithful_letter_with d.general d.round d.context d.outbox
 IsDoneBy (Some program) d l = IsLivedIn d.general d.round program d.context d.outbox.relay d.patience l

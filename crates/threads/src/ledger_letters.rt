@@ -65,8 +65,8 @@ pub fn gather_as<D: Delivered>(
     Ok(rows)
 }
 
-/// Delivers the letters of all rounds, and returns what they have delivered. Returns `None` if some element of `rows` is
-/// not the letters of its round, one for each general.
+/// Delivers the letters of all rounds, and returns what they have delivered. Returns `None` if some element of `rows`
+/// is not the letters of its round, one for each general.
 ///
 /// # Errors
 ///

@@ -122,8 +122,8 @@ pub fn muster_with<R: Threads + Wait + Sync, G: Gate + Sync>(
 }
 
 /// Plays the scenario's oral or signed campaign, with one thread for each general, each with a stack of `stack` bytes.
-/// Returns its accesses, its letters, what they have delivered, and the lieutenants' decisions. The accesses are a legal
-/// history from the scenario's words on, and account for the letters. Each access has passed the gate.
+/// Returns its accesses, its letters, what they have delivered, and the lieutenants' decisions. The accesses are a
+/// legal history from the scenario's words on, and account for the letters. Each access has passed the gate.
 ///
 /// # Errors
 ///

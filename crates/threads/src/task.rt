@@ -54,8 +54,8 @@ impl Model for Task {
 }
 
 impl Task {
-    /// Returns this general's task in the next round of an oral campaign. `told` is what the lieutenants received in the
-    /// earlier rounds.
+    /// Returns this general's task in the next round of an oral campaign. `told` is what the lieutenants received in
+    /// the earlier rounds.
     ///
     /// # Errors
     ///
