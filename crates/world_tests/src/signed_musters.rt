@@ -81,9 +81,10 @@ fn are_just_these(
     let mut fewer = reversed(alloc, chronicle)?;
     let _first = fewer.pop();
     let others = reversed(alloc, other)?;
-    Ok(accepts(alloc, chronicle, all)
-        && refuses(alloc, chronicle, fewer)
-        && refuses(alloc, chronicle, others))
+    let is_whole = accepts(alloc, chronicle, all);
+    let is_missed = refuses(alloc, chronicle, fewer);
+    let is_foreign = refuses(alloc, chronicle, others);
+    Ok(is_whole && is_missed && is_foreign)
 }
 
 /// Plays two signed campaigns of three generals in threads, and checks that `gather_signed` accepts for each only its
