@@ -16,10 +16,7 @@ use signed::SignedChronicle;
 use std::alloc::Global;
 use std::sync::Wait;
 use std::thread::Threads;
-use threads::{AccountedCampaign, Gate, MusterError, muster_as};
-
-/// The stack size of each thread, in bytes.
-const STACK: usize = 1 << 20;
+use threads::{AccountedCampaign, Gate, MusterError, STACK, muster_as};
 
 /// Plays the scenario's signed campaign with one thread for each general. The thread makes its general's letter in each
 /// round. Before each access to the board, `gate` may hold the traitor who makes it.

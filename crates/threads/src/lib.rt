@@ -43,7 +43,7 @@ pub use delivered::Delivered;
 pub use error::MusterError;
 pub use gate::{Gate, Open};
 pub use ledger_letters::{gather, gather_as};
-pub use musters::{muster, muster_as, muster_with};
+pub use musters::{STACK, muster, muster_as, muster_with};
 pub use post::{Post, PostOf};
 pub use poster::Poster;
 pub use shared_board::{Room, SharedBoard, Unshared, Witness};

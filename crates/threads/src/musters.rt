@@ -30,8 +30,8 @@ use std::sync::Wait;
 use std::thread::Threads;
 use world::Chronicle;
 
-/// The stack size of each thread, in bytes.
-const STACK: usize = 1 << 20;
+/// The stack size, in bytes, that a muster gives each of its threads unless its caller says otherwise.
+pub const STACK: usize = 1 << 20;
 
 /// Plays the scenario's campaign with one thread for each general. The thread makes its general's letter in each round.
 /// Before each access to the board, `gate` may hold the traitor who makes it.
