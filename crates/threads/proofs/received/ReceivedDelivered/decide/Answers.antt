@@ -9,7 +9,7 @@ use Rattle.threads.proofs.Deciding.{zip_long, all_decided}
 use Rattle.threads.proofs.received.ReceivedDelivered.decide.Goals as goal
 
 pub resolve_all-requires-sync-R : goal.resolve_all-requires-sync-R
-resolve_all-requires-sync-R g c = c.requires.shared
+resolve_all-requires-sync-R g c = λ κs within. c.requires.shared
 
 pub as_array-requires : goal.as_array-requires
 as_array-requires g c =
