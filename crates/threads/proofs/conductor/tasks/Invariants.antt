@@ -7,7 +7,7 @@ use Rattle.threads.proofs.conductor.tasks.Given as goal
 
 abbrev pub invariant-loop-general : goal.invariant-loop-general
 invariant-loop-general g l = record {
-  duties : (before : List (List Letter)) → g.D.Delivered.was_told l.scenario before l.told → l.tasks.items ≡ each l.general (λ g. duty_of g.D.Delivered.kind l.scenario before g ∷ []);
+  duties : (before : List (List Letter)) → g.D.Delivered.was_told l.scenario before l.told → l.tasks.items ≡ each l.general (λ h. duty_of g.D.Delivered.kind l.scenario before h ∷ []);
   count : length l.tasks.items ≡ l.general;
   own : AreByGeneral l.tasks.items;
 }
