@@ -11,8 +11,12 @@ use Rattle.text.specs.Parts.{before, lines_of, pieces}
 use Rattle.text.specs.Stop.{dot, feed, space}
 use Rattle.cli_answers.specs.declared.position.Held.{Held}
 use Rattle.cli_answers.specs.declared.shape.Within.{Within}
-use Rattle.cli_answers.specs.declared.shape.Within.TheVariants.{Nothing, Round, Letter, Outbox}
-use Rattle.cli_answers.specs.Labels.{label_of, number_at, numbers, placed, with_label, with_number}
+use Rattle.cli_answers.specs.declared.shape.Within.TheVariants.{Nothing, Round, Letter}
+use Rattle.answer_lines.specs.declared.line.Line.{Line}
+use Rattle.answer_lines.specs.declared.line.Line.TheVariants.{Accepted, Run, Put, Word as BoardWord, Sound, Verdict}
+use Rattle.cli_answers.specs.Members.{members, of_two, perhaps}
+use Rattle.cli_answers.specs.Printing.{outcome_in, outcome_object}
+use Rattle.cli_answers.specs.Labels.{at_first, held_by, label_of, number_at, numbers, placed, with_label, with_number}
 use Rattle.cli_answers.specs.Lines.{with_file}
 use Rattle.cli_answers.specs.Objects.{called, first_by, first_shaped, line_object, or, shaped, told_by, unshaped, with_mark, with_name}
 use Rattle.cli_answers.specs.Refusals.{behind_stop, class_of, fault_object, namer, namer_of, refusal_object, refused_object, reported, sentence_of, with_namer, with_sentence, with_text}
@@ -152,7 +156,6 @@ placed_clean Letter h ms b =
     let inner = with_number (codes "round") h.round ms in
     label_clean (option_and_then (label_of h) (number_at (codes "rank") ms)) (with_number (codes "general") h.general inner)
     (within_clean (codes "general") h.general inner (within_clean (codes "round") h.round ms b))
-placed_clean Outbox h ms b = label_clean (option_and_then (label_of h) (number_at (codes "rank") ms)) ms b
 
 first_step : (place : Within) (h : Held) (o rest : Option Members) → HaveClean o → HaveClean rest → HaveClean (first_by (option_map (λ ms. placed place h ms) o) rest)
 first_step place h None rest a b = b
@@ -177,6 +180,35 @@ line_clean h line =
     let words = pieces space line in
     or_clean (first_by (first_shaped h accesses words) (first_shaped h shapes words)) (unshaped line)
     (by_clean (first_shaped h accesses words) (first_shaped h shapes words) (first_shaped_clean h accesses words) (first_shaped_clean h shapes words)) (put_clean (codes "text") (string (utf8_lossy line)) (called (codes "text")) refl refl)
+
+-- Proves that no object of a line that is a value has a float.
+two_clean : (kind first : List ℕ) (m : ℕ) (second : List ℕ) (n : ℕ) → NoFloat (of_two kind first m second n)
+two_clean kind first m second n = within_clean second n (with_number first m (called kind)) (within_clean first m (called kind) refl)
+
+perhaps_clean : (o : Option Bool) → has_float (perhaps o) ≡ false
+perhaps_clean None = refl
+perhaps_clean (Some value) = refl
+
+pub members_clean : (line : Line) → members_have_float (members line) ≡ false
+unfolding members
+members_clean (Accepted instructions units) = two_clean (codes "accepted") (codes "instructions") instructions (codes "units") units
+members_clean (Run r0 steps) = two_clean (codes "run") (codes "r0") r0 (codes "steps") steps
+members_clean (Put relay rank receiver order) =
+    let two = of_two (codes "put") (codes "rank") rank (codes "receiver") receiver in
+    label_clean (label_of (held_by relay) rank) (with_number (codes "order") order two)
+    (within_clean (codes "order") order two (two_clean (codes "put") (codes "rank") rank (codes "receiver") receiver))
+members_clean Sound = refl
+members_clean (Verdict alike obeyed bound) =
+    let first = put (codes "alike") (boolean alike) (called (codes "verdict")) in
+    let second = put (codes "obeyed") (perhaps obeyed) first in
+    put_clean (codes "bound") (boolean bound) second refl
+    (put_clean (codes "obeyed") (perhaps obeyed) first (perhaps_clean obeyed) (put_clean (codes "alike") (boolean alike) (called (codes "verdict")) refl refl))
+members_clean (BoardWord slot value) = two_clean (codes "word") (codes "slot") slot (codes "value") value
+
+-- Proves that the object of the line that says how a task ended has no float.
+pub outcome_clean : (line : Option Line) (rest : List ℕ) → members_have_float (outcome_object line rest) ≡ false
+outcome_clean None rest = line_clean at_first (outcome_in rest)
+outcome_clean (Some line) rest = members_clean line
 
 -- Proves that no object that says why a task was not done has a float.
 text_clean : (name t : List ℕ) (ms : Members) → NoFloat ms → NoFloat (with_text name t ms)

@@ -6,7 +6,7 @@ use Rattle.serde_json.specs.Data.{number, unsigned, array, Items, no_items, item
 use Rattle.serde_json.specs.Find.{get_member, as_number, as_u64}
 use Rattle.cli_answers.specs.declared.position.Held.{Held}
 use Rattle.cli_answers.specs.declared.shape.Within.{Within}
-use Rattle.cli_answers.specs.declared.shape.Within.TheVariants.{Nothing, Round, Letter, Outbox}
+use Rattle.cli_answers.specs.declared.shape.Within.TheVariants.{Nothing, Round, Letter}
 
 -- Returns the number that the member `name` has, or None if there is no such number from 0 to 2^64 - 1.
 abbrev pub number_at : List ℕ → Members → Option ℕ
@@ -16,11 +16,10 @@ number_at name ms = option_and_then as_u64 (option_and_then as_number (get_membe
 abbrev pub at_first : Held
 at_first = record { generals = 0; commander = 0; round = 0; general = 0 }
 
--- Returns what is known before the first line of a text. For the answer of a trial, this is the trial's number of
--- generals, commander, general and round.
-abbrev pub held_by : Option Shape → Held
-held_by None = at_first
-held_by (Some s) = record { generals = s.generals; commander = s.commander; round = s.round; general = s.general }
+-- Returns what is known of the position of a line that belongs to this relay: the number of generals, the commander, the
+-- general and the round.
+abbrev pub held_by : Shape → Held
+held_by s = record { generals = s.generals; commander = s.commander; round = s.round; general = s.general }
 
 -- Returns what is known after a line: the numbers that the line has, and for others those that were known before.
 abbrev pub heard : Held → Members → Held
@@ -63,11 +62,10 @@ abbrev pub with_number : List ℕ → ℕ → Members → Members
 with_number name n ms = put name (number (unsigned n)) ms
 
 -- Adds to a line's object where the line belongs. For a line in a round this is the round, and for a line in a letter
--- the round, the general and the label with the line's rank. For a line in an outbox it is only that label.
+-- the round, the general and the label with the line's rank.
 abbrev pub placed : Within → Held → Members → Members
 placed Nothing h ms = ms
 placed Round h ms = with_number (codes "round") h.round ms
 placed Letter h ms =
     with_label (option_and_then (label_of h) (number_at (codes "rank") ms))
     (with_number (codes "general") h.general (with_number (codes "round") h.round ms))
-placed Outbox h ms = with_label (option_and_then (label_of h) (number_at (codes "rank") ms)) ms

@@ -2,6 +2,7 @@ pub mod Values
 pub mod Shapes
 pub mod Labels
 pub mod Objects
+pub mod Members
 pub mod Lines
 pub mod Refusals
 pub mod Printing

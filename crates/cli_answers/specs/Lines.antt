@@ -1,13 +1,14 @@
--- A text as JSON Lines: one object for each line (RFC 8259; jsonlines.org).
-use Rattle.std.specs.Prelude.{ℕ, List, [], ◌∷◌, ◌++◌, Option, codes}
-use Rattle.label.specs.declared.shape.Shape.{Shape}
+-- An answer as JSON Lines: one object for each line (RFC 8259; jsonlines.org).
+use Rattle.std.specs.Prelude.{ℕ, List, [], ◌∷◌, ◌++◌, codes, map}
+use Rattle.answer_lines.specs.declared.line.Line.{Line}
 use Rattle.serde_json.specs.Data.{Members, object, put, string}
 use Rattle.serde_json.specs.Written.{compact_text}
 use Rattle.streams.specs.Escapes.{escaped}
 use Rattle.streams.specs.declared.escaped.Kept.TheVariants.{Nothing}
 use Rattle.text.specs.Parts.{lines_of}
 use Rattle.cli_answers.specs.declared.position.Held.{Held}
-use Rattle.cli_answers.specs.Labels.{heard, held_by}
+use Rattle.cli_answers.specs.Labels.{at_first, heard}
+use Rattle.cli_answers.specs.Members.{members}
 use Rattle.cli_answers.specs.Objects.{line_object}
 
 -- Returns an object as a line of JSON. All control characters in its strings are escaped, even those that JSON allows
@@ -25,9 +26,13 @@ abbrev pub object_lines : List Members → List ℕ
 object_lines [] = []
 object_lines (ms ∷ more) = object_line ms ++ object_lines more
 
--- Returns a text as JSON Lines. For the answer of a trial, `place` is the general's relay and round.
-abbrev pub json_text : Option Shape → List ℕ → List ℕ
-json_text place text = object_lines (objects (held_by place) (lines_of text))
+-- Returns a text as JSON Lines.
+abbrev pub json_text : List ℕ → List ℕ
+json_text text = object_lines (objects at_first (lines_of text))
+
+-- Returns an answer as JSON Lines: the objects of its lines, followed by those of the text after them.
+abbrev pub json_answer : List Line → List ℕ → List ℕ
+json_answer lines rest = object_lines (map members lines) ++ json_text rest
 
 -- Adds the name of a file to an object, as its member `file`.
 abbrev pub with_file : List ℕ → Members → Members

@@ -1,14 +1,19 @@
 -- What is printed of an answer, or of the reason why a task was not done: as text, as JSON, or as one line (own).
-use Rattle.std.specs.Prelude.{ℕ, ◌++◌, ◌||◌, Bool, true, false, List, [], ◌∷◌, Option, Some, codes, find, option_map, take, unwrap_or}
+use Rattle.std.specs.Prelude.{ℕ, ◌++◌, ◌||◌, Bool, true, false, List, [], ◌∷◌, Option, None, Some, codes, find, option_map, slice_get, take, unwrap_or}
+use Rattle.std.specs.Option.{option_or}
 use Rattle.std.specs.Str.{bytes_eq}
 use Rattle.std.specs.String.{string_bytes}
 use Rattle.cli_words.specs.Tasks.{file_of}
 use Rattle.cli_words.specs.declared.tasks.TaskRequest.{TaskRequest}
 use Rattle.cli_words.specs.declared.tasks.Task.{Task}
 use Rattle.cli_words.specs.declared.tasks.Task.TheVariants.{Audit}
-use Rattle.label.specs.declared.shape.Shape.{Shape}
+use Rattle.answer_lines.specs.Text.{line_text, text_of}
+use Rattle.answer_lines.specs.declared.line.Line.{Line}
+use Rattle.answer_lines.specs.declared.line.Line.TheVariants.{Verdict}
+use Rattle.serde_json.specs.Data.{Members}
 use Rattle.cli_answers.specs.Labels.{at_first}
-use Rattle.cli_answers.specs.Lines.{json_text, object_line, with_file}
+use Rattle.cli_answers.specs.Lines.{json_answer, object_line, with_file}
+use Rattle.cli_answers.specs.Members.{members}
 use Rattle.cli_answers.specs.Objects.{line_object}
 use Rattle.cli_answers.specs.Refusals.{refusal_object}
 use Rattle.streams.specs.Names.{shown}
@@ -29,25 +34,45 @@ judged task = unwrap_or (file_of task) []
 abbrev pub is_verdict : List ℕ → Bool
 is_verdict line = bytes_eq (take 8 line) (codes "verdict ")
 
--- Returns the line that says how a task ended: the first verdict on a campaign or, if there is none, the first line.
-abbrev pub outcome : List ℕ → List ℕ
-outcome text = unwrap_or (find is_verdict (lines_of text)) (before feed text)
+-- Returns the line of a text that says how a task ended: the first verdict on a campaign or, if there is none, the first
+-- line.
+abbrev pub outcome_in : List ℕ → List ℕ
+outcome_in text = unwrap_or (find is_verdict (lines_of text)) (before feed text)
+
+-- Returns true if the line is a verdict on a campaign.
+abbrev pub is_final : Line → Bool
+is_final (Verdict alike obeyed bound) = true
+is_final _ = false
+
+-- Returns the line that says how a task ended, if it is a value: the first verdict or, if there is none, the first line.
+abbrev pub final : List Line → Option Line
+final lines = option_or (find is_final lines) (slice_get lines 0)
+
+-- Returns the text of the line that says how a task ended: `line` or, if that is None, the line found in `rest`.
+abbrev pub outcome : Option Line → List ℕ → List ℕ
+outcome None rest = outcome_in rest
+outcome (Some line) rest = line_text line
+
+-- Returns the object of the line that says how a task ended: `line` or, if that is None, the line found in `rest`.
+abbrev pub outcome_object : Option Line → List ℕ → Members
+outcome_object None rest = line_object at_first (outcome_in rest)
+outcome_object (Some line) rest = members line
 
 -- Returns a line with its file's name before it, or None if it is not specified how the name is shown.
 abbrev pub named_line : List ℕ → List ℕ → Option (List ℕ)
 named_line name line = option_map (λ told. told ++ codes ": " ++ line ++ 10 ∷ []) (shown name)
 
--- Returns the text of an answer as it is, as JSON Lines, as one line, or as one line of JSON. For the answer of a
--- trial, `place` is the general's relay and round.
-abbrev pub answer_by : Bool → Bool → List ℕ → Option Shape → List ℕ → Option (List ℕ)
-answer_by false false name place text = Some text
-answer_by true false name place text = Some (json_text place text)
-answer_by false true name place text = named_line name (outcome text)
-answer_by true true name place text = Some (object_line (with_file name (line_object at_first (outcome text))))
+-- Returns an answer as text, as JSON Lines, as one line, or as one line of JSON. The answer has these lines, followed by
+-- the text `rest`.
+abbrev pub answer_by : Bool → Bool → List ℕ → List Line → List ℕ → Option (List ℕ)
+answer_by false false name lines rest = Some (text_of lines ++ rest)
+answer_by true false name lines rest = Some (json_answer lines rest)
+answer_by false true name lines rest = named_line name (outcome (final lines) rest)
+answer_by true true name lines rest = Some (object_line (with_file name (outcome_object (final lines) rest)))
 
 -- Returns the text of an answer in the form that the request asks for.
-abbrev pub answer_as : TaskRequest → Option Shape → List ℕ → Option (List ℕ)
-answer_as request place text = answer_by request.json request.verdicts (judged request.task) place text
+abbrev pub answer_as : TaskRequest → List Line → List ℕ → Option (List ℕ)
+answer_as request lines rest = answer_by request.json request.verdicts (judged request.task) lines rest
 
 -- Returns the text that says why a task was not done: as it is, as a JSON object, as one line, or as a JSON object
 -- with the file's name.

@@ -4,8 +4,8 @@ use Rattle.std.specs.Io.KnownBytes.{Appends}
 use Rattle.cli_words.specs.declared.tasks.TaskRequest.{TaskRequest}
 use Rattle.cli_tasks.specs.TaskFaults.{Prevents}
 use Rattle.cli_tasks.specs.Faults.{fault_text, status_of}
-use Rattle.label.specs.declared.shape.Shape.{Shape}
-use Rattle.cli_tasks.specs.Serving.{Files, IsPlacedAnswer, Tells}
+use Rattle.answer_lines.specs.declared.line.Line.{Line}
+use Rattle.cli_tasks.specs.Serving.{Files, IsLinedAnswer, Tells}
 use Rattle.cli_tasks.specs.declared.failure.TaskFailure.{TaskFailure}
 use Rattle.streams.specs.Writing.{AppendsFront}
 use Rattle.cli_answers.specs.Printing.{answer_as, refusal_as}
@@ -13,8 +13,8 @@ use Rattle.cli_answers.specs.Printing.{answer_as, refusal_as}
 -- States that the task's answer on the files was appended to the output, in the requested form.
 abbrev pub IsShown : TaskRequest → Files → Option (List ℕ) → Option (List ℕ) → Type 0
 IsShown request files old new =
-    (text : List ℕ) × ((place : Option Shape) × IsPlacedAnswer request.task files text place
-    × IfSome (answer_as request place text) (Appends old new))
+    (lines : List Line) × ((rest : List ℕ) × IsLinedAnswer request.task files lines rest
+    × IfSome (answer_as request lines rest) (Appends old new))
 
 -- States that the output failed while these lines were written. Only a prefix of them was written, and an error
 -- message reports the failure.
@@ -33,8 +33,8 @@ IsRefusalShown quiet unwritten tells request old new text =
 -- States that the output failed while the task's answer was written in the requested form.
 abbrev pub IsAnswerUnwritten : Type 0 → (List ℕ → Type 0) → TaskRequest → Files → Option (List ℕ) → Option (List ℕ) → Type 0
 IsAnswerUnwritten unwritten tells request files old new =
-    (text : List ℕ) × ((place : Option Shape) × IsPlacedAnswer request.task files text place
-    × IsUnwritten unwritten tells (answer_as request place text) old new)
+    (lines : List Line) × ((rest : List ℕ) × IsLinedAnswer request.task files lines rest
+    × IsUnwritten unwritten tells (answer_as request lines rest) old new)
 
 -- States that the task has no answer, and that memory did not run out. If the text of the reason is specified, it is
 -- shown.

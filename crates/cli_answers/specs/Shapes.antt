@@ -6,7 +6,7 @@ use Rattle.board.specs.Wording as asking
 use Rattle.board.specs.Wording.{rows}
 use Rattle.cli_answers.specs.declared.shape.Shape.{Shape}
 use Rattle.cli_answers.specs.declared.shape.Within.{Within}
-use Rattle.cli_answers.specs.declared.shape.Within.TheVariants.{Nothing, Round, Letter, Outbox}
+use Rattle.cli_answers.specs.declared.shape.Within.TheVariants.{Nothing, Round, Letter}
 
 -- A shape of lines: the kind of these lines, what each of their words may be with its name, and where the lines
 -- belong. Its mark is a member that is true, or false, for all of these lines.
@@ -73,11 +73,6 @@ shapes =
     ∷ marked (codes "decision") (codes "decision N traitor N") (codes "- general - decision")
     (codes "traitor") true Nothing
     ∷ plain (codes "verdict") (codes "verdict alike A obeyed A bound A") (codes "- - alike - obeyed - bound") Nothing
-    ∷ plain (codes "sound") (codes "sound") (codes "-") Nothing
-    ∷ plain (codes "accepted") (codes "accepted N instructions N units") (codes "- instructions - units -") Nothing
-    ∷ plain (codes "run") (codes "r0 N steps N") (codes "- r0 - steps") Nothing
-    ∷ plain (codes "put") (codes "put N N N") (codes "- rank receiver order") Outbox
-    ∷ plain (codes "word") (codes "word N N") (codes "- slot value") Nothing
     ∷ plain (codes "table") (codes "generals N bound N commander N") (codes "- generals - bound - commander") Nothing
     ∷ plain (codes "table") (codes "generals N bound N commander N rule C")
     (codes "- generals - bound - commander - rule") Nothing

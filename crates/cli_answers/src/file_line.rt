@@ -3,14 +3,16 @@ ghost use Rattle.std.specs.Prelude.{◌≡◌, false, IfOk};
 ghost use Rattle.serde_json.specs.View.{members_view};
 ghost use Rattle.serde_json.specs.Written.{members_have_float};
 ghost use Rattle.cli_answers.specs.Lines.{object_line, with_file};
-ghost use Rattle.cli_answers.specs.Labels.{at_first};
-ghost use Rattle.cli_answers.specs.Objects.{line_object};
+ghost use Rattle.cli_answers.specs.Printing.{final, outcome_object};
 ghost use Rattle.cli_answers.specs.Refusals.{refusal_object};
 
 use crate::json_lines::push_object;
+use crate::members::members;
 use crate::objects::line_object;
+use crate::outcome::{final_line, outcome_in};
 use crate::position::Held;
 use crate::refusals::refusal_object;
+use answer_lines::Line;
 use serde_json::{Map, Value, put};
 use std::alloc::{AllocError, Global};
 
@@ -32,15 +34,38 @@ fn named(alloc: Global, file: &str, object: Map<String, Value>) -> Result<Vec<u8
     Ok(out)
 }
 
-/// Returns one line of the answer on a file as a line of JSON: an object with the line's words and the file's name.
+/// Returns the object of the line that says how the task ended. This is `line` or, if that is `None`, the line found in
+/// the text `rest`.
+#[tactic(auto, using(crate::proofs::CleanLemmas::outcome_clean))]
+fn outcome_object(
+    alloc: Global,
+    line: Option<Line>,
+    rest: &[u8],
+) -> Result<Map<String, Value>, AllocError>
+    ensures object { IfOk result (λ object. members_view object.entries ≡ outcome_object line rest.now) }
+    ensures clean { IfOk result (λ object. members_have_float (members_view object.entries) ≡ false) }
+{
+    match line {
+        None => line_object(alloc, Held::at_first(), outcome_in(rest)),
+        Some(line) => members(alloc, line),
+    }
+}
+
+/// Returns one line of the answer on a file as a line of JSON: an object with the values of the line that says how the
+/// task ended, and the file's name. The answer has the lines `lines`, followed by the text `rest`.
 ///
 /// # Errors
 ///
 /// Fails with `AllocError` if there is not enough memory.
-pub fn answer_of(alloc: Global, file: &str, line: &[u8]) -> Result<Vec<u8>, AllocError>
-    ensures { IfOk result (λ out. out.items ≡ object_line (with_file file.now (line_object at_first line.now))) }
+pub fn answer_of(
+    alloc: Global,
+    file: &str,
+    lines: &[Line],
+    rest: &[u8],
+) -> Result<Vec<u8>, AllocError>
+    ensures { IfOk result (λ out. out.items ≡ object_line (with_file file.now (outcome_object (final lines.now) rest.now))) }
 {
-    let object = line_object(alloc, Held::at_first(), line)?;
+    let object = outcome_object(alloc, final_line(lines), rest)?;
     named(alloc, file, object)
 }
 

@@ -89,7 +89,7 @@ fn put_own(
 /// Adds the label with this rank to the object, if the general relays such a label. `held` has the general and the
 /// round.
 #[tactic(auto, unfolding(crate::specs::Labels::label_of), using(crate::proofs::LabelLemmas::own_relayed))]
-fn put_label(
+pub(crate) fn put_label(
     alloc: Global,
     object: &mut Map<String, Value>,
     held: Held,
@@ -141,10 +141,6 @@ pub(crate) fn put_place(
             let rank = number_at(object, "rank");
             put(object, alloc, "round", Value::from(held.round))?;
             put(object, alloc, "general", Value::from(held.general))?;
-            put_label_of(alloc, object, held, rank)
-        }
-        Within::Outbox => {
-            let rank = number_at(object, "rank");
             put_label_of(alloc, object, held, rank)
         }
     }

@@ -5,6 +5,7 @@
 mod file_line;
 mod json_lines;
 mod labels;
+mod members;
 mod objects;
 mod outcome;
 mod position;

@@ -2,8 +2,9 @@
 ghost use Rattle.std.specs.Prelude.{◌≡◌, find, option_map};
 ghost use Rattle.text.specs.Parts.{before, lines_of};
 ghost use Rattle.text.specs.Stop.{feed};
-ghost use Rattle.cli_answers.specs.Printing.{is_verdict, judged, outcome};
+ghost use Rattle.cli_answers.specs.Printing.{final, is_final, is_verdict, judged, outcome_in};
 
+use answer_lines::Line;
 use cli_words::Task;
 use text::{Stop, cut, line};
 
@@ -47,9 +48,32 @@ fn verdict(text: &[u8]) -> Option<&[u8]>
     None
 }
 
-/// Returns the line that says how a task ended: the first verdict or, if there is none, the first line.
-pub(crate) fn outcome(text: &[u8]) -> &[u8]
-    ensures { result.now ≡ outcome text.now }
+/// Returns the first line that is a verdict, if there is one.
+fn verdict_line(lines: &[Line]) -> Option<Line>
+    ensures { result ≡ find is_final lines.now }
+{
+    for line in lines {
+        if let Line::Verdict { .. } = line {
+            return Some(*line);
+        }
+    }
+    None
+}
+
+/// Returns the line that says how the task ended, if it is a value: the first verdict or, if there is none, the first
+/// line.
+pub(crate) fn final_line(lines: &[Line]) -> Option<Line>
+    ensures { result ≡ final lines.now }
+{
+    match verdict_line(lines) {
+        Some(line) => Some(line),
+        None => lines.first().copied(),
+    }
+}
+
+/// Returns the line of a text that says how the task ended: the first verdict or, if there is none, the first line.
+pub(crate) fn outcome_in(text: &[u8]) -> &[u8]
+    ensures { result.now ≡ outcome_in text.now }
 {
     match verdict(text) {
         Some(line) => line,

@@ -40,19 +40,16 @@ impl Held {
         }
     }
 
-    /// Returns what is known before the first line of a text. For the answer of a trial, this is `place`: the number
-    /// of generals, the commander, the general and the round.
-    pub(crate) fn by(place: Option<Shape>) -> Held
-        ensures { result ≡ held_by place }
+    /// Returns what is known of the position of a line that belongs to this relay: the number of generals, the
+    /// commander, the general and the round.
+    pub(crate) fn by(relay: Shape) -> Held
+        ensures { result ≡ held_by relay }
     {
-        match place {
-            None => Held::at_first(),
-            Some(shape) => Held {
-                generals: u64::from(shape.generals),
-                commander: u64::from(shape.commander),
-                round: u64::from(shape.round),
-                general: u64::from(shape.general),
-            },
+        Held {
+            generals: u64::from(relay.generals),
+            commander: u64::from(relay.commander),
+            round: u64::from(relay.round),
+            general: u64::from(relay.general),
         }
     }
 

@@ -6,8 +6,8 @@ ghost use Rattle.cli_answers.specs.Printing.{answer_as};
 ghost use Rattle.cli_answers.specs.Serving.{IsRefusalShown, IsUnwritten};
 
 use crate::printed_lines::{answer_lines, refusal_lines};
+use cli_tasks::Answer;
 use cli_words::TaskRequest;
-use label::Shape;
 use std::alloc::Global;
 use streams::Output;
 
@@ -29,29 +29,28 @@ fn unwritten<F: Output>(fault: &mut F) -> u8
     1
 }
 
-/// Prints an answer on `out` in the requested form. For the answer of a trial, `place` gives the number of generals,
-/// the commander, the general and the round. Returns the exit status: 0 if the answer was printed, 1 if the output
-/// failed, and 3 if memory ran out.
+/// Prints an answer on `out` in the requested form. The answer has the lines `lines`, followed by the text `rest`.
+/// Returns the exit status: 0 if the answer was printed, 1 if the output failed, and 3 if memory ran out.
 pub(crate) fn show_answer<O: Output, F: Output>(
     alloc: Global,
     request: &TaskRequest,
-    place: Option<Shape>,
-    text: &[u8],
+    answer: &Answer,
     out: &mut O,
     fault: &mut F,
 ) -> u8
     ensures status { (result ≡ 0) ⊎ ((result ≡ 1) ⊎ (result ≡ 3)) }
     ensures done { result ≡ 0 →
-        IfSome (answer_as request.now place text.now) (Appends (O.contents out.old) (O.contents out.new)) }
+        IfSome (answer_as request.now answer.now.lines.items answer.now.rest.items) (Appends (O.contents out.old) (O.contents out.new)) }
     ensures quiet { result ≡ 0 → fault.new ≡ fault.old }
     ensures unwritten { result ≡ 1 →
         IsUnwritten (O.fails out.old) (Tells (F.fails fault.old) (F.contents fault.old) (F.contents fault.new))
-        (answer_as request.now place text.now) (O.contents out.old) (O.contents out.new) }
+        (answer_as request.now answer.now.lines.items answer.now.rest.items) (O.contents out.old) (O.contents out.new) }
     ensures unprinted { result ≡ 3 → out.new ≡ out.old }
     ensures memory { result ≡ 3 →
         Tells (F.fails fault.old) (F.contents fault.old) (F.contents fault.new) (codes "out of memory") }
 {
-    let Ok(lines) = answer_lines(alloc, request, place, text) else {
+    let (lines, rest) = (answer.lines.as_slice(), answer.rest.as_slice());
+    let Ok(lines) = answer_lines(alloc, request, lines, rest) else {
         return lacking(fault);
     };
     match out.put(lines.as_slice()) {

@@ -7,7 +7,7 @@ ghost use Rattle.cli_answers.specs.Printing.{is_shaped};
 ghost use Rattle.cli_answers.specs.Serving.{IsAnswerUnwritten, IsPrevented, IsRefusalShown, IsShown};
 
 use crate::printer::{lacking, show_answer, show_refusal};
-use cli_tasks::{Answer, TaskFailure};
+use cli_tasks::TaskFailure;
 use cli_words::TaskRequest;
 use std::alloc::Global;
 use std::fmt::Display;
@@ -73,10 +73,7 @@ where
         return cli_tasks::serve(rt, alloc, task, first, second, out, fault);
     }
     match cli_tasks::answered(rt, alloc, task, first, second) {
-        Ok(answer) => {
-            let Answer { text, place } = answer;
-            show_answer(alloc, request, place, text.as_slice(), out, fault)
-        }
+        Ok(answer) => show_answer(alloc, request, &answer, out, fault),
         Err(TaskFailure::Memory) => lacking(fault),
         Err(failure) => shown(alloc, request, failure, out, fault),
     }

@@ -14,8 +14,6 @@ pub(crate) enum Within {
     Round,
     /// The object gets the round, the general whose letter the line is in, and the label with the line's rank.
     Letter,
-    /// The object gets the label with the line's rank.
-    Outbox,
 }
 
 /// A shape of lines: what each of their words is, and its name in JSON.
@@ -176,52 +174,6 @@ const SHAPES: &[Shape] = &[
             ("bound", "-"),
             ("A", "bound"),
         ],
-        mark: "",
-        holds: false,
-        within: Within::Nothing,
-    },
-    Shape {
-        line: "sound",
-        parts: &[("sound", "-")],
-        mark: "",
-        holds: false,
-        within: Within::Nothing,
-    },
-    Shape {
-        line: "accepted",
-        parts: &[
-            ("accepted", "-"),
-            ("N", "instructions"),
-            ("instructions", "-"),
-            ("N", "units"),
-            ("units", "-"),
-        ],
-        mark: "",
-        holds: false,
-        within: Within::Nothing,
-    },
-    Shape {
-        line: "run",
-        parts: &[("r0", "-"), ("N", "r0"), ("steps", "-"), ("N", "steps")],
-        mark: "",
-        holds: false,
-        within: Within::Nothing,
-    },
-    Shape {
-        line: "put",
-        parts: &[
-            ("put", "-"),
-            ("N", "rank"),
-            ("N", "receiver"),
-            ("N", "order"),
-        ],
-        mark: "",
-        holds: false,
-        within: Within::Outbox,
-    },
-    Shape {
-        line: "word",
-        parts: &[("word", "-"), ("N", "slot"), ("N", "value")],
         mark: "",
         holds: false,
         within: Within::Nothing,

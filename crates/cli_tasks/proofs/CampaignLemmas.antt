@@ -2,6 +2,7 @@
 use Rattle.std.proofs.Common.{ℕ, suc, ◌≡◌, ◌∙◌, ◌++◌, ◌∷◌, [], List, Option, None, Some, ap, append_assoc, append-nil, refl, subst, sym}
 use Rattle.cli_words.specs.declared.tasks.Account.{Account}
 use Rattle.cli_words.specs.declared.tasks.Lieutenants.{Lieutenants}
+use Rattle.answer_lines.specs.declared.line.Line.{Line}
 use Rattle.round.specs.Scenario.{Scenario, IsScenario}
 use Rattle.world.specs.declared.schedule.Repeat.{Repeat}
 use Rattle.world.specs.Chronicle.{Chronicle, chronicle_of}
@@ -26,7 +27,7 @@ use Rattle.signed.specs.Promises.{AgreeUnderSignedBound, IsSignedVerdictOn}
 use Rattle.signed.proofs.Worlds.{signed_campaigns}
 use Rattle.trace.specs.SignedAudit.{IsSoundSignedText, signed_chronicle_told}
 use Rattle.trace.specs.SignedText.{signed_text}
-use Rattle.cli_tasks.specs.Campaigns.{IsAccount, IsFollowed, IsMustered, IsOralAudited, IsOralPlayed, IsSignedAudited, IsSignedPlayed, asked, signed_behind}
+use Rattle.cli_tasks.specs.Campaigns.{IsAccount, IsBehind, IsFollowed, IsMustered, IsOralAudited, IsOralPlayed, IsSignedAudited, IsSignedPlayed, asked, signed_behind}
 use Rattle.cli_tasks.specs.Promises.{IsCompleteRun}
 use Rattle.cli_tasks.specs.Schedules.{played, signed_played}
 
@@ -97,13 +98,19 @@ signed_audited_run s bytes inside =
       whole = whole_letters signed_kind signed_campaigns s events inside complete;
     }
 
--- The text that `audit` prints for an oral campaign, from its parts: the two lines and the explanation.
-pub is_audited : (s : Scenario) (explained : Option Lieutenants) (bytes : List ℕ) (c : Chronicle) (front text : List ℕ) → IsScenario s → IsSoundText s bytes → c ≡ chronicle_told s bytes
-    → front ≡ sound_lines c.verdict → IsFollowed explained c front text → IsOralAudited s explained bytes text
-is_audited s explained bytes c front text inside sound is lines behind =
-    let first : IsFollowed explained (chronicle_told s bytes) front text = subst (λ (x : Chronicle). IsFollowed explained x front text) is behind in
-    let same : front ≡ sound_lines (chronicle_told s bytes).verdict = lines ∙ ap (λ (x : Chronicle). sound_lines x.verdict) is in
-    record { sound = sound; run = audited_run s bytes inside; told = subst (λ (f : List ℕ). IsFollowed explained (chronicle_told s bytes) f text) same first }
+-- Returns the explanation of decisions that follows an empty text, without that text.
+pub behind_nothing : (explained : Option Lieutenants) (c : Chronicle) (text : List ℕ) → IsFollowed explained c [] text → IsBehind explained c text
+behind_nothing explained c text (behind, is, told) = subst (λ (b : List ℕ). IsBehind explained c b) (sym is) told
+
+-- The answer of `audit` for an oral campaign, from its parts: the two lines and the explanation.
+pub is_audited : (s : Scenario) (explained : Option Lieutenants) (bytes : List ℕ) (c : Chronicle) (lines : List Line) (rest : List ℕ) → IsScenario s → IsSoundText s bytes → c ≡ chronicle_told s bytes
+    → lines ≡ sound_lines c.verdict → IsFollowed explained c [] rest → IsOralAudited s explained bytes lines rest
+is_audited s explained bytes c lines rest inside sound is told behind = record {
+  sound = sound;
+  run = audited_run s bytes inside;
+  told = told ∙ ap (λ (x : Chronicle). sound_lines x.verdict) is;
+  behind = subst (λ (x : Chronicle). IsBehind explained x rest) is (behind_nothing explained c rest behind);
+}
 
 -- If no explanation is asked for, the text is unchanged.
 pub alone : (c : Chronicle) (front : List ℕ) → IsFollowed None c front front
@@ -135,13 +142,14 @@ is_signed_played s schedule explained chronicle front text listed complete safe 
   well = subst (λ (c : Chronicle). IsWellUnderBound c.verdict) listed well;
 }
 
--- The text that `audit` prints for a signed campaign, from its parts: the two lines and the explanation.
-pub is_signed_audited : (s : Scenario) (explained : Option Lieutenants) (bytes : List ℕ) (c : Chronicle) (front text : List ℕ) → IsScenario s → IsSoundSignedText s bytes → c ≡ signed_chronicle_told s bytes
-    → front ≡ sound_lines c.verdict → text ≡ front ++ signed_behind explained c → IsSignedAudited s explained bytes text
-is_signed_audited s explained bytes c front text inside sound is lines behind = record {
+-- The answer of `audit` for a signed campaign, from its parts: the two lines and the explanation.
+pub is_signed_audited : (s : Scenario) (explained : Option Lieutenants) (bytes : List ℕ) (c : Chronicle) (lines : List Line) (rest : List ℕ) → IsScenario s → IsSoundSignedText s bytes → c ≡ signed_chronicle_told s bytes
+    → lines ≡ sound_lines c.verdict → rest ≡ signed_behind explained c → IsSignedAudited s explained bytes lines rest
+is_signed_audited s explained bytes c lines rest inside sound is told behind = record {
   sound = sound;
   run = signed_audited_run s bytes inside;
-  told = behind ∙ (ap (λ (f : List ℕ). f ++ signed_behind explained c) lines ∙ ap (λ (x : Chronicle). sound_lines x.verdict ++ signed_behind explained x) is);
+  told = told ∙ ap (λ (x : Chronicle). sound_lines x.verdict) is;
+  behind = behind ∙ ap (λ (x : Chronicle). signed_behind explained x) is;
 }
 
 -- Appending a line feed and then lines to a text gives the text, the line feed and the lines.

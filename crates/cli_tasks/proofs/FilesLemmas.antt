@@ -1,17 +1,18 @@
 -- Lemmas about the two files of a task.
-use Rattle.std.proofs.Common.{ℕ, ◌≡◌, ◌∙◌, List, [], ap, inr, refl, subst, sym}
+use Rattle.std.proofs.Common.{ℕ, ◌≡◌, ◌∙◌, ◌++◌, List, [], ap, inr, refl, subst, sym}
 use Rattle.std.specs.Borrow.{Bor}
 use Rattle.std.specs.Prelude.{Bool, Option, None, Some, Ok, option_map, unwrap_or}
 use Rattle.cli_words.specs.Tasks.{file_of, second_of}
 use Rattle.cli_words.specs.declared.tasks.Task.{Task}
-use Rattle.label.specs.declared.shape.Shape.{Shape}
+use Rattle.answer_lines.specs.Text.{text_of}
+use Rattle.answer_lines.specs.declared.line.Line.{Line}
 use Rattle.world.specs.declared.schedule.Repeat.{Repeat}
 use Rattle.trace.specs.Schedules.{schedule_told}
 use Rattle.cli_tasks.specs.TaskAnswers.{ComesTo, GoesOn, IsUnfinished}
 use Rattle.cli_tasks.specs.Whys.{is_explained}
 use Rattle.cli_tasks.specs.TaskFaults.{Prevents}
 use Rattle.cli_tasks.specs.Faults.{Stops}
-use Rattle.cli_tasks.specs.Serving.{Files, IsAnswer, IsPlacedAnswer, IsScheduleOf, IsToldLater, first_name, second_name}
+use Rattle.cli_tasks.specs.Serving.{Files, IsAnswer, IsLinedAnswer, IsScheduleOf, IsToldLater, first_name, second_name}
 use Rattle.streams.specs.Reading.{AreBytes}
 use Rattle.cli_tasks.specs.declared.failure.TaskFailure.{TaskFailure}
 use Rattle.cli_tasks.specs.declared.first_answer.FirstAnswer.{FirstAnswer}
@@ -27,6 +28,7 @@ second_told {R} bytes second own all schedule is are told =
 
 -- If the result is not the whole answer, the task needs it for its second file.
 goes_on : (task : Task) (first : List ℕ) (more : FirstAnswer) → ComesTo task first more → IsUnfinished more → GoesOn task first more
+goes_on task first (answer.Lines lines rest) comes unfinished = absurd unfinished
 goes_on task first (answer.Text text) comes unfinished = absurd unfinished
 goes_on task first (answer.Bytes bytes) comes unfinished = absurd unfinished
 goes_on task first (answer.Trial program told) comes unfinished = comes
@@ -39,9 +41,9 @@ goes_on task first (answer.Page c text) comes unfinished = comes
 goes_on task first (answer.PageRecorded c text) comes unfinished = comes
 goes_on task first (answer.Retrace s) comes unfinished = comes
 
--- The text of an answer is an answer, whatever its relay is.
-pub answer_there : (task : Task) (files : Files) (text : List ℕ) (place : Option Shape) → IsPlacedAnswer task files text place → IsAnswer task files text
-answer_there task files text place is = (place, is)
+-- The text of an answer, from its lines and the text after them.
+pub answer_there : (task : Task) (files : Files) (lines : List Line) (rest text : List ℕ) → IsLinedAnswer task files lines rest → text ≡ text_of lines ++ rest → IsAnswer task files text
+answer_there task files lines rest text is told = (lines, (rest, is, told))
 
 -- If the first file is accepted, what stops the task later prevents its answer.
 pub prevented_later : (task : Task) (files : Files) (unread second_unread : Type 0) (first name : List ℕ) (more : FirstAnswer) (fault : TaskFailure)

@@ -5,6 +5,7 @@ use Rattle.cli_words.specs.declared.tasks.Account.TheVariants as accounts
 use Rattle.cli_words.specs.declared.tasks.Lieutenants.{Lieutenants}
 use Rattle.cli_words.specs.declared.tasks.Lieutenants.TheVariants as lieutenants
 use Rattle.show_table.specs.Retold.{Explains, IsRetold}
+use Rattle.answer_lines.specs.declared.line.Line.{Line}
 use Rattle.round.specs.Scenario.{Scenario}
 use Rattle.world.specs.declared.schedule.Repeat.{Repeat}
 use Rattle.world.specs.Chronicle.{Chronicle, chronicle_of}
@@ -101,21 +102,25 @@ pub record IsMustered (s : Scenario) (explained : Option Lieutenants) (text : Li
   pub well : IsWellUnderBound chronicle.verdict
 
 -- States that `bytes` are the chronicle of a complete run of the oral campaign, the replay of the accesses in it.
--- `text` says that they are sound, and gives the verdict. The explanation of the decisions follows if it is asked for.
-pub record IsOralAudited (s : Scenario) (explained : Option Lieutenants) (bytes text : List ℕ) : Type 0 where
+-- `lines` say that they are sound, and give the verdict. `rest` is the explanation of the decisions if it is asked for.
+pub record IsOralAudited (s : Scenario) (explained : Option Lieutenants) (bytes : List ℕ) (lines : List Line)
+    (rest : List ℕ) : Type 0 where
   pub sound : IsSoundText s bytes
   pub run : IsCompleteRun oral_kind s (replayed oral_kind s (names_of bytes)) (chronicle_told s bytes)
-  pub told : IsFollowed explained (chronicle_told s bytes) (sound_lines (chronicle_told s bytes).verdict) text
+  pub told : lines ≡ sound_lines (chronicle_told s bytes).verdict
+  pub behind : IsBehind explained (chronicle_told s bytes) rest
 
 -- States that `bytes` are the chronicle of a complete run of the signed campaign, the replay of the accesses in it.
--- `text` says that they are sound, and gives the verdict. The explanation of the decisions follows if it is asked for.
-pub record IsSignedAudited (s : Scenario) (explained : Option Lieutenants) (bytes text : List ℕ) : Type 0 where
+-- `lines` say that they are sound, and give the verdict. `rest` is the explanation of the decisions if it is asked for.
+pub record IsSignedAudited (s : Scenario) (explained : Option Lieutenants) (bytes : List ℕ) (lines : List Line)
+    (rest : List ℕ) : Type 0 where
   pub sound : IsSoundSignedText s bytes
   pub run : IsCompleteRun signed_kind s (replayed signed_kind s (names_of bytes)) (signed_chronicle_told s bytes)
-  pub told : text ≡ sound_lines (signed_chronicle_told s bytes).verdict
-      ++ signed_behind explained (signed_chronicle_told s bytes)
+  pub told : lines ≡ sound_lines (signed_chronicle_told s bytes).verdict
+  pub behind : rest ≡ signed_behind explained (signed_chronicle_told s bytes)
 
--- States that `bytes` are the text of a chronicle of the campaign, and that `text` is what `audit` prints about it.
-abbrev pub IsAudited : Campaign → Option Lieutenants → List ℕ → List ℕ → Type 0
-IsAudited (Oral s) explained bytes text = IsOralAudited s explained bytes text
-IsAudited (Signed s) explained bytes text = IsSignedAudited s explained bytes text
+-- States that `bytes` are the text of a chronicle of the campaign, and that `lines` and `rest` are what `audit` prints
+-- about it.
+abbrev pub IsAudited : Campaign → Option Lieutenants → List ℕ → List Line → List ℕ → Type 0
+IsAudited (Oral s) explained bytes lines rest = IsOralAudited s explained bytes lines rest
+IsAudited (Signed s) explained bytes lines rest = IsSignedAudited s explained bytes lines rest

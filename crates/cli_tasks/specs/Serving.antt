@@ -8,7 +8,8 @@ use Rattle.cli_words.specs.declared.tasks.Lieutenants.{Lieutenants}
 use Rattle.cli_words.specs.declared.tasks.Notation.{Notation}
 use Rattle.cli_words.specs.declared.tasks.Task.{Task}
 use Rattle.insn.specs.declared.insn.Insn.{Insn}
-use Rattle.label.specs.declared.shape.Shape.{Shape}
+use Rattle.answer_lines.specs.Text.{text_of}
+use Rattle.answer_lines.specs.declared.line.Line.{Line}
 use Rattle.round.specs.Scenario.{Scenario}
 use Rattle.scenario.specs.declared.messages.Campaign.{Campaign}
 use Rattle.scenario.specs.declared.messages.Campaign.TheVariants.{Oral}
@@ -18,7 +19,7 @@ use Rattle.cli_tasks.specs.declared.refusal.InputRefusal.TheVariants.{NotText, M
 use Rattle.cli_tasks.specs.declared.first_answer.FirstAnswer.{FirstAnswer}
 use Rattle.cli_tasks.specs.declared.first_answer.FirstAnswer.TheVariants as answer
 use Rattle.cli_tasks.specs.TaskAnswers.{ComesTo, GoesOn}
-use Rattle.cli_tasks.specs.Answers.{IsTriedAt}
+use Rattle.cli_tasks.specs.Answers.{IsTriedBy}
 use Rattle.cli_tasks.specs.Campaigns.{IsAudited, IsMustered, IsPlayed}
 use Rattle.cli_tasks.specs.Schedules.{IsSchedule}
 use Rattle.cli_tasks.specs.Diagrams.{IsCampaignDrawn, IsRecordDrawn}
@@ -77,9 +78,10 @@ abbrev pub IsPlayedBy : Option (Option (List ℕ)) → Campaign → Account → 
 IsPlayedBy known c account explained text =
     (schedule : List (List Repeat)) × IsScheduleOf known schedule × IsPlayed c schedule account explained text
 
--- States that `text` is what `audit` prints about the second file as a chronicle of the campaign.
-abbrev pub IsAuditOf : Option (Option (List ℕ)) → Campaign → Option Lieutenants → List ℕ → Type 0
-IsAuditOf known c explained text = (bytes : List ℕ) × AreSecondBytes known bytes × IsAudited c explained bytes text
+-- States that `lines` and `rest` are what `audit` prints about the second file as a chronicle of the campaign.
+abbrev pub IsAuditOf : Option (Option (List ℕ)) → Campaign → Option Lieutenants → List Line → List ℕ → Type 0
+IsAuditOf known c explained lines rest =
+    (bytes : List ℕ) × AreSecondBytes known bytes × IsAudited c explained bytes lines rest
 
 -- States that the picture shows the campaign when it is played by the schedule in the second file.
 abbrev pub IsDrawnBy : Option (Option (List ℕ)) → Campaign → List ℕ → Type 0
@@ -105,13 +107,10 @@ IsPagedAs known c text page = (bytes : List ℕ) × AreSecondBytes known bytes �
 abbrev pub IsRetracedBy : Option (Option (List ℕ)) → Scenario → List ℕ → Type 0
 IsRetracedBy known s lines = (bytes : List ℕ) × AreSecondBytes known bytes × IsScheduleFor s bytes lines
 
--- States that `text` describes the program's trial in the setting that the second file describes, and that `place` says
--- for which general and round the program ran.
-abbrev pub IsTrialAt : Option (Option (List ℕ)) → Bool → Option Notation → List ℕ → List Insn → List ℕ → Option Shape →
-    Type 0
-IsTrialAt known traced asked first program text place =
-    (bytes : List ℕ) × AreSecondBytes known bytes
-    × ((shape : Shape) × IsTriedAt shape traced asked first bytes program text × (place ≡ Some shape))
+-- States that `lines` and `rest` describe the program's trial in the setting that the second file describes.
+abbrev pub IsTrialOf : Option (Option (List ℕ)) → Bool → Option Notation → List ℕ → List Insn → List Line → List ℕ → Type 0
+IsTrialOf known traced asked first program lines rest =
+    (bytes : List ℕ) × AreSecondBytes known bytes × IsTriedBy traced asked first bytes program lines rest
 
 -- States that `text` is what a task prints whose result on its first file is `more`. `known` are the bytes of its
 -- second file. The task must not try a program.
@@ -120,7 +119,6 @@ IsTextAfter known (answer.Text all) text = text ≡ string_bytes all
 IsTextAfter known (answer.Bytes all) text = text ≡ all.items
 IsTextAfter known (answer.Play c account explained) text = IsPlayedBy known c account explained text
 IsTextAfter known (answer.Muster s explained) text = IsMustered s explained text
-IsTextAfter known (answer.Audit c explained) text = IsAuditOf known c explained text
 IsTextAfter known (answer.Draw c) text = IsDrawnBy known c text
 IsTextAfter known (answer.DrawRecorded c) text = IsDrawnAs known c text
 IsTextAfter known (answer.Page c scenario) text = IsPagedBy known c (string_bytes scenario) text
@@ -128,24 +126,25 @@ IsTextAfter known (answer.PageRecorded c scenario) text = IsPagedAs known c (str
 IsTextAfter known (answer.Retrace s) text = IsRetracedBy known s text
 IsTextAfter known _ text = ⊥
 
--- States that `text` is what a task prints whose result on its first file is `more`. `known` are the bytes of its
--- second file. If the task tries a program in the setting of the second file, `place` says for which general and round,
--- and otherwise it is `None`.
-abbrev pub EndsIn : Task → List ℕ → Option (Option (List ℕ)) → FirstAnswer → List ℕ → Option Shape → Type 0
-EndsIn task first known (answer.Trial program told) text place =
-    IsTrialAt known told (explained_in task) first program text place
-EndsIn task first known more text place = IsTextAfter known more text × (place ≡ None)
+-- States that `lines` and `rest` are the answer of a task whose result on its first file is `more`. `known` are the
+-- bytes of its second file.
+abbrev pub EndsIn : Task → List ℕ → Option (Option (List ℕ)) → FirstAnswer → List Line → List ℕ → Type 0
+EndsIn task first known (answer.Lines all text) lines rest = (lines ≡ all.items) × (rest ≡ string_bytes text)
+EndsIn task first known (answer.Trial program told) lines rest =
+    IsTrialOf known told (explained_in task) first program lines rest
+EndsIn task first known (answer.Audit c explained) lines rest = IsAuditOf known c explained lines rest
+EndsIn task first known more lines rest = (lines ≡ []) × IsTextAfter known more rest
 
--- States that the task prints `text` for these files. If the task tries a program in the setting of its second file,
--- `place` says for which general and round, and otherwise it is `None`.
-abbrev pub IsPlacedAnswer : Task → Files → List ℕ → Option Shape → Type 0
-IsPlacedAnswer task files text place =
+-- States that the answer of the task for these files has the lines `lines`, followed by the text `rest`.
+abbrev pub IsLinedAnswer : Task → Files → List Line → List ℕ → Type 0
+IsLinedAnswer task files lines rest =
     (first : List ℕ) × AreBytes files.first first
-    × ((more : FirstAnswer) × ComesTo task first more × EndsIn task first files.second more text place)
+    × ((more : FirstAnswer) × ComesTo task first more × EndsIn task first files.second more lines rest)
 
 -- States that the task prints `text` for these files.
 abbrev pub IsAnswer : Task → Files → List ℕ → Type 0
-IsAnswer task files text = (place : Option Shape) × IsPlacedAnswer task files text place
+IsAnswer task files text =
+    (lines : List Line) × ((rest : List ℕ) × IsLinedAnswer task files lines rest × (text ≡ text_of lines ++ rest))
 
 -- States that the task has an answer for these files, and that `stands` holds of its text.
 abbrev pub HasAnswer : (List ℕ → Type 0) → Task → Files → Type 0

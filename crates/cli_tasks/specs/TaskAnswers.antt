@@ -1,5 +1,6 @@
 -- Defines the result of a task on its first file: what it prints, or what it needs for the second file.
 use Rattle.std.specs.Prelude.{ℕ, ◌≡◌, false, true, List, None, Some, string_bytes}
+use Rattle.answer_lines.specs.declared.line.Line.{Line}
 use Rattle.semantics.specs.Run.{IsSound}
 use Rattle.cli_words.specs.declared.tasks.Spelling.TheVariants.{Hex, Raw}
 use Rattle.cli_words.specs.declared.tasks.Task.{Task}
@@ -25,7 +26,6 @@ use Rattle.cli_tasks.specs.Answers.{IsChecked, AssemblesRaw, Assembles, Disassem
 
 -- States that the task prints `text` for a first file with these bytes, and needs no second file.
 abbrev pub Prints : Task → List ℕ → List ℕ → Type 0
-Prints (Check file notation None explained traced) first text = IsChecked notation explained traced first text
 Prints (Assemble file Hex target explained) first text = Assembles first text
 Prints (Assemble file Raw target explained) first text = AssemblesRaw first text
 Prints (AssemblePartly file Hex target explained) first text = AssemblesPartly first text
@@ -48,6 +48,13 @@ Prints (Tree file general traitors drawing depth folded) first text =
 Prints (Retrace scenario (Listed list)) first text = Arranges (string_bytes list) first text
 Prints _ first text = ⊥
 
+-- States that `lines` and `rest` are the answer of the task on a first file with these bytes, and that it needs no
+-- second file.
+abbrev pub PrintsLines : Task → List ℕ → List Line → List ℕ → Type 0
+PrintsLines (Check file notation None explained traced) first lines rest =
+    IsChecked notation explained traced first lines rest
+PrintsLines _ first lines rest = ⊥
+
 -- States that the task accepts a first file with these bytes and needs the given result for its second file: a verified
 -- program, and whether its steps are printed, or a campaign.
 abbrev pub GoesOn : Task → List ℕ → FirstAnswer → Type 0
@@ -68,15 +75,17 @@ GoesOn (Page scenario (Recorded file) target) first (answer.PageRecorded c text)
 GoesOn (Retrace scenario (OfChronicle file)) first (answer.Retrace s) = Tells first s
 GoesOn _ first _ = ⊥
 
--- States that this is the task's result on a first file with these bytes: a text or bytes to print, or a program or a
--- campaign that it needs for the second file.
+-- States that this is the task's result on a first file with these bytes: lines, a text or bytes to print, or a program
+-- or a campaign that it needs for the second file.
 abbrev pub ComesTo : Task → List ℕ → FirstAnswer → Type 0
+ComesTo task first (answer.Lines lines rest) = PrintsLines task first lines.items (string_bytes rest)
 ComesTo task first (answer.Text text) = Prints task first (string_bytes text)
 ComesTo task first (answer.Bytes bytes) = Prints task first bytes.items
 ComesTo task first more = GoesOn task first more
 
 -- States that the result on the first file is not yet the whole answer.
 abbrev pub IsUnfinished : FirstAnswer → Type 0
+IsUnfinished (answer.Lines lines rest) = ⊥
 IsUnfinished (answer.Text text) = ⊥
 IsUnfinished (answer.Bytes bytes) = ⊥
 IsUnfinished _ = Unit {0}

@@ -6,13 +6,14 @@ ghost use Rattle.cli_tasks.specs.AuditLines.{sound_lines};
 ghost use Rattle.cli_tasks.specs.Refusals.{RefusesChronicle, RefusesText};
 
 use crate::chronicle::{with_decisions, with_signed_decisions};
+use crate::lined_answer::Answer;
 use crate::refusal::InputRefusal;
 use crate::sound_chronicles::{sound_chronicle, sound_signed_chronicle};
+use answer_lines::Line;
 use cli_words::Lieutenants;
 use round::Scenario;
 use scenario::Campaign;
 use std::alloc::{AllocError, Global};
-use trace::{Latch, write_verdict};
 use world::Verdict;
 
 /// Checks that the bytes are the text of a chronicle of the campaign. Returns the line `sound` and the line of the
@@ -27,8 +28,9 @@ pub fn audited(
     campaign: &Campaign,
     bytes: &[u8],
     explained: Option<Lieutenants>,
-) -> Result<Vec<u8>, InputRefusal>
-    ensures audited { IfOk result (λ text. IsAudited campaign.now explained bytes.now text.items) }
+) -> Result<Answer, InputRefusal>
+    ensures audited { IfOk result
+        (λ answer. IsAudited campaign.now explained bytes.now answer.lines.items answer.rest.items) }
     ensures refused { IfErr result (RefusesText (RefusesChronicle campaign.now) bytes.now) }
 {
     match campaign {
@@ -44,14 +46,16 @@ fn oral_audited(
     scenario: &Scenario,
     bytes: &[u8],
     explained: Option<Lieutenants>,
-) -> Result<Vec<u8>, InputRefusal>
-    ensures audited { IfOk result (λ text. IsAudited (Oral scenario.now) explained bytes.now text.items) }
+) -> Result<Answer, InputRefusal>
+    ensures audited { IfOk result
+        (λ answer. IsAudited (Oral scenario.now) explained bytes.now answer.lines.items answer.rest.items) }
     ensures refused { IfErr result (RefusesText (RefusesChronicle (Oral scenario.now)) bytes.now) }
 {
     scenario.recall();
     let chronicle = sound_chronicle(alloc, scenario, bytes)?;
-    let lines = sound_text(alloc, chronicle.verdict())?;
-    Ok(with_decisions(alloc, lines, &chronicle, explained)?)
+    let lines = sound_lines(alloc, chronicle.verdict())?;
+    let rest = with_decisions(alloc, Vec::new(alloc), &chronicle, explained)?;
+    Ok(Answer { lines, rest })
 }
 
 /// Checks that the bytes are the text of a chronicle of a signed campaign, and returns the lines that `audit` prints.
@@ -61,25 +65,33 @@ fn signed_audited(
     scenario: &Scenario,
     bytes: &[u8],
     explained: Option<Lieutenants>,
-) -> Result<Vec<u8>, InputRefusal>
-    ensures audited { IfOk result (λ text. IsSignedAudited scenario.now explained bytes.now text.items) }
+) -> Result<Answer, InputRefusal>
+    ensures audited { IfOk result
+        (λ answer. IsSignedAudited scenario.now explained bytes.now answer.lines.items answer.rest.items) }
     ensures refused { IfErr result (RefusesText (RefusesChronicle (Signed scenario.now)) bytes.now) }
 {
     scenario.recall();
     let chronicle = sound_signed_chronicle(alloc, scenario, bytes)?;
-    let front = sound_text(alloc, chronicle.verdict())?;
-    Ok(with_signed_decisions(alloc, front, &chronicle, explained)?)
+    let lines = sound_lines(alloc, chronicle.verdict())?;
+    let rest = with_signed_decisions(alloc, Vec::new(alloc), &chronicle, explained)?;
+    Ok(Answer { lines, rest })
 }
 
 /// Returns the two lines that `audit` prints about a sound chronicle: `sound`, and the verdict on the campaign.
-fn sound_text(alloc: Global, verdict: Verdict) -> Result<Vec<u8>, AllocError>
+fn sound_lines(alloc: Global, verdict: Verdict) -> Result<Vec<Line>, AllocError>
     ensures { IfOk result (λ lines. lines.items ≡ sound_lines verdict) }
 {
+    let Verdict {
+        alike,
+        obeyed,
+        bound,
+    } = verdict;
     let mut lines = Vec::new(alloc);
-    lines.extend_from_slice(b"sound\n")?;
-    let mut latch = Latch::new(lines);
-    match write_verdict(verdict, &mut latch) {
-        Ok(()) => Ok(latch.into_writer()),
-        Err(_) => Err(AllocError),
-    }
+    lines.push(Line::Sound)?;
+    lines.push(Line::Verdict {
+        alike,
+        obeyed,
+        bound,
+    })?;
+    Ok(lines)
 }

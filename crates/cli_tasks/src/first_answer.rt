@@ -1,5 +1,6 @@
 //! The result of a task on its first file: everything that it prints, or a program or a campaign that it needs for the
 //! second file.
+use answer_lines::Line;
 use cli_words::{Account, Lieutenants};
 use round::Scenario;
 use scenario::Campaign;
@@ -9,6 +10,8 @@ use verify::Verified;
 /// for the second file.
 #[derive(Drop)]
 pub enum FirstAnswer {
+    /// The whole answer: lines, and the text after them.
+    Lines(Vec<Line>, String),
     /// The whole answer, as text.
     Text(String),
     /// The whole answer, as bytes that need not be text.

@@ -1,6 +1,6 @@
 //! Reads and verifies a program, and runs it in the bench setting: as the last of 4 generals, in the first round, with
 //! a board of zeros (subcommand `check`).
-ghost use Rattle.std.specs.Prelude.{◌≡◌, Ok, Err, IfOk, IfErr, MatchResult, None, Some, string_bytes};
+ghost use Rattle.std.specs.Prelude.{◌≡◌, Ok, Err, IfOk, IfErr, MatchResult, None, Some};
 ghost use Rattle.asm.specs.Program.{program_of};
 ghost use Rattle.codec.specs.Program.{SpellsProgram};
 ghost use Rattle.semantics.specs.Run.{IsSound};
@@ -15,12 +15,13 @@ ghost use Rattle.cli_tasks.specs.Refusals.{verifier_refusal};
 use crate::programs::code_in;
 use crate::refusal::InputRefusal;
 use crate::texts::as_text;
+use answer_lines::Line;
 use asm::assemble;
 use cli_words::Notation;
 use codec::decode;
 use insn::Program;
 use std::alloc::{AllocError, Global};
-use trial::{Setting, first_lines, run_in};
+use trial::{Setting, run_in, run_lines};
 use verify::{Refused, Verified, verify};
 
 /// The size of an accepted program, and the result of its run in the bench setting (general 3 of 4 in the first round).
@@ -168,8 +169,8 @@ fn run(alloc: Global, verified: &Verified) -> Result<Checked, AllocError>
 }
 
 /// Returns the lines that `check` prints about an accepted program: its size, and the result of its run.
-pub(crate) fn checked_text(alloc: Global, checked: &Checked) -> Result<String, AllocError>
-    ensures { IfOk result (λ text. string_bytes text ≡ checked_lines checked.now) }
+pub(crate) fn checked_lines(alloc: Global, checked: &Checked) -> Result<Vec<Line>, AllocError>
+    ensures { IfOk result (λ lines. lines.items ≡ checked_lines checked.now) }
 {
     let Checked {
         instructions,
@@ -177,5 +178,5 @@ pub(crate) fn checked_text(alloc: Global, checked: &Checked) -> Result<String, A
         r0,
         steps,
     } = *checked;
-    first_lines(alloc, instructions, units, r0, steps)
+    run_lines(alloc, instructions, units, r0, steps)
 }

@@ -1,5 +1,5 @@
 //! Runs a subcommand: reads its files, computes the answer, and prints the answer or the error.
-ghost use Rattle.std.specs.Prelude.{◌≡◌, ◌≢◌, ◌⊎◌, [], Ok, Err, IfOk, IfErr, IfSome, IsErrAnd, IsSomeAnd, MatchResult, OnOk, codes, option_map};
+ghost use Rattle.std.specs.Prelude.{◌≡◌, ◌≢◌, ◌⊎◌, ◌++◌, [], Ok, Err, IfOk, IfErr, IfSome, IsErrAnd, IsSomeAnd, MatchResult, OnOk, codes, option_map};
 ghost use Rattle.std.specs.Fmt.{with_newline};
 ghost use Rattle.std.specs.Io.KnownBytes.{Appends};
 ghost use Rattle.cli_tasks.specs.Faults.{IsToldIf, Stops, fault_text, status_of};
@@ -7,9 +7,10 @@ ghost use Rattle.cli_tasks.specs.TaskFaults.{Undoes, Prevents};
 ghost use Rattle.cli_tasks.specs.TaskAnswers.{IsUnfinished};
 ghost use Rattle.cli_tasks.specs.TaskHints.{explained_in};
 ghost use Rattle.cli_tasks.specs.Whys.{Nothing, TellsWhyOf, is_explained};
-ghost use Rattle.cli_tasks.specs.Serving.{EndsIn, IsAuditOf, IsFault, IsPlacedAnswer, IsPlayedBy, IsPrinted, IsScheduleOf, IsScheduleTold, IsToldLater, IsTrialAt, Tells, files};
+ghost use Rattle.cli_tasks.specs.Serving.{EndsIn, IsAuditOf, IsFault, IsLinedAnswer, IsPlayedBy, IsPrinted, IsScheduleOf, IsScheduleTold, IsToldLater, IsTrialOf, Tells, files};
 ghost use Rattle.cli_tasks.specs.declared.first_answer.FirstAnswer.TheVariants.{Trial, Play, Audit};
 ghost use Rattle.cli_tasks.specs.declared.failure.TaskFailure.TheVariants.{Write as unwritten};
+ghost use Rattle.answer_lines.specs.Text.{text_of};
 ghost use Rattle.streams.specs.Writing.{AppendsFront};
 
 use crate::audit::audited;
@@ -19,8 +20,8 @@ use crate::check_explanation::{explained_in, refused};
 use crate::chronicle::played;
 use crate::failure::TaskFailure;
 use crate::first_answer::FirstAnswer;
+use crate::lined_answer::Answer;
 use crate::muster::mustered;
-use crate::placed_answer::Answer;
 use crate::reader::{read_first, read_schedule, read_second};
 use crate::refusal::InputRefusal;
 use crate::task_answer::answer;
@@ -111,14 +112,25 @@ where
     ensures unprinted { IfErr result (λ fault. fault ≢ unwritten → out.new ≡ out.old) }
 {
     let answer = answered(rt, alloc, task, first, second)?;
-    match out.put(answer.text.as_slice()) {
+    let text = printed(alloc, answer)?;
+    match out.put(text.as_slice()) {
         Ok(()) => Ok(()),
         Err(_) => Err(TaskFailure::Write),
     }
 }
 
-/// Computes the answer of a task on its files, without printing it. If the task tries a program in the setting of its
-/// second file, the answer says for which general and round the program ran.
+/// Returns the text of an answer, as bytes.
+fn printed<'a>(alloc: Global, answer: Answer) -> Result<Vec<u8>, TaskFailure<'a>>
+    ensures text { IfOk result (λ text. text.items ≡ text_of answer.lines.items ++ answer.rest.items) }
+    ensures fault { IfErr result (λ fault. fault ≡ TaskFailure.Memory) }
+{
+    match answer.into_text(alloc) {
+        Ok(text) => Ok(text),
+        Err(_) => Err(TaskFailure::Memory),
+    }
+}
+
+/// Computes the answer of a task on its files, without printing it.
 ///
 /// # Errors
 ///
@@ -134,7 +146,7 @@ where
     T: Threads + Wait + Sync,
     R: Source,
     ensures answer { IfOk result
-        (λ answer. IsPlacedAnswer task.entry.now (files R.bytes first second) answer.text.items answer.place) }
+        (λ answer. IsLinedAnswer task.entry.now (files R.bytes first second) answer.lines.items answer.rest.items) }
     ensures fault { IfErr result
         (Prevents (R.fails first) (IsSomeAnd second R.fails) task.entry.now (files R.bytes first second)) }
 {
@@ -161,7 +173,7 @@ where
     T: Threads + Wait + Sync,
     R: Source,
     ensures answer { IfOk result
-        (λ answer. EndsIn task.now first.now (option_map R.bytes second) more answer.text.items answer.place) }
+        (λ answer. EndsIn task.now first.now (option_map R.bytes second) more answer.lines.items answer.rest.items) }
     ensures fault { IfErr result
         (λ fault. IsUnfinished more
         × Stops (IsSomeAnd second R.fails)
@@ -169,37 +181,40 @@ where
 {
     let told = is_explained(task);
     match more {
-        FirstAnswer::Text(text) => Ok(Answer::plain(text.into_bytes())),
-        FirstAnswer::Bytes(bytes) => Ok(Answer::plain(bytes)),
+        FirstAnswer::Lines(lines, rest) => Ok(Answer {
+            lines,
+            rest: rest.into_bytes(),
+        }),
+        FirstAnswer::Text(text) => Ok(Answer::plain(alloc, text.into_bytes())),
+        FirstAnswer::Bytes(bytes) => Ok(Answer::plain(alloc, bytes)),
         FirstAnswer::Trial(program, traced) => {
             trial_of(alloc, task, first, &program, traced, file, second)
         }
         FirstAnswer::Play(campaign, account, explained) => {
             let text = play_by(alloc, campaign, account, explained, told, file, second)?;
-            Ok(Answer::plain(text))
+            Ok(Answer::plain(alloc, text))
         }
         FirstAnswer::Muster(scenario, explained) => {
             let text = mustered(rt, alloc, scenario, explained);
-            Ok(Answer::plain(mustered_text(alloc, text, told, file)?))
+            Ok(Answer::plain(alloc, mustered_text(alloc, text, told, file)?))
         }
         FirstAnswer::Audit(campaign, explained) => {
-            let text = audit_of(alloc, &campaign, explained, told, file, second)?;
-            Ok(Answer::plain(text))
+            audit_of(alloc, &campaign, explained, told, file, second)
         }
         FirstAnswer::Draw(campaign) => {
-            Ok(Answer::plain(draw_by(alloc, campaign, told, file, second)?))
+            Ok(Answer::plain(alloc, draw_by(alloc, campaign, told, file, second)?))
         }
         FirstAnswer::DrawRecorded(campaign) => {
-            Ok(Answer::plain(draw_record(alloc, &campaign, told, file, second)?))
+            Ok(Answer::plain(alloc, draw_record(alloc, &campaign, told, file, second)?))
         }
         FirstAnswer::Page(campaign, text) => {
-            Ok(Answer::plain(page_by(alloc, campaign, text, told, file, second)?))
+            Ok(Answer::plain(alloc, page_by(alloc, campaign, text, told, file, second)?))
         }
         FirstAnswer::PageRecorded(campaign, text) => {
-            Ok(Answer::plain(page_record(alloc, campaign, text, told, file, second)?))
+            Ok(Answer::plain(alloc, page_record(alloc, campaign, text, told, file, second)?))
         }
         FirstAnswer::Retrace(scenario) => {
-            Ok(Answer::plain(retrace_of(alloc, &scenario, told, file, second)?))
+            Ok(Answer::plain(alloc, retrace_of(alloc, &scenario, told, file, second)?))
         }
     }
 }
@@ -222,8 +237,8 @@ fn mustered_text<'a>(
     }
 }
 
-/// Tries a program in the setting that the second file describes. Returns the text that is printed about the trial,
-/// with the general and round for which the program ran.
+/// Tries a program in the setting that the second file describes. Returns the answer of the trial: its lines, and the
+/// text after them.
 fn trial_of<'a, R: Source>(
     alloc: Global,
     task: &Task,
@@ -234,8 +249,8 @@ fn trial_of<'a, R: Source>(
     second: Option<R>,
 ) -> Result<Answer, TaskFailure<'a>>
     ensures tried { IfOk result
-        (λ answer. IsTrialAt (option_map R.bytes second) traced
-        (explained_in task.now) first.now program.now answer.text.items answer.place) }
+        (λ answer. IsTrialOf (option_map R.bytes second) traced
+        (explained_in task.now) first.now program.now answer.lines.items answer.rest.items) }
     ensures fault { IfErr result
         (Stops (IsSomeAnd second R.fails)
         (IsToldLater (is_explained task.now) file.entry.now (option_map R.bytes second)
@@ -250,9 +265,9 @@ fn trial_of<'a, R: Source>(
         first,
         bytes.as_slice(),
     ) {
-        Ok((text, shape)) => Ok(Answer {
-            text: text.into_bytes(),
-            place: Some(shape),
+        Ok((lines, rest)) => Ok(Answer {
+            lines,
+            rest: rest.into_bytes(),
         }),
         Err(refusal) => Err(later(
             alloc,
@@ -332,8 +347,9 @@ fn audit_of<'a, R: Source>(
     reported: bool,
     file: &'a str,
     second: Option<R>,
-) -> Result<Vec<u8>, TaskFailure<'a>>
-    ensures audited { IfOk result (λ text. IsAuditOf (option_map R.bytes second) campaign.now explained text.items) }
+) -> Result<Answer, TaskFailure<'a>>
+    ensures audited { IfOk result
+        (λ answer. IsAuditOf (option_map R.bytes second) campaign.now explained answer.lines.items answer.rest.items) }
     ensures fault { IfErr result
         (Stops (IsSomeAnd second R.fails)
         (IsToldLater reported file.entry.now (option_map R.bytes second)
@@ -341,7 +357,7 @@ fn audit_of<'a, R: Source>(
 {
     let bytes = read_second(alloc, file, second)?;
     match audited(alloc, campaign, bytes.as_slice(), explained) {
-        Ok(text) => Ok(text),
+        Ok(answer) => Ok(answer),
         Err(refusal) => {
             Err(later(
                 alloc,

@@ -10,29 +10,27 @@ use std::alloc::{AllocError, Global};
 use trial::Setting;
 use verify::Verified;
 
-/// Appends an empty line and one line for each step of the program's run in this setting to `lines`. Returns `lines`
-/// unchanged if `traced` is not set.
+/// Returns an empty line and one line for each step of the program's run in this setting, or an empty text if `traced`
+/// is not set.
 ///
 /// # Errors
 ///
 /// Fails with `AllocError` if memory runs out.
-pub(crate) fn with_steps(
+pub(crate) fn steps_text(
     alloc: Global,
-    lines: String,
     traced: bool,
     program: &Verified,
     setting: &Setting,
 ) -> Result<String, AllocError>
-    ensures { IfOk result (λ text. string_bytes text ≡ string_bytes lines
-        ++ steps_behind traced program.now setting.now) }
+    ensures { IfOk result (λ text. string_bytes text ≡ steps_behind traced program.now setting.now) }
 {
+    let mut text = String::new(alloc);
     if !traced {
-        return Ok(lines);
+        return Ok(text);
     }
     let bytes = setting.context(alloc)?;
     let context = Context::new(bytes.as_slice());
     let steps = trial::traced(alloc, program, &context, setting.shape(), setting.board())?;
-    let mut text = lines;
     text.push_str("\n")?;
     text.push_str(steps.as_str())?;
     Ok(text)

@@ -42,7 +42,10 @@ pub fn answer(alloc: Global, task: &Task, bytes: &[u8]) -> Result<FirstAnswer, I
             explained,
             traced,
             ..
-        } => Ok(FirstAnswer::Text(checked_in(alloc, notation, *explained, *traced, bytes)?)),
+        } => {
+            let (lines, rest) = checked_in(alloc, notation, *explained, *traced, bytes)?;
+            Ok(FirstAnswer::Lines(lines, rest))
+        }
         Task::Check {
             notation,
             context: Some(_),

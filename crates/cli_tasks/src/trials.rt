@@ -1,24 +1,25 @@
 //! Computes what `check` prints about a program: its run in the bench setting (general 3 of 4 in the first round), or
 //! its trial in the setting of a second file.
 ghost use Rattle.std.specs.Prelude.{IfOk, IfErr, option_map, string_bytes, None};
-ghost use Rattle.cli_tasks.specs.Answers.{IsTriedAt, IsChecked};
+ghost use Rattle.cli_tasks.specs.Answers.{IsChecked, IsTriedBy};
 ghost use Rattle.cli_tasks.specs.ProgramRefusals.{RefusesSetting, RefusesCheckIn};
 ghost use Rattle.cli_tasks.specs.Refusals.{RefusesText};
 
-use crate::program_check::{check, checked_text};
+use crate::program_check::{check, checked_lines};
 use crate::program_explanation::with_explanation;
 use crate::refusal::InputRefusal;
-use crate::steps::{with_slips, with_steps};
+use crate::steps::{steps_text, with_slips};
 use crate::texts::as_text;
+use answer_lines::Line;
 use cli_words::Notation;
-use label::Shape;
 use std::alloc::Global;
 use trial::{Setting, read, tried};
 use verify::Verified;
 
 /// Computes what `check` prints about the program in a file, if no second file gives a setting. `notation` says whether
-/// the file is bytecode, assembly or an ELF object. The text begins with the lines of the program's run as the last of
-/// 4 generals in the first round. The steps follow if `traced` is set, and then the explanation if `explained` is set.
+/// the file is bytecode, assembly or an ELF object. Returns the lines of the program's run as the last of 4 generals in
+/// the first round, and the text after them: the steps if `traced` is set, and then the explanation if `explained` is
+/// set.
 ///
 /// # Errors
 ///
@@ -29,21 +30,23 @@ pub fn checked_in(
     explained: bool,
     traced: bool,
     bytes: &[u8],
-) -> Result<String, InputRefusal>
-    ensures checked { IfOk result (λ text. IsChecked notation.now explained traced bytes.now (string_bytes text)) }
+) -> Result<(Vec<Line>, String), InputRefusal>
+    ensures checked { IfOk result
+        (λ told. IsChecked notation.now explained traced bytes.now told.0.items (string_bytes told.1)) }
     ensures refused { IfErr result (RefusesCheckIn notation.now bytes.now) }
 {
     let (verified, checked) = check(alloc, notation, bytes)?;
-    let lines = checked_text(alloc, &checked)?;
-    let lines = with_steps(alloc, lines, traced, &verified, &Setting::bench(alloc))?;
+    let lines = checked_lines(alloc, &checked)?;
+    let steps = steps_text(alloc, traced, &verified, &Setting::bench(alloc))?;
     let asked = if explained { Some(notation) } else { None };
-    Ok(with_explanation(alloc, lines, asked, bytes, verified.program())?)
+    let rest = with_explanation(alloc, steps, asked, bytes, verified.program())?;
+    Ok((lines, rest))
 }
 
 /// Tries a verified program in the setting that the second file describes. `first` and `second` are the bytes of the
-/// two files. Returns the text of the trial, with the general and round for which the program ran. The steps follow in
-/// the text if `traced` is set. If `asked` says how the program is written in the first file, the explanation follows,
-/// with a note for each call that should set orders in the outbox but sets none.
+/// two files. Returns the lines of the trial and the text after them. This text has the steps if `traced` is set. If
+/// `asked` says how the program is written in the first file, the explanation follows, with a note for each call that
+/// should set orders in the outbox but sets none.
 ///
 /// # Errors
 ///
@@ -56,16 +59,17 @@ pub fn tried_by(
     asked: Option<&Notation>,
     first: &[u8],
     second: &[u8],
-) -> Result<(String, Shape), InputRefusal>
+) -> Result<(Vec<Line>, String), InputRefusal>
     ensures tried { IfOk result
-        (λ told. IsTriedAt told.1 traced
-        (option_map (λ notation. notation.now) asked.entry) first.now second.now program.now (string_bytes told.0)) }
+        (λ told. IsTriedBy traced
+        (option_map (λ notation. notation.now) asked.entry) first.now second.now program.now told.0.items
+        (string_bytes told.1)) }
     ensures refused { IfErr result (RefusesText RefusesSetting second.now) }
 {
     let setting = read(alloc, as_text(second)?)?;
     let lines = tried(alloc, program, &setting)?;
-    let lines = with_steps(alloc, lines, traced, program, &setting)?;
-    let told = with_explanation(alloc, lines, asked, first, program.program())?;
-    let told = with_slips(alloc, told, asked, first, program, &setting)?;
-    Ok((told, setting.shape()))
+    let steps = steps_text(alloc, traced, program, &setting)?;
+    let told = with_explanation(alloc, steps, asked, first, program.program())?;
+    let rest = with_slips(alloc, told, asked, first, program, &setting)?;
+    Ok((lines, rest))
 }

@@ -9,6 +9,7 @@ use Rattle.word.specs.declared.Operation.TheVariants.{Move}
 use Rattle.insn.specs.declared.insn.Insn.{Insn}
 use Rattle.insn.specs.declared.insn.Insn.TheVariants.{Arithmetic, Call, Exit}
 use Rattle.insn.specs.declared.insn.Operand.TheVariants.{Immediate}
+use Rattle.answer_lines.specs.Text.{text_of}
 use Rattle.label.specs.Labels.{labels}
 use Rattle.semantics.specs.Execution.{step}
 use Rattle.mem.specs.ContextLayout.{context_bytes}
@@ -36,7 +37,7 @@ shown = set 1 3 ∷ Call (pos 9) ∷ set 1 1 ∷ set 2 1 ∷ set 3 7 ∷ Call (p
 
 -- General 3 is sent the truth for the labels that he is not on, general 1 an order for the label with rank 1, and 1
 -- is added to a word.
-printed : option_map (trial_lines shown told) (trial_in told shown)
+printed : option_map (λ ending. text_of (trial_lines shown told ending)) (trial_in told shown)
     ≡ Some (codes "accepted 10 instructions 10 units\nr0 0 steps 10\nput 0 3 1\nput 1 1 7\nput 2 3 1\nword 5 1\n")
 unfolding told set shown ending step labels context_bytes put_lines label_lines word_lines digits
 printed = refl

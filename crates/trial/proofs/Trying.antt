@@ -3,11 +3,12 @@ use Rattle.std.proofs.Common.{◌≡◌, ℕ, List, ◌++◌, Option, Some, leng
 use Rattle.insn.specs.declared.insn.Insn.{Insn}
 use Rattle.insn.specs.Program.{slots_of}
 use Rattle.label.specs.declared.shape.Shape.{Shape}
+use Rattle.answer_lines.specs.declared.line.Line.{Line}
 use Rattle.semantics.specs.Relay.{Relay, oral}
 use Rattle.semantics.specs.State.{State}
 use Rattle.trial.specs.Setting.{Setting, context_in}
 use Rattle.trial.specs.Trial.{Ending, trial_in, trial_on}
-use Rattle.trial.specs.Lines.{first_lines, put_lines, word_lines}
+use Rattle.trial.specs.Lines.{run_lines, put_lines, word_lines}
 use Rattle.trial.specs.Answers.{IsTried}
 
 -- Proves that the trial in a setting's context and relay is the trial in the setting.
@@ -20,13 +21,13 @@ ends_in program s context words own ended told shape board is =
 pub relay_in : (s : Setting) (own : Shape) (kept : Relay) → own ≡ s.shape → kept ≡ oral own → kept ≡ oral s.shape
 relay_in s own kept shape same = same ∙ ap oral shape
 
-pub tried_is : (program code : List Insn) (s : Setting) (lines opening words : List ℕ) (kept : Relay) (r0 : ℕ) (state : State) → kept ≡ oral s.shape → code ≡ program → opening ≡ s.board
+pub tried_is : (program code : List Insn) (s : Setting) (lines : List Line) (opening words : List ℕ) (kept : Relay) (r0 : ℕ) (state : State) → kept ≡ oral s.shape → code ≡ program → opening ≡ s.board
     → trial_in s program ≡ Some (record { r0 = r0; state = state; words = words })
-    → lines ≡ first_lines (length code) (length (slots_of code)) r0 state.steps ++ put_lines (record { relay = kept; rows = state.outbox; entries = state.entries }) ++ word_lines opening words → IsTried program s lines
+    → lines ≡ run_lines (length code) (length (slots_of code)) r0 state.steps ++ put_lines (record { relay = kept; rows = state.outbox; entries = state.entries }) ++ word_lines opening words → IsTried program s lines
 tried_is program code s lines opening words kept r0 state same read opened ended are = (
   record { r0 = r0; state = state; words = words },
   ended,
-  are ∙ (ap (λ (shown : List Insn). first_lines (length shown) (length (slots_of shown)) r0 state.steps ++ put_lines (record { relay = kept; rows = state.outbox; entries = state.entries }) ++ word_lines opening words) read
-      ∙ (ap (λ (r : Relay). first_lines (length program) (length (slots_of program)) r0 state.steps ++ put_lines (record { relay = r; rows = state.outbox; entries = state.entries }) ++ word_lines opening words) same
-      ∙ ap (λ (ws : List ℕ). first_lines (length program) (length (slots_of program)) r0 state.steps ++ put_lines (record { relay = oral s.shape; rows = state.outbox; entries = state.entries }) ++ word_lines ws words) opened)),
+  are ∙ (ap (λ (shown : List Insn). run_lines (length shown) (length (slots_of shown)) r0 state.steps ++ put_lines (record { relay = kept; rows = state.outbox; entries = state.entries }) ++ word_lines opening words) read
+      ∙ (ap (λ (r : Relay). run_lines (length program) (length (slots_of program)) r0 state.steps ++ put_lines (record { relay = r; rows = state.outbox; entries = state.entries }) ++ word_lines opening words) same
+      ∙ ap (λ (ws : List ℕ). run_lines (length program) (length (slots_of program)) r0 state.steps ++ put_lines (record { relay = oral s.shape; rows = state.outbox; entries = state.entries }) ++ word_lines ws words) opened)),
 )

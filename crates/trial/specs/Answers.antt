@@ -3,6 +3,7 @@ use Rattle.std.specs.Prelude.{ℕ, ◌≡◌, List, Option, Some, None, Result, 
 use Rattle.toml.specs.Data.{Members}
 use Rattle.toml.specs.Parse.{parse_document}
 use Rattle.insn.specs.declared.insn.Insn.{Insn}
+use Rattle.answer_lines.specs.declared.line.Line.{Line}
 use Rattle.trial.specs.declared.fault.SettingError.{SettingError}
 use Rattle.trial.specs.declared.fault.SettingError.TheVariants as errors
 use Rattle.trial.specs.Flaws.{Gives}
@@ -23,7 +24,7 @@ Reads (Some ms) r = Gives (λ s. s) r (setting ms)
 abbrev pub Tells : List ℕ → Setting → Type 0
 Tells text s = Reads (parse_document text) (Ok s)
 
--- States that the trial of the program in the setting ends, and that `lines` is what is printed for it.
-abbrev pub IsTried : List Insn → Setting → List ℕ → Type 0
+-- States that the trial of the program in the setting ends, and that `lines` are its lines.
+abbrev pub IsTried : List Insn → Setting → List Line → Type 0
 IsTried program s lines =
     (e : Ending) × (trial_in s program ≡ Some e) × (lines ≡ trial_lines program s e)

@@ -22,7 +22,7 @@ mod words;
 
 pub use fault::{SettingError, SettingFault};
 pub use laws::{contexts_are_settings, trials_are_runs, trials_end};
-pub use lines::{first_lines, tried};
+pub use lines::{run_lines, tried};
 pub use place::{SettingKey, SettingPlace};
 pub use program_run::{Exited, run_in, run_on};
 pub use reader::read;

@@ -1,13 +1,15 @@
-//! Prints the result of a trial: the program's size, its exit, its orders, and the board's words that changed.
-ghost use Rattle.std.specs.Prelude.{◌≡◌, ◌<◌, ◌≤◌, ◌++◌, ℕ, List, Some, IfOk, OnOk, length, slice_get, string_bytes};
+//! Lists the lines of a trial: the program's size, its exit, its orders, and the board's words that changed.
+ghost use Rattle.std.specs.Prelude.{◌≡◌, ◌<◌, ◌≤◌, ◌++◌, ℕ, List, Some, IfOk, OnOk, length, slice_get};
 ghost use Rattle.insn.specs.Program.{slots_of};
 ghost use Rattle.semantics.specs.Relay.{relayed};
-ghost use Rattle.trial.specs.Lines.{first_lines, put_line, label_lines, put_lines, word_line, word_lines};
+ghost use Rattle.trial.specs.Lines.{label_lines, put_line, put_lines, run_lines, word_line, word_lines};
 ghost use Rattle.trial.specs.Answers.{IsTried};
 
 use crate::program_run::{Exited, run_in};
 use crate::setting::Setting;
+use answer_lines::Line;
 use insn::Program;
+use label::Shape;
 use outbox::Outbox;
 use std::alloc::{AllocError, Global};
 use verify::Verified;
@@ -19,8 +21,12 @@ use verify::Verified;
 /// # Errors
 ///
 /// Fails with `AllocError` if there is no memory for the context, the outbox, an access or the lines.
-pub fn tried(alloc: Global, verified: &Verified, setting: &Setting) -> Result<String, AllocError>
-    ensures { IfOk result (λ text. IsTried verified.now setting.now (string_bytes text)) }
+pub fn tried(
+    alloc: Global,
+    verified: &Verified,
+    setting: &Setting,
+) -> Result<Vec<Line>, AllocError>
+    ensures { IfOk result (λ lines. IsTried verified.now setting.now lines.items) }
 {
     let exited = run_in(alloc, verified, setting)?;
     lines(alloc, verified.program(), &setting.board(), &exited)
@@ -33,9 +39,9 @@ fn lines(
     program: &Program,
     opening: &[u64; 64],
     exited: &Exited,
-) -> Result<String, AllocError>
-    ensures { IfOk result (λ text. string_bytes text ≡
-        first_lines (length program.now) (length (slots_of program.now)) exited.now.r0 exited.now.activation.state.steps
+) -> Result<Vec<Line>, AllocError>
+    ensures { IfOk result (λ lines. lines.items ≡
+        run_lines (length program.now) (length (slots_of program.now)) exited.now.r0 exited.now.activation.state.steps
         ++ put_lines (record {
           relay = exited.now.activation.relay;
           rows = exited.now.activation.state.outbox;
@@ -43,16 +49,16 @@ fn lines(
         })
         ++ word_lines opening.now exited.now.board.words) }
 {
-    let mut text = first_lines(
+    let mut lines = run_lines(
         alloc,
         program.len(),
         program.units(),
         exited.r0,
         exited.activation.steps(),
     )?;
-    push_orders(alloc, &mut text, exited.activation.outbox())?;
-    push_words(alloc, &mut text, opening, exited.board.words())?;
-    Ok(text)
+    push_orders(&mut lines, exited.activation.outbox())?;
+    push_words(&mut lines, opening, exited.board.words())?;
+    Ok(lines)
 }
 
 /// Returns two lines: the size of the program in instructions and units, and its exit value and number of steps.
@@ -60,45 +66,46 @@ fn lines(
 /// # Errors
 ///
 /// Fails with `AllocError` if there is no memory for the lines.
-pub fn first_lines(
+pub fn run_lines(
     alloc: Global,
     instructions: usize,
     units: usize,
     r0: u64,
     steps: u32,
-) -> Result<String, AllocError>
-    ensures { IfOk result (λ text. string_bytes text ≡ first_lines instructions units r0 steps) }
+) -> Result<Vec<Line>, AllocError>
+    ensures { IfOk result (λ lines. lines.items ≡ run_lines instructions units r0 steps) }
 {
-    format!(in alloc; "accepted {instructions} instructions {units} units\nr0 {r0} steps {steps}\n")
+    let mut lines = Vec::new(alloc);
+    lines.push(Line::Accepted {
+        instructions,
+        units,
+    })?;
+    lines.push(Line::Run { r0, steps })?;
+    Ok(lines)
 }
 
 /// Appends a line for each order that the program set, such as `put 0 3 1` (rank, receiver, order).
-fn push_orders(alloc: Global, text: &mut String, outbox: &Outbox) -> Result<(), AllocError>
-    ensures { OnOk result (string_bytes text.new ≡ string_bytes text.old ++ put_lines outbox.now) }
+fn push_orders(lines: &mut Vec<Line>, outbox: &Outbox) -> Result<(), AllocError>
+    ensures { OnOk result (lines.new.items ≡ lines.old.items ++ put_lines outbox.now) }
 {
     for rank in 0..outbox.labels() {
-        push_label(alloc, text, outbox, rank)?;
+        push_label(lines, outbox, rank)?;
     }
     Ok(())
 }
 
 /// Appends a line for each order that was set for the label with rank `rank`.
-fn push_label(
-    alloc: Global,
-    text: &mut String,
-    outbox: &Outbox,
-    rank: u32,
-) -> Result<(), AllocError>
+fn push_label(lines: &mut Vec<Line>, outbox: &Outbox, rank: u32) -> Result<(), AllocError>
     requires { rank < length outbox.now.rows }
     ensures { OnOk result ((label : List ℕ) → slice_get (relayed outbox.now.relay) rank ≡ Some label →
-        string_bytes text.new ≡ string_bytes text.old ++ label_lines outbox.now rank label) }
+        lines.new.items ≡ lines.old.items ++ label_lines outbox.now rank label) }
 {
-    let _shape = outbox.shape();
+    let shape = outbox.shape();
     let receivers = outbox.receivers(rank);
     for receiver in receivers.as_slice() {
         let receiver = u32::from(*receiver);
         if let Some(order) = outbox.get(rank, receiver) {
-            push_order(alloc, text, rank, receiver, order)?;
+            push_order(lines, shape, rank, receiver, order)?;
         }
     }
     Ok(())
@@ -106,30 +113,34 @@ fn push_label(
 
 /// Appends the line of one order, such as `put 0 3 1` (rank, receiver, order).
 fn push_order(
-    alloc: Global,
-    text: &mut String,
+    lines: &mut Vec<Line>,
+    relay: Shape,
     rank: u32,
     receiver: u32,
     order: u32,
 ) -> Result<(), AllocError>
-    ensures { OnOk result (string_bytes text.new ≡ string_bytes text.old ++ put_line rank receiver (Some order)) }
+    ensures { OnOk result (lines.new.items ≡ lines.old.items ++ put_line relay rank receiver (Some order)) }
 {
-    let line = format!(in alloc; "put {rank} {receiver} {order}\n")?;
-    text.push_str(line.as_str())
+    lines.push(Line::Put {
+        relay,
+        rank,
+        receiver,
+        order,
+    })?;
+    Ok(())
 }
 
 /// Appends a line for each word of the board that differs from its value in `opening`, such as `word 5 7`.
 fn push_words(
-    alloc: Global,
-    text: &mut String,
+    lines: &mut Vec<Line>,
     opening: &[u64; 64],
     words: &[u64],
 ) -> Result<(), AllocError>
     requires { length words.now ≤ 64 }
-    ensures { OnOk result (string_bytes text.new ≡ string_bytes text.old ++ word_lines opening.now words.now) }
+    ensures { OnOk result (lines.new.items ≡ lines.old.items ++ word_lines opening.now words.now) }
 {
     for index in 0..words.len() {
-        push_word(alloc, text, opening[index], index, words[index])?;
+        push_word(lines, opening[index], index, words[index])?;
     }
     Ok(())
 }
@@ -137,17 +148,19 @@ fn push_words(
 /// Appends the line of one word of the board, such as `word 5 7` (index, value). Appends nothing if it equals
 /// `before`.
 fn push_word(
-    alloc: Global,
-    text: &mut String,
+    lines: &mut Vec<Line>,
     before: u64,
     index: usize,
     word: u64,
 ) -> Result<(), AllocError>
-    ensures { OnOk result (string_bytes text.new ≡ string_bytes text.old ++ word_line before index word) }
+    ensures { OnOk result (lines.new.items ≡ lines.old.items ++ word_line before index word) }
 {
     if word == before {
         return Ok(());
     }
-    let line = format!(in alloc; "word {index} {word}\n")?;
-    text.push_str(line.as_str())
+    lines.push(Line::Word {
+        slot: index,
+        value: word,
+    })?;
+    Ok(())
 }

@@ -1,10 +1,10 @@
 use Rattle.std.proofs.Common.{◌≡◌, ◌++◌, length}
 use Rattle.text.specs.Parts.{lines_of}
 use Rattle.cli_answers.specs.Lines.{json_text, object_lines, objects}
-use Rattle.cli_answers.proofs.json_lines.answer.Given as goal
+use Rattle.cli_answers.proofs.json_lines.push_text.Given as goal
 
 abbrev pub invariant-loop-first : goal.invariant-loop-first
-invariant-loop-first l = l.out.items ++ object_lines (objects l.held (lines_of l.rest)) ≡ json_text l.fn.place l.text
+invariant-loop-first l = l.out.items ++ object_lines (objects l.held (lines_of l.rest)) ≡ l.initial.out.items ++ json_text l.text
 
 abbrev pub decreases-loop-first : goal.decreases-loop-first
 decreases-loop-first l = length l.rest

@@ -1,5 +1,5 @@
 use Rattle.cli_answers.proofs.CleanLemmas.{line_clean}
-use Rattle.cli_answers.proofs.json_lines.answer.Goals as goal
+use Rattle.cli_answers.proofs.json_lines.push_text.Goals as goal
 
 pub push_object-requires : goal.push_object-requires
 push_object-requires c = rw c.in_ok-object.ensures (line_clean c.loop-first.held c.in-Some.first.now)
