@@ -1,8 +1,10 @@
-//! Lines of answers: what each line says, and its text. The files in specs/ define them.
+//! Lines of answers: what each line says, and how it is printed as text.
 #![tactic(auto)]
 
 mod line;
+mod passage;
 mod texts;
 
 pub use line::Line;
-pub use texts::{line_text, push_lines};
+pub use passage::Passage;
+pub use texts::{line_text, lines_text, push_lines};

@@ -1,33 +1,41 @@
 //! A line of an answer.
+use crate::passage::Passage;
 use label::Shape;
 
-/// A line of an answer: what its words say, and where it is in a campaign.
-#[derive(Clone, Copy)]
+/// A line of an answer. Each variant has the values that the line prints, except `Text`.
+#[derive(Drop)]
 pub enum Line {
-    /// A program is accepted. It has this many instructions, in this many units of 64 bits.
+    /// A program is accepted. It has `instructions` instructions in `units` units (8 bytes each).
     Accepted {
         instructions: usize,
         units: usize,
     },
-    /// A program's run ended with this value of r0, after this many steps.
+    /// The run of a program ended with `r0` in register 0 after `steps` steps.
     Run {
         r0: u64,
         steps: u32,
     },
-    /// A program's run put this order to this receiver, for the label of this rank among those that are relayed.
+    /// The run of a program set an order for a receiver. The order is about the label with rank `rank` among those that
+    /// `relay` relays.
     Put {
         relay: Shape,
         rank: u32,
         receiver: u32,
         order: u32,
     },
-    /// A program's run left this value in a word of the board.
+    /// The run of a program left `value` in the board's word with index `slot`.
     Word {
         slot: usize,
         value: u64,
     },
     /// A chronicle is sound.
     Sound,
+    /// A lieutenant decides on an order. `traitor` is true if the line names him as a traitor.
+    Decision {
+        general: u8,
+        traitor: bool,
+        order: u32,
+    },
     /// The verdict on a campaign: whether the loyal lieutenants decide alike, whether they obey the commander, and whether
     /// the bound holds. `obeyed` is `None` if the commander is a traitor.
     Verdict {
@@ -35,4 +43,6 @@ pub enum Line {
         obeyed: Option<bool>,
         bound: bool,
     },
+    /// A text of any number of lines.
+    Text(Passage),
 }

@@ -19,10 +19,10 @@ pub map_no : {A : Type 0} (F : ℕ → A) (w : List ℕ) (j : ℕ) → on w j �
 map_no F w j h = ap (map F) (others-more_no w j h)
 
 -- The same for lines.
-pub lines_yes : (line : ℕ → List ℕ) (w : List ℕ) (j : ℕ) → on w j ≡ false → flat_map line (others (j + 1) w) ≡ flat_map line (others j w) ++ line j
+pub lines_yes : {A : Type 0} (line : ℕ → List A) (w : List ℕ) (j : ℕ) → on w j ≡ false → flat_map line (others (j + 1) w) ≡ flat_map line (others j w) ++ line j
 lines_yes line w j h = ap (flat_map line) (others-more_yes w j h) ∙ sym (flat_map_more line [] (others j w) j)
 
-pub lines_no : (line : ℕ → List ℕ) (w : List ℕ) (j : ℕ) → on w j ≡ true → flat_map line (others (j + 1) w) ≡ flat_map line (others j w)
+pub lines_no : {A : Type 0} (line : ℕ → List A) (w : List ℕ) (j : ℕ) → on w j ≡ true → flat_map line (others (j + 1) w) ≡ flat_map line (others j w)
 lines_no line w j h = ap (flat_map line) (others-more_no w j h)
 
 -- There are no more items than generals.

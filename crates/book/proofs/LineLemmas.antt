@@ -2,8 +2,8 @@
 use Rattle.std.proofs.Common.{ℕ, ◌+◌, ◌<◌, ◌≡◌, ◌≤◌, ◌∙◌, false, List, [], ◌∷◌, Some, length, length-append, map, get_or, ap, arith, sym}
 use Rattle.std.specs.Prelude.{slice_get, option_map}
 use Rattle.std.proofs.lemmas.Option.{slice_get-map, slice_get_within, get_or_from_slice_get}
-use Rattle.std.specs.List.{flat_map}
 use Rattle.std.proofs.lemmas.List.{length-map}
+use Rattle.answer_lines.specs.declared.line.Line.{Line}
 use Rattle.label.specs.Labels.{on, others}
 use Rattle.label.proofs.Bounds.{others_here}
 use Rattle.book.specs.Decisions.{decision_of, decisions_of, lieutenants}
@@ -12,12 +12,12 @@ use Rattle.book.proofs.Steps.{others-more_yes, entries_few}
 use Rattle.book.specs.Lines.{decision_line, decision_lines}
 
 -- The lines of all lieutenants.
-pub lines_all : (table : MessageTable) (lines : List ℕ) (j : ℕ) → table.generals ≤ j → j ≤ table.generals
-    → lines ≡ flat_map (λ general. decision_line general (decision_of table general)) (others j (table.commander ∷ [])) → lines ≡ decision_lines table
+pub lines_all : (table : MessageTable) (lines : List Line) (j : ℕ) → table.generals ≤ j → j ≤ table.generals
+    → lines ≡ map (decision_line table) (others j (table.commander ∷ [])) → lines ≡ decision_lines table
 unfolding decision_lines
 lines_all table lines j past within is =
     let same : j ≡ table.generals = omega arith in
-    is ∙ ap (λ (n : ℕ). flat_map (λ general. decision_line general (decision_of table general)) (others n (table.commander ∷ []))) same
+    is ∙ ap (λ (n : ℕ). map (decision_line table) (others n (table.commander ∷ []))) same
 
 -- The order at a lieutenant's position.
 pub order_is : (table : MessageTable) (orders : List ℕ) (place general : ℕ) → orders ≡ decisions_of table → place ≡ length (others general (table.commander ∷ [])) → general < table.generals → on (table.commander ∷ []) general ≡ false → get_or orders place 0 ≡ decision_of table general

@@ -1,42 +1,35 @@
 -- Texts that consist of several parts.
 use Rattle.std.proofs.Common.{ℕ, ◌≡◌, Bool, List, [], ◌∷◌, ◌++◌, Option, Some, refl, ap, ◌∙◌, append_assoc}
-use Rattle.std.specs.Prelude.{Result, Ok, Err, OnOk, is_ok, if◌then◌else◌, codes}
+use Rattle.std.specs.Prelude.{codes}
 use Rattle.std.specs.Fmt.{decimal}
 use Rattle.std.specs.List.{flat_map}
+use Rattle.answer_lines.specs.declared.line.Line.{Line}
+use Rattle.answer_lines.specs.declared.line.Line.TheVariants.{Decision, Text}
 use Rattle.label.specs.Labels.{on, others}
 use Rattle.book.specs.declared.conditions.Conditions.{Conditions}
 use Rattle.book.specs.Table.{MessageTable}
 use Rattle.book.specs.Conditions.{judged}
 use Rattle.book.specs.Decisions.{decision_of}
-use Rattle.book.specs.Explained.{yes_no, enough_words, few_words, enough_part, few_part, head_line, list_lines, decision_line, lieutenant_lines, bound_line, alike_line, obedience_line, condition_lines, explained, dotted, list_words}
+use Rattle.book.specs.Explained.{yes_no, enough_words, few_words, enough_part, few_part, head_line, list_lines, lists_text, lieutenant_lines, conditions_text, explained, dotted, list_words}
 
--- A push that succeeded.
-pub pushed : {E : Type 0} (r : Result (Unit {0}) E) (new old more : List ℕ) → new ≡ (if is_ok r then old ++ more else old) → OnOk r (new ≡ old ++ more)
-pushed (Ok u) new old more e = e
-pushed (Err x) new old more e = tt
+-- The text of a lieutenant's lists: his number and then the lists.
+pub lists_whole : (t : MessageTable) (p : ℕ) (old first lists : List ℕ) (m : ℕ) (w : List ℕ) → old ≡ []
+    → first ≡ old ++ head_line p → lists ≡ first ++ list_lines t m w p → m ≡ t.bound → w ≡ t.commander ∷ [] → lists ≡ lists_text t p
+unfolding lists_text
+lists_whole t p old first lists m w eo ef el em ew = rw (el, ef, eo, em, ew) refl
 
--- Three parts after a text.
-regroup : (a b c d : List ℕ) → ((a ++ b) ++ c) ++ d ≡ a ++ ((b ++ c) ++ d)
-regroup a b c d = ap (λ x. x ++ d) (append_assoc a b c) ∙ append_assoc a (b ++ c) d
-
--- The lines about a lieutenant.
-pub lieutenant_whole : (t : MessageTable) (traitors : List ℕ) (p : ℕ) (old first lists new : List ℕ) (m : ℕ) (w : List ℕ) (named : Bool) (d : ℕ)
-    → first ≡ old ++ head_line p → lists ≡ first ++ list_lines t m w p → m ≡ t.bound → w ≡ t.commander ∷ [] → named ≡ on traitors p → d ≡ decision_of t p
-    → new ≡ lists ++ decision_line p named d → new ≡ old ++ lieutenant_lines t traitors p
+-- The lines about a lieutenant: the text of his lists, and his decision.
+pub lieutenant_whole : (t : MessageTable) (traitors : List ℕ) (p : ℕ) (old first new : List Line) (lists : List ℕ) (named : Bool) (d : ℕ)
+    → lists ≡ lists_text t p → named ≡ on traitors p → d ≡ decision_of t p
+    → first ≡ old ++ Text lists ∷ [] → new ≡ first ++ Decision p named d ∷ [] → new ≡ old ++ lieutenant_lines t traitors p
 unfolding lieutenant_lines
-lieutenant_whole t traitors p old first lists new m w named d ef el em ew en ed e =
-    rw (e, el, ef, em, ew, en, ed) (regroup old (head_line p) (list_lines t t.bound (t.commander ∷ []) p) (decision_line p (on traitors p) (decision_of t p)))
-
--- The lines of the conditions.
-pub conditions_whole : (t : MessageTable) (met : Conditions) (old first second new : List ℕ)
-    → first ≡ old ++ bound_line t met → second ≡ first ++ alike_line met.alike → new ≡ second ++ obedience_line met.obedience → new ≡ old ++ condition_lines t met
-unfolding condition_lines
-conditions_whole t met old first second new ef es e = rw (e, es, ef) (regroup old (bound_line t met) (alike_line met.alike) (obedience_line met.obedience))
+lieutenant_whole t traitors p old first new lists named d el en ed ef e =
+    rw (e, ef, el, en, ed) (append_assoc old (Text (lists_text t p) ∷ []) (Decision p (on traitors p) (decision_of t p) ∷ []))
 
 -- All lines.
-pub explained_whole : (t : MessageTable) (traitors : List ℕ) (j : ℕ) (met : Conditions) (lines new : List ℕ) → j ≡ t.generals
+pub explained_whole : (t : MessageTable) (traitors : List ℕ) (j : ℕ) (met : Conditions) (lines new : List Line) → j ≡ t.generals
     → lines ≡ flat_map (lieutenant_lines t traitors) (others j (t.commander ∷ [])) → met ≡ judged t traitors
-    → new ≡ lines ++ condition_lines t met → new ≡ explained t traitors
+    → new ≡ lines ++ Text (conditions_text t met) ∷ [] → new ≡ explained t traitors
 unfolding explained
 explained_whole t traitors j met lines new all el em e = rw (e, el, em, all) refl
 

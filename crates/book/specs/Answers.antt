@@ -1,5 +1,6 @@
 -- What the subcommands that read or make a message table print.
 use Rattle.std.specs.Prelude.{ℕ, ◌≡◌, true, List, Option, Some, Ok}
+use Rattle.answer_lines.specs.declared.line.Line.{Line}
 use Rattle.combine.specs.declared.campaign_rule.Rule.{Rule}
 use Rattle.book.specs.Decisions.{decisions_of, TableAgrees}
 use Rattle.book.specs.Explained.{explained, explained_one}
@@ -12,13 +13,13 @@ use Rattle.book.specs.Written.{loyal, written}
 
 -- States that the text is a message table, and that `lines` explain how its lieutenants decide if these generals are
 -- named as traitors.
-abbrev pub ExplainsTable : List ℕ → List ℕ → List ℕ → Type 0
+abbrev pub ExplainsTable : List ℕ → List ℕ → List Line → Type 0
 ExplainsTable text traitors lines =
     (table : MessageTable) × (table_told text ≡ Ok table) × (lines ≡ explained table traitors)
 
 -- States that the text is a message table, and that `lines` explain how general `g` decides if these generals are named
 -- as traitors.
-abbrev pub ExplainsOne : List ℕ → List ℕ → ℕ → List ℕ → Type 0
+abbrev pub ExplainsOne : List ℕ → List ℕ → ℕ → List Line → Type 0
 ExplainsOne text traitors g lines =
     (table : MessageTable) × (table_told text ≡ Ok table) × (lines ≡ explained_one table traitors g)
 
@@ -38,7 +39,7 @@ IsFilled n m c order liar text =
 
 -- States that the text is a message table, and that `lines` are its decisions. They agree if the bound holds and each
 -- loyal general sends on the order that he took.
-abbrev pub DecidesTable : List ℕ → List ℕ → Type 0
+abbrev pub DecidesTable : List ℕ → List Line → Type 0
 DecidesTable text lines =
     (table : MessageTable) × (table_told text ≡ Ok table) × (lines ≡ decision_lines table)
     × TableAgrees table (decisions_of table)

@@ -1,8 +1,10 @@
--- The text that explains how the lieutenants of a table decide: the list of orders that each combines at each label
+-- The lines that explain how the lieutenants of a table decide: the list of orders that each combines at each label
 -- (TOPLAS 1982, algorithm OM(m)), what results from the list, and whether the bound, IC1 and IC2 hold.
 use Rattle.std.specs.Prelude.{ℕ, zero, suc, ◌==◌, ◌&&◌, not, nat_lt, Bool, if◌then◌else◌, cond, List, [], ◌∷◌, ◌++◌, map, codes, Option, None, Some}
 use Rattle.std.specs.Fmt.{decimal}
 use Rattle.std.specs.List.{flat_map}
+use Rattle.answer_lines.specs.declared.line.Line.{Line}
+use Rattle.answer_lines.specs.declared.line.Line.TheVariants.{Decision, Text}
 use Rattle.combine.specs.Rule.{combined_by, outcome_of}
 use Rattle.combine.specs.Outcome.{outcome_words}
 use Rattle.label.specs.Labels.{on, others}
@@ -74,19 +76,14 @@ list_lines t (suc k) w p =
 abbrev pub head_line : ℕ → List ℕ
 head_line p = codes "lieutenant " ++ decimal p ++ codes "\n"
 
--- Returns the text between the lieutenant's number and his order: ` traitor ` if he is named as a traitor, and
--- otherwise a space.
-abbrev pub mark : Bool → List ℕ
-mark named = if named then codes " traitor " else codes " "
+-- Writes the first line about a lieutenant, and then his lists.
+unfoldable pub lists_text : MessageTable → ℕ → List ℕ
+lists_text t p = head_line p ++ list_lines t t.bound (t.commander ∷ []) p
 
--- Writes the line of a lieutenant's decision.
-abbrev pub decision_line : ℕ → Bool → ℕ → List ℕ
-decision_line p named order = codes "decision " ++ decimal p ++ mark named ++ decimal order ++ codes "\n"
-
--- Writes the lines about a lieutenant: the first line, his lists, and his decision.
-unfoldable pub lieutenant_lines : MessageTable → List ℕ → ℕ → List ℕ
-lieutenant_lines t traitors p =
-    head_line p ++ list_lines t t.bound (t.commander ∷ []) p ++ decision_line p (on traitors p) (decision_of t p)
+-- Returns the lines about a lieutenant: his lists as text, and then his decision, which says whether he is named as a
+-- traitor.
+unfoldable pub lieutenant_lines : MessageTable → List ℕ → ℕ → List Line
+lieutenant_lines t traitors p = Text (lists_text t p) ∷ Decision p (on traitors p) (decision_of t p) ∷ []
 
 -- Returns `yes` or `no`.
 unfoldable pub yes_no : Bool → List ℕ
@@ -131,23 +128,25 @@ obedience_line (Disobeyed order) =
     ++ codes ", the order that the commander sent to all\n"
 
 -- Writes the lines that say whether the bound, IC1 and IC2 hold.
-unfoldable pub condition_lines : MessageTable → Conditions → List ℕ
-condition_lines t met = bound_line t met ++ alike_line met.alike ++ obedience_line met.obedience
+unfoldable pub conditions_text : MessageTable → Conditions → List ℕ
+conditions_text t met = bound_line t met ++ alike_line met.alike ++ obedience_line met.obedience
 
--- Writes the explanation of a table if these generals are named as traitors: the lines about each lieutenant,
--- ascending, and whether the bound, IC1 and IC2 hold.
-unfoldable pub explained : MessageTable → List ℕ → List ℕ
+-- Returns the explanation of a table if these generals are named as traitors: the lines about each lieutenant,
+-- ascending, and then as text whether the bound, IC1 and IC2 hold.
+unfoldable pub explained : MessageTable → List ℕ → List Line
 explained t traitors =
-    flat_map (lieutenant_lines t traitors) (lieutenants t.generals t.commander) ++ condition_lines t (judged t traitors)
+    flat_map (lieutenant_lines t traitors) (lieutenants t.generals t.commander)
+    ++ Text (conditions_text t (judged t traitors)) ∷ []
 
 -- Checks whether the general is one of the lieutenants.
 abbrev pub is_lieutenant : MessageTable → ℕ → Bool
 is_lieutenant t g = nat_lt g t.generals && not (g == t.commander)
 
--- Writes the lines about general `g` if he is a lieutenant, and otherwise nothing.
-abbrev pub part_of : MessageTable → List ℕ → ℕ → List ℕ
+-- Returns the lines about general `g` if he is a lieutenant, and otherwise no lines.
+abbrev pub part_of : MessageTable → List ℕ → ℕ → List Line
 part_of t traitors g = if is_lieutenant t g then lieutenant_lines t traitors g else []
 
--- Writes the explanation for general `g` only: the lines about him, and whether the bound, IC1 and IC2 hold.
-unfoldable pub explained_one : MessageTable → List ℕ → ℕ → List ℕ
-explained_one t traitors g = part_of t traitors g ++ condition_lines t (judged t traitors)
+-- Returns the explanation for general `g` only: the lines about him, and then as text whether the bound, IC1 and IC2
+-- hold.
+unfoldable pub explained_one : MessageTable → List ℕ → ℕ → List Line
+explained_one t traitors g = part_of t traitors g ++ Text (conditions_text t (judged t traitors)) ∷ []

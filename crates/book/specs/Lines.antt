@@ -1,16 +1,15 @@
 -- The lines that list the decisions of a table.
-use Rattle.std.specs.Prelude.{ℕ, List, ◌++◌, codes}
-use Rattle.std.specs.Fmt.{decimal}
-use Rattle.std.specs.List.{flat_map}
+use Rattle.std.specs.Prelude.{ℕ, false, List, map}
+use Rattle.answer_lines.specs.declared.line.Line.{Line}
+use Rattle.answer_lines.specs.declared.line.Line.TheVariants.{Decision}
 use Rattle.label.specs.Lieutenants.{lieutenants}
 use Rattle.book.specs.Decisions.{decision_of}
 use Rattle.book.specs.Table.{MessageTable}
 
--- Writes the line of a lieutenant and his decision.
-abbrev pub decision_line : ℕ → ℕ → List ℕ
-decision_line general order = codes "decision " ++ decimal general ++ codes " " ++ decimal order ++ codes "\n"
+-- Returns the line of a lieutenant and his decision. It names nobody as a traitor.
+abbrev pub decision_line : MessageTable → ℕ → Line
+decision_line table general = Decision general false (decision_of table general)
 
--- Writes a line for each lieutenant of the table, in ascending order.
-unfoldable pub decision_lines : MessageTable → List ℕ
-decision_lines table =
-    flat_map (λ general. decision_line general (decision_of table general)) (lieutenants table.generals table.commander)
+-- Returns a line for each lieutenant of the table, in ascending order.
+unfoldable pub decision_lines : MessageTable → List Line
+decision_lines table = map (decision_line table) (lieutenants table.generals table.commander)

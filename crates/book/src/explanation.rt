@@ -1,13 +1,16 @@
 //! Explains how the lieutenants of a message table decide, and whether the bound, IC1 and IC2 hold.
-ghost use Rattle.std.specs.Prelude.{◌≡◌, ◌≢◌, ◌<◌, ◌++◌, IfOk, OnOk, string_bytes};
+ghost use Rattle.std.specs.Prelude.{◌≡◌, ◌≢◌, ◌<◌, ◌∷◌, ◌++◌, [], IfOk, OnOk, string_bytes};
+ghost use Rattle.answer_lines.specs.declared.line.Line.TheVariants.{Text};
 ghost use Rattle.book.specs.Conditions.{judged};
-ghost use Rattle.book.specs.Explained.{alike_line, bound_line, condition_lines, decision_line, enough_part, enough_words, explained, explained_one};
-ghost use Rattle.book.specs.Explained.{few_part, few_words, is_lieutenant, lieutenant_lines, mark, obedience_line, part_of, yes_no};
+ghost use Rattle.book.specs.Decisions.{decision_of};
+ghost use Rattle.book.specs.Explained.{alike_line, bound_line, conditions_text, enough_part, enough_words, explained, explained_one};
+ghost use Rattle.book.specs.Explained.{few_part, few_words, is_lieutenant, lieutenant_lines, lists_text, obedience_line, part_of, yes_no};
 
 use crate::conditions::{Conditions, Obedience};
 use crate::judgement::{is_named, judge};
 use crate::lists::push_lists;
 use crate::message_source::Heard;
+use answer_lines::{Line, Passage};
 use label::Label;
 use std::alloc::{AllocError, Global};
 
@@ -18,10 +21,14 @@ use std::alloc::{AllocError, Global};
 /// # Errors
 ///
 /// `AllocError` if out of memory.
-pub fn explain<H: Heard>(alloc: Global, table: &H, traitors: &[u8]) -> Result<String, AllocError>
-    ensures { IfOk result (λ text. string_bytes text ≡ explained (H.seen table.now) traitors.now) }
+pub fn explain<H: Heard>(
+    alloc: Global,
+    table: &H,
+    traitors: &[u8],
+) -> Result<Vec<Line>, AllocError>
+    ensures { IfOk result (λ lines. lines.items ≡ explained (H.seen table.now) traitors.now) }
 {
-    let mut lines = String::new(alloc);
+    let mut lines = Vec::new(alloc);
     for general in 0..table.generals() {
         if general != table.commander() {
             push_lieutenant(alloc, &mut lines, table, traitors, general)?;
@@ -44,8 +51,8 @@ pub fn explain_one<H: Heard>(
     table: &H,
     traitors: &[u8],
     general: u8,
-) -> Result<String, AllocError>
-    ensures { IfOk result (λ text. string_bytes text ≡ explained_one (H.seen table.now) traitors.now general) }
+) -> Result<Vec<Line>, AllocError>
+    ensures { IfOk result (λ lines. lines.items ≡ explained_one (H.seen table.now) traitors.now general) }
 {
     let mut lines = part(alloc, table, traitors, general)?;
     let met = judge(table, traitors);
@@ -53,16 +60,16 @@ pub fn explain_one<H: Heard>(
     Ok(lines)
 }
 
-/// Returns the lines that explain how a general decides, or an empty text if he is not a lieutenant.
+/// Returns the lines that explain how a general decides, or no lines if he is not a lieutenant.
 fn part<H: Heard>(
     alloc: Global,
     table: &H,
     traitors: &[u8],
     general: u8,
-) -> Result<String, AllocError>
-    ensures { IfOk result (λ text. string_bytes text ≡ part_of (H.seen table.now) traitors.now general) }
+) -> Result<Vec<Line>, AllocError>
+    ensures { IfOk result (λ lines. lines.items ≡ part_of (H.seen table.now) traitors.now general) }
 {
-    let mut lines = String::new(alloc);
+    let mut lines = Vec::new(alloc);
     if !is_lieutenant(table, general) {
         return Ok(lines);
     }
@@ -77,69 +84,89 @@ fn is_lieutenant<H: Heard>(table: &H, general: u8) -> bool
     general < table.generals() && general != table.commander()
 }
 
-/// Appends the lines that explain how a lieutenant decides: his number, the list of orders that he combines at each
-/// label, and his decision.
+/// Appends the lines that explain how a lieutenant decides: as text his number and the list of orders that he combines
+/// at each label, and then his decision.
 fn push_lieutenant<H: Heard>(
     alloc: Global,
-    lines: &mut String,
+    lines: &mut Vec<Line>,
     table: &H,
     traitors: &[u8],
     general: u8,
 ) -> Result<(), AllocError>
     requires general { general < (H.seen table.now).generals }
     requires lieutenant { general ≢ (H.seen table.now).commander }
-    ensures { OnOk result (string_bytes lines.new ≡ string_bytes lines.old
+    ensures { OnOk result (lines.new.items ≡ lines.old.items
         ++ lieutenant_lines (H.seen table.now) traitors.now general) }
 {
-    write!(lines, "lieutenant {general}\n")?;
+    let (lists, order) = lists_text(alloc, table, general)?;
+    lines.push(Line::Text(Passage::new(lists)))?;
+    lines.push(Line::Decision {
+        general,
+        traitor: is_named(traitors, general),
+        order,
+    })?;
+    Ok(())
+}
+
+/// Returns the text about a lieutenant's lists: his number, and the list of orders that he combines at each label. Also
+/// returns his decision, which results from these lists.
+fn lists_text<H: Heard>(
+    alloc: Global,
+    table: &H,
+    general: u8,
+) -> Result<(String, u32), AllocError>
+    requires general { general < (H.seen table.now).generals }
+    requires lieutenant { general ≢ (H.seen table.now).commander }
+    ensures text { IfOk result (λ told. string_bytes told.0 ≡ lists_text (H.seen table.now) general) }
+    ensures decision { IfOk result (λ told. told.1 ≡ decision_of (H.seen table.now) general) }
+{
+    let mut text = String::new(alloc);
+    write!(text, "lieutenant {general}\n")?;
     let commander = table.commander();
     let label = Label::of(commander);
     let bound = table.bound();
-    let held = push_lists(alloc, lines, table, general, &label, "", commander, bound)?;
-    push_decision(
-        lines,
+    let held = push_lists(
+        alloc,
+        &mut text,
+        table,
         general,
-        is_named(traitors, general),
-        held.unwrap_or(0),
-    )
+        &label,
+        "",
+        commander,
+        bound,
+    )?;
+    Ok((text, held.unwrap_or(0)))
 }
 
-/// Appends the line of a lieutenant's decision, such as `decision 2 1` or `decision 2 traitor 1`.
-fn push_decision(
-    lines: &mut String,
-    general: u8,
-    is_named: bool,
-    order: u32,
-) -> Result<(), AllocError>
-    ensures { OnOk result (string_bytes lines.new ≡ string_bytes lines.old ++ decision_line general is_named order) }
-{
-    let mark = mark(is_named);
-    write!(lines, "decision {general}{mark}{order}\n")
-}
-
-/// Returns the text between a lieutenant's number and his order: ` traitor ` if he is named as a traitor, and otherwise
-/// a space.
-fn mark(named: bool) -> &'static str
-    ensures { result.now ≡ mark named }
-{
-    if named { " traitor " } else { " " }
-}
-
-/// Appends the lines that say whether the bound, IC1 and IC2 hold.
+/// Appends the text that says whether the bound, IC1 and IC2 hold.
 fn push_conditions<H: Heard>(
     alloc: Global,
-    lines: &mut String,
+    lines: &mut Vec<Line>,
     table: &H,
     met: &Conditions,
 ) -> Result<(), AllocError>
-    ensures { OnOk result (string_bytes lines.new ≡ string_bytes lines.old
-        ++ condition_lines (H.seen table.now) met.now) }
+    ensures { OnOk result (lines.new.items ≡ lines.old.items
+        ++ Text (conditions_text (H.seen table.now) met.now) ∷ []) }
 {
-    let bound = bound_line(alloc, table, met)?;
-    lines.push_str(bound.as_str())?;
-    lines.push_str(alike_line(met.alike))?;
+    let text = conditions_text(alloc, table, met)?;
+    lines.push(Line::Text(Passage::new(text)))?;
+    Ok(())
+}
+
+/// Returns the lines that say whether the bound, IC1 and IC2 hold, as text.
+#[tactic(auto, unfolding(crate::specs::Explained::conditions_text))]
+fn conditions_text<H: Heard>(
+    alloc: Global,
+    table: &H,
+    met: &Conditions,
+) -> Result<String, AllocError>
+    ensures { IfOk result (λ text. string_bytes text ≡ conditions_text (H.seen table.now) met.now) }
+{
+    let mut text = bound_line(alloc, table, met)?;
+    text.push_str(alike_line(met.alike))?;
     let obedience = obedience_line(alloc, met.obedience)?;
-    lines.push_str(obedience.as_str())
+    text.push_str(obedience.as_str())?;
+    Ok(text)
 }
 
 /// Returns the line that says whether the bound holds, and why.

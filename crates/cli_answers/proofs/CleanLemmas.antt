@@ -13,7 +13,7 @@ use Rattle.cli_answers.specs.declared.position.Held.{Held}
 use Rattle.cli_answers.specs.declared.shape.Within.{Within}
 use Rattle.cli_answers.specs.declared.shape.Within.TheVariants.{Nothing, Round, Letter}
 use Rattle.answer_lines.specs.declared.line.Line.{Line}
-use Rattle.answer_lines.specs.declared.line.Line.TheVariants.{Accepted, Run, Put, Word as BoardWord, Sound, Verdict}
+use Rattle.answer_lines.specs.declared.line.Line.TheVariants.{Accepted, Run, Put, Word as BoardWord, Sound, Decision, Verdict, Text}
 use Rattle.cli_answers.specs.Members.{members, of_two, perhaps}
 use Rattle.cli_answers.specs.Printing.{outcome_in, outcome_object}
 use Rattle.cli_answers.specs.Labels.{at_first, held_by, label_of, number_at, numbers, placed, with_label, with_number}
@@ -173,13 +173,16 @@ or_clean : (o : Option Members) (ms : Members) → HaveClean o → NoFloat ms �
 or_clean None ms a b = b
 or_clean (Some found) ms a b = a
 
+pub unshaped_clean : (line : List ℕ) → NoFloat (unshaped line)
+unshaped_clean line = put_clean (codes "text") (string (utf8_lossy line)) (called (codes "text")) refl refl
+
 -- Proves that no object of a line has a float.
 pub line_clean : (h : Held) (line : List ℕ) → members_have_float (line_object h line) ≡ false
 unfolding line_object
 line_clean h line =
     let words = pieces space line in
     or_clean (first_by (first_shaped h accesses words) (first_shaped h shapes words)) (unshaped line)
-    (by_clean (first_shaped h accesses words) (first_shaped h shapes words) (first_shaped_clean h accesses words) (first_shaped_clean h shapes words)) (put_clean (codes "text") (string (utf8_lossy line)) (called (codes "text")) refl refl)
+    (by_clean (first_shaped h accesses words) (first_shaped h shapes words) (first_shaped_clean h accesses words) (first_shaped_clean h shapes words)) (unshaped_clean line)
 
 -- Proves that no object of a line that is a value has a float.
 two_clean : (kind first : List ℕ) (m : ℕ) (second : List ℕ) (n : ℕ) → NoFloat (of_two kind first m second n)
@@ -204,11 +207,17 @@ members_clean (Verdict alike obeyed bound) =
     put_clean (codes "bound") (boolean bound) second refl
     (put_clean (codes "obeyed") (perhaps obeyed) first (perhaps_clean obeyed) (put_clean (codes "alike") (boolean alike) (called (codes "verdict")) refl refl))
 members_clean (BoardWord slot value) = two_clean (codes "word") (codes "slot") slot (codes "value") value
+members_clean (Decision general traitor order) =
+    let marked = put (codes "traitor") (boolean traitor) (called (codes "decision")) in
+    let named = with_number (codes "general") general marked in
+    within_clean (codes "decision") order named
+    (within_clean (codes "general") general marked (put_clean (codes "traitor") (boolean traitor) (called (codes "decision")) refl refl))
+members_clean (Text passage) = unshaped_clean (before feed passage)
 
 -- Proves that the object of the line that says how a task ended has no float.
-pub outcome_clean : (line : Option Line) (rest : List ℕ) → members_have_float (outcome_object line rest) ≡ false
-outcome_clean None rest = line_clean at_first (outcome_in rest)
-outcome_clean (Some line) rest = members_clean line
+pub outcome_clean : (line : Option Line) (front : List ℕ) → members_have_float (outcome_object line front) ≡ false
+outcome_clean None front = line_clean at_first (outcome_in front)
+outcome_clean (Some line) front = members_clean line
 
 -- Proves that no object that says why a task was not done has a float.
 text_clean : (name t : List ℕ) (ms : Members) → NoFloat ms → NoFloat (with_text name t ms)
@@ -242,9 +251,6 @@ fault_clean told lines =
     let by = option_and_then namer (slice_get lines 0) in
     sentence_clean (reported lines) (with_namer by classed)
     (namer_clean by classed (put_clean (codes "class") (string (codes "unreadable")) place refl (text_clean (codes "place") (behind_stop space told) what first)))
-
-unshaped_clean : (line : List ℕ) → NoFloat (unshaped line)
-unshaped_clean line = put_clean (codes "text") (string (utf8_lossy line)) (called (codes "text")) refl refl
 
 pub refusal_clean : (text : List ℕ) → members_have_float (refusal_object text) ≡ false
 unfolding refusal_object

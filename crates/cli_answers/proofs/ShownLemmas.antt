@@ -9,18 +9,18 @@ use Rattle.cli_tasks.specs.Serving.{Files, IsPrinted}
 use Rattle.cli_answers.specs.Printing.{answer_as, answer_by, is_shaped, judged}
 use Rattle.cli_answers.specs.Serving.{IsShown}
 
-as_it_is : (json verdicts : Bool) (name : List ℕ) (lines : List Line) (rest : List ℕ) → (json || verdicts) ≡ false → answer_by json verdicts name lines rest ≡ Some (text_of lines ++ rest)
-as_it_is false false name lines rest plain = refl
-as_it_is true verdicts name lines rest plain = absurd cc
-as_it_is false true name lines rest plain = absurd cc
+as_it_is : (json verdicts : Bool) (name front : List ℕ) (lines : List Line) → (json || verdicts) ≡ false → answer_by json verdicts name front lines ≡ Some (front ++ text_of lines)
+as_it_is false false name front lines plain = refl
+as_it_is true verdicts name front lines plain = absurd cc
+as_it_is false true name front lines plain = absurd cc
 
 pub shown_plainly : (request : TaskRequest) (files : Files) (old new : Option (List ℕ)) → is_shaped request ≡ false → IsPrinted request.task files old new → IsShown request files old new
-shown_plainly request files old new plain (text, (lines, (rest, answer, is)), appends) =
+shown_plainly request files old new plain (text, (front, (lines, answer, is)), appends) =
     (
-      lines,
+      front,
       (
-        rest,
+        lines,
         answer,
-        subst (λ (told : Option (List ℕ)). IfSome told (Appends old new)) (ap Some is ∙ sym (as_it_is request.json request.verdicts (judged request.task) lines rest plain)) appends,
+        subst (λ (told : Option (List ℕ)). IfSome told (Appends old new)) (ap Some is ∙ sym (as_it_is request.json request.verdicts (judged request.task) front lines plain)) appends,
       ),
     )

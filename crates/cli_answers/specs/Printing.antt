@@ -44,35 +44,39 @@ abbrev pub is_final : Line → Bool
 is_final (Verdict alike obeyed bound) = true
 is_final _ = false
 
--- Returns the line that says how a task ended, if it is a value: the first verdict or, if there is none, the first line.
-abbrev pub final : List Line → Option Line
-final lines = option_or (find is_final lines) (slice_get lines 0)
+-- Returns which line of an answer says how a task ended: the first verdict or, if there is none, the first line. Returns
+-- None if the answer begins with a text, which then has this line.
+abbrev pub final : List ℕ → List Line → Option Line
+final [] lines = option_or (find is_final lines) (slice_get lines 0)
+final (byte ∷ bytes) lines = None
 
--- Returns the text of the line that says how a task ended: `line` or, if that is None, the line found in `rest`.
+-- Returns the text of the line that says how a task ended. This is `line` or, if it is None, a line of `front`. A line
+-- that is a text of several lines counts by its first one.
 abbrev pub outcome : Option Line → List ℕ → List ℕ
-outcome None rest = outcome_in rest
-outcome (Some line) rest = line_text line
+outcome None front = outcome_in front
+outcome (Some line) front = before feed (line_text line)
 
--- Returns the object of the line that says how a task ended: `line` or, if that is None, the line found in `rest`.
+-- Returns the object of the line that says how a task ended. This is `line` or, if it is None, a line of `front`.
 abbrev pub outcome_object : Option Line → List ℕ → Members
-outcome_object None rest = line_object at_first (outcome_in rest)
-outcome_object (Some line) rest = members line
+outcome_object None front = line_object at_first (outcome_in front)
+outcome_object (Some line) front = members line
 
 -- Returns a line with its file's name before it, or None if it is not specified how the name is shown.
 abbrev pub named_line : List ℕ → List ℕ → Option (List ℕ)
 named_line name line = option_map (λ told. told ++ codes ": " ++ line ++ 10 ∷ []) (shown name)
 
--- Returns an answer as text, as JSON Lines, as one line, or as one line of JSON. The answer has these lines, followed by
--- the text `rest`.
-abbrev pub answer_by : Bool → Bool → List ℕ → List Line → List ℕ → Option (List ℕ)
-answer_by false false name lines rest = Some (text_of lines ++ rest)
-answer_by true false name lines rest = Some (json_answer lines rest)
-answer_by false true name lines rest = named_line name (outcome (final lines) rest)
-answer_by true true name lines rest = Some (object_line (with_file name (outcome_object (final lines) rest)))
+-- Returns an answer as text, as JSON Lines, as one line, or as one line of JSON. The answer is `front`, followed by
+-- `lines`.
+abbrev pub answer_by : Bool → Bool → List ℕ → List ℕ → List Line → Option (List ℕ)
+answer_by false false name front lines = Some (front ++ text_of lines)
+answer_by true false name front lines = Some (json_answer front lines)
+answer_by false true name front lines = named_line name (outcome (final front lines) front)
+answer_by true true name front lines =
+    Some (object_line (with_file name (outcome_object (final front lines) front)))
 
 -- Returns the text of an answer in the form that the request asks for.
-abbrev pub answer_as : TaskRequest → List Line → List ℕ → Option (List ℕ)
-answer_as request lines rest = answer_by request.json request.verdicts (judged request.task) lines rest
+abbrev pub answer_as : TaskRequest → List ℕ → List Line → Option (List ℕ)
+answer_as request front lines = answer_by request.json request.verdicts (judged request.task) front lines
 
 -- Returns the text that says why a task was not done: as it is, as a JSON object, as one line, or as a JSON object
 -- with the file's name.

@@ -13,8 +13,8 @@ use Rattle.cli_answers.specs.Printing.{answer_as, refusal_as}
 -- States that the task's answer on the files was appended to the output, in the requested form.
 abbrev pub IsShown : TaskRequest → Files → Option (List ℕ) → Option (List ℕ) → Type 0
 IsShown request files old new =
-    (lines : List Line) × ((rest : List ℕ) × IsLinedAnswer request.task files lines rest
-    × IfSome (answer_as request lines rest) (Appends old new))
+    (front : List ℕ) × ((lines : List Line) × IsLinedAnswer request.task files front lines
+    × IfSome (answer_as request front lines) (Appends old new))
 
 -- States that the output failed while these lines were written. Only a prefix of them was written, and an error
 -- message reports the failure.
@@ -33,8 +33,8 @@ IsRefusalShown quiet unwritten tells request old new text =
 -- States that the output failed while the task's answer was written in the requested form.
 abbrev pub IsAnswerUnwritten : Type 0 → (List ℕ → Type 0) → TaskRequest → Files → Option (List ℕ) → Option (List ℕ) → Type 0
 IsAnswerUnwritten unwritten tells request files old new =
-    (lines : List Line) × ((rest : List ℕ) × IsLinedAnswer request.task files lines rest
-    × IsUnwritten unwritten tells (answer_as request lines rest) old new)
+    (front : List ℕ) × ((lines : List Line) × IsLinedAnswer request.task files front lines
+    × IsUnwritten unwritten tells (answer_as request front lines) old new)
 
 -- States that the task has no answer, and that memory did not run out. If the text of the reason is specified, it is
 -- shown.

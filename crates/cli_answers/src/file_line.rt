@@ -12,7 +12,7 @@ use crate::objects::line_object;
 use crate::outcome::{final_line, outcome_in};
 use crate::position::Held;
 use crate::refusals::refusal_object;
-use answer_lines::Line;
+use cli_tasks::Answer;
 use serde_json::{Map, Value, put};
 use std::alloc::{AllocError, Global};
 
@@ -34,38 +34,34 @@ fn named(alloc: Global, file: &str, object: Map<String, Value>) -> Result<Vec<u8
     Ok(out)
 }
 
-/// Returns the object of the line that says how the task ended. This is `line` or, if that is `None`, the line found in
-/// the text `rest`.
+/// Returns the object of the line that says how the task ended.
 #[tactic(auto, using(crate::proofs::CleanLemmas::outcome_clean))]
-fn outcome_object(
-    alloc: Global,
-    line: Option<Line>,
-    rest: &[u8],
-) -> Result<Map<String, Value>, AllocError>
-    ensures object { IfOk result (λ object. members_view object.entries ≡ outcome_object line rest.now) }
+fn outcome_object(alloc: Global, answer: &Answer) -> Result<Map<String, Value>, AllocError>
+    ensures object { IfOk result (λ object. members_view object.entries
+        ≡ outcome_object (final answer.now.front.items answer.now.lines.items) answer.now.front.items) }
     ensures clean { IfOk result (λ object. members_have_float (members_view object.entries) ≡ false) }
 {
-    match line {
-        None => line_object(alloc, Held::at_first(), outcome_in(rest)),
+    match final_line(answer) {
+        None => line_object(
+            alloc,
+            Held::at_first(),
+            outcome_in(answer.front.as_slice()),
+        ),
         Some(line) => members(alloc, line),
     }
 }
 
 /// Returns one line of the answer on a file as a line of JSON: an object with the values of the line that says how the
-/// task ended, and the file's name. The answer has the lines `lines`, followed by the text `rest`.
+/// task ended, and the file's name.
 ///
 /// # Errors
 ///
 /// Fails with `AllocError` if there is not enough memory.
-pub fn answer_of(
-    alloc: Global,
-    file: &str,
-    lines: &[Line],
-    rest: &[u8],
-) -> Result<Vec<u8>, AllocError>
-    ensures { IfOk result (λ out. out.items ≡ object_line (with_file file.now (outcome_object (final lines.now) rest.now))) }
+pub fn answer_of(alloc: Global, file: &str, answer: &Answer) -> Result<Vec<u8>, AllocError>
+    ensures { IfOk result (λ out. out.items ≡ object_line (with_file file.now
+        (outcome_object (final answer.now.front.items answer.now.lines.items) answer.now.front.items))) }
 {
-    let object = outcome_object(alloc, final_line(lines), rest)?;
+    let object = outcome_object(alloc, answer)?;
     named(alloc, file, object)
 }
 

@@ -1,15 +1,18 @@
-//! Prints lines and texts as JSON Lines, with one object for each line.
+//! Prints an answer as JSON Lines, with one object for each line.
 ghost use Rattle.std.specs.Prelude.{◌≡◌, ◌++◌, false, IfOk, OnOk, map, string_bytes};
+ghost use Rattle.std.specs.List.{flat_map};
 ghost use Rattle.serde_json.specs.Data.{object};
 ghost use Rattle.serde_json.specs.View.{members_view};
 ghost use Rattle.serde_json.specs.Written.{members_have_float};
-ghost use Rattle.cli_answers.specs.Lines.{json_answer, json_text, object_line, object_lines};
-ghost use Rattle.cli_answers.specs.Members.{members};
+ghost use Rattle.text.specs.Parts.{lines_of};
+ghost use Rattle.cli_answers.specs.Lines.{json_answer, json_line, json_text, object_line, object_lines};
+ghost use Rattle.cli_answers.specs.Objects.{unshaped};
 
 use crate::members::members;
-use crate::objects::line_object;
+use crate::objects::{line_object, unshaped};
 use crate::position::Held;
 use answer_lines::Line;
+use cli_tasks::Answer;
 use serde_json::{Map, Value};
 use std::alloc::{AllocError, Global};
 use streams::{Escaped, Kept};
@@ -36,13 +39,38 @@ pub(crate) fn push_object(
     Ok(())
 }
 
-/// Appends an object for each line, as lines of JSON.
+/// Appends a text whose lines have no values as JSON Lines. The object of a line has the line as its member `text`.
+fn push_passage(alloc: Global, out: &mut Vec<u8>, passage: &[u8]) -> Result<(), AllocError>
+    ensures { OnOk result (out.new.items ≡ out.old.items ++ object_lines (map unshaped (lines_of passage.now))) }
+{
+    let mut rest = passage;
+    while let Some((first, behind)) = line(rest) {
+        let object = unshaped(alloc, first)?;
+        push_object(alloc, out, object)?;
+        rest = behind;
+    }
+    Ok(())
+}
+
+/// Appends the object of a line as a line of JSON, or for a text an object for each of its lines.
+fn push_line(alloc: Global, out: &mut Vec<u8>, line: &Line) -> Result<(), AllocError>
+    ensures { OnOk result (out.new.items ≡ out.old.items ++ json_line line.now) }
+{
+    match line {
+        Line::Text(passage) => push_passage(alloc, out, passage.as_str().as_bytes()),
+        _ => {
+            let object = members(alloc, line)?;
+            push_object(alloc, out, object)
+        }
+    }
+}
+
+/// Appends lines as JSON Lines.
 fn push_lines(alloc: Global, out: &mut Vec<u8>, lines: &[Line]) -> Result<(), AllocError>
-    ensures { OnOk result (out.new.items ≡ out.old.items ++ object_lines (map members lines.now)) }
+    ensures { OnOk result (out.new.items ≡ out.old.items ++ flat_map json_line lines.now) }
 {
     for line in lines {
-        let object = members(alloc, *line)?;
-        push_object(alloc, out, object)?;
+        push_line(alloc, out, line)?;
     }
     Ok(())
 }
@@ -64,16 +92,16 @@ fn push_text(alloc: Global, out: &mut Vec<u8>, text: &[u8]) -> Result<(), AllocE
     Ok(())
 }
 
-/// Returns lines, and the text after them, as JSON Lines, with an object for each line.
+/// Returns an answer as JSON Lines, with an object for each line.
 ///
 /// # Errors
 ///
 /// Fails with `AllocError` if there is not enough memory.
-pub fn answer(alloc: Global, lines: &[Line], rest: &[u8]) -> Result<Vec<u8>, AllocError>
-    ensures { IfOk result (λ out. out.items ≡ json_answer lines.now rest.now) }
+pub fn answer(alloc: Global, answer: &Answer) -> Result<Vec<u8>, AllocError>
+    ensures { IfOk result (λ out. out.items ≡ json_answer answer.now.front.items answer.now.lines.items) }
 {
     let mut out = Vec::new(alloc);
-    push_lines(alloc, &mut out, lines)?;
-    push_text(alloc, &mut out, rest)?;
+    push_text(alloc, &mut out, answer.front.as_slice())?;
+    push_lines(alloc, &mut out, answer.lines.as_slice())?;
     Ok(out)
 }

@@ -5,6 +5,7 @@ ghost use Rattle.text.specs.Stop.{feed};
 ghost use Rattle.cli_answers.specs.Printing.{final, is_final, is_verdict, judged, outcome_in};
 
 use answer_lines::Line;
+use cli_tasks::Answer;
 use cli_words::Task;
 use text::{Stop, cut, line};
 
@@ -49,25 +50,29 @@ fn verdict(text: &[u8]) -> Option<&[u8]>
 }
 
 /// Returns the first line that is a verdict, if there is one.
-fn verdict_line(lines: &[Line]) -> Option<Line>
-    ensures { result ≡ find is_final lines.now }
+fn verdict_line(lines: &[Line]) -> Option<&Line>
+    ensures { option_map (λ line. line.now) result ≡ find is_final lines.now }
 {
     for line in lines {
         if let Line::Verdict { .. } = line {
-            return Some(*line);
+            return Some(line);
         }
     }
     None
 }
 
-/// Returns the line that says how the task ended, if it is a value: the first verdict or, if there is none, the first
-/// line.
-pub(crate) fn final_line(lines: &[Line]) -> Option<Line>
-    ensures { result ≡ final lines.now }
+/// Returns which line of an answer says how the task ended: the first verdict or, if there is none, the first line.
+/// Returns `None` if the answer begins with a text, which then has this line.
+pub(crate) fn final_line(answer: &Answer) -> Option<&Line>
+    ensures { option_map (λ line. line.now) result ≡ final answer.now.front.items answer.now.lines.items }
 {
+    if !answer.front.is_empty() {
+        return None;
+    }
+    let lines = answer.lines.as_slice();
     match verdict_line(lines) {
         Some(line) => Some(line),
-        None => lines.first().copied(),
+        None => lines.first(),
     }
 }
 

@@ -1,11 +1,11 @@
 //! Lays out an answer, or the reason why a task was not done, in the requested form: as text, as JSON, or as one
 //! line.
-ghost use Rattle.std.specs.Prelude.{◌≡◌, ◌++◌, IfOk, IfSome};
-ghost use Rattle.answer_lines.specs.Text.{text_of};
+ghost use Rattle.std.specs.Prelude.{◌≡◌, IfOk, IfSome};
 ghost use Rattle.cli_answers.specs.Printing.{answer_as, final, named_line, outcome, refusal_as};
 
 use crate::outcome::{final_line, first_line, judged, outcome_in};
-use answer_lines::{Line, line_text, push_lines};
+use answer_lines::line_text;
+use cli_tasks::Answer;
 use cli_words::TaskRequest;
 use std::alloc::{AllocError, Global};
 use streams::FileName;
@@ -21,52 +21,38 @@ fn named_line(alloc: Global, name: &str, line: &[u8]) -> Result<Vec<u8>, AllocEr
     Ok(lines)
 }
 
-/// Returns the line that says how the task ended, with its file's name before it. The answer has the lines `lines`,
-/// followed by the text `rest`.
-fn named_outcome(
-    alloc: Global,
-    name: &str,
-    lines: &[Line],
-    rest: &[u8],
-) -> Result<Vec<u8>, AllocError>
+/// Returns the line that says how the task ended, with its file's name before it.
+fn named_outcome(alloc: Global, name: &str, answer: &Answer) -> Result<Vec<u8>, AllocError>
     ensures { IfOk result
-        (λ all. IfSome (named_line name.now (outcome (final lines.now) rest.now)) (λ known. all.items ≡ known)) }
+        (λ all. IfSome
+        (named_line name.now
+        (outcome (final answer.now.front.items answer.now.lines.items) answer.now.front.items))
+        (λ known. all.items ≡ known)) }
 {
-    match final_line(lines) {
-        None => named_line(alloc, name, outcome_in(rest)),
+    match final_line(answer) {
+        None => named_line(alloc, name, outcome_in(answer.front.as_slice())),
         Some(line) => {
             let text = line_text(alloc, line)?;
-            named_line(alloc, name, text.as_bytes())
+            named_line(alloc, name, first_line(text.as_bytes()))
         }
     }
 }
 
-/// Returns the text of the lines, followed by the text `rest`.
-fn whole_text(alloc: Global, lines: &[Line], rest: &[u8]) -> Result<Vec<u8>, AllocError>
-    ensures { IfOk result (λ all. all.items ≡ text_of lines.now ++ rest.now) }
-{
-    let mut text = Vec::new(alloc);
-    push_lines(alloc, &mut text, lines)?;
-    text.extend_from_slice(rest)?;
-    Ok(text)
-}
-
-/// Returns the text of an answer in the requested form. The answer has the lines `lines`, followed by the text `rest`.
-pub(crate) fn answer_lines(
+/// Returns the text of an answer in the requested form.
+pub(crate) fn answer_as(
     alloc: Global,
     request: &TaskRequest,
-    lines: &[Line],
-    rest: &[u8],
+    answer: Answer,
 ) -> Result<Vec<u8>, AllocError>
     ensures { IfOk result
-        (λ all. IfSome (answer_as request.now lines.now rest.now) (λ known. all.items ≡ known)) }
+        (λ all. IfSome (answer_as request.now answer.front.items answer.lines.items) (λ known. all.items ≡ known)) }
 {
     let name = judged(&request.task);
     match (request.json, request.verdicts) {
-        (false, false) => whole_text(alloc, lines, rest),
-        (true, false) => crate::json_lines::answer(alloc, lines, rest),
-        (false, true) => named_outcome(alloc, name, lines, rest),
-        (true, true) => crate::file_line::answer_of(alloc, name, lines, rest),
+        (false, false) => answer.into_bytes(alloc),
+        (true, false) => crate::json_lines::answer(alloc, &answer),
+        (false, true) => named_outcome(alloc, name, &answer),
+        (true, true) => crate::file_line::answer_of(alloc, name, &answer),
     }
 }
 

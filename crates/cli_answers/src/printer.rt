@@ -5,7 +5,7 @@ ghost use Rattle.cli_tasks.specs.Serving.{Tells};
 ghost use Rattle.cli_answers.specs.Printing.{answer_as};
 ghost use Rattle.cli_answers.specs.Serving.{IsRefusalShown, IsUnwritten};
 
-use crate::printed_lines::{answer_lines, refusal_lines};
+use crate::printed_lines::{answer_as, refusal_lines};
 use cli_tasks::Answer;
 use cli_words::TaskRequest;
 use std::alloc::Global;
@@ -29,28 +29,27 @@ fn unwritten<F: Output>(fault: &mut F) -> u8
     1
 }
 
-/// Prints an answer on `out` in the requested form. The answer has the lines `lines`, followed by the text `rest`.
-/// Returns the exit status: 0 if the answer was printed, 1 if the output failed, and 3 if memory ran out.
+/// Prints an answer on `out` in the requested form. Returns the exit status: 0 if the answer was printed, 1 if the output failed, and 3 if memory ran out.
 pub(crate) fn show_answer<O: Output, F: Output>(
     alloc: Global,
     request: &TaskRequest,
-    answer: &Answer,
+    answer: Answer,
     out: &mut O,
     fault: &mut F,
 ) -> u8
     ensures status { (result ≡ 0) ⊎ ((result ≡ 1) ⊎ (result ≡ 3)) }
     ensures done { result ≡ 0 →
-        IfSome (answer_as request.now answer.now.lines.items answer.now.rest.items) (Appends (O.contents out.old) (O.contents out.new)) }
+        IfSome (answer_as request.now answer.front.items answer.lines.items)
+        (Appends (O.contents out.old) (O.contents out.new)) }
     ensures quiet { result ≡ 0 → fault.new ≡ fault.old }
     ensures unwritten { result ≡ 1 →
         IsUnwritten (O.fails out.old) (Tells (F.fails fault.old) (F.contents fault.old) (F.contents fault.new))
-        (answer_as request.now answer.now.lines.items answer.now.rest.items) (O.contents out.old) (O.contents out.new) }
+        (answer_as request.now answer.front.items answer.lines.items) (O.contents out.old) (O.contents out.new) }
     ensures unprinted { result ≡ 3 → out.new ≡ out.old }
     ensures memory { result ≡ 3 →
         Tells (F.fails fault.old) (F.contents fault.old) (F.contents fault.new) (codes "out of memory") }
 {
-    let (lines, rest) = (answer.lines.as_slice(), answer.rest.as_slice());
-    let Ok(lines) = answer_lines(alloc, request, lines, rest) else {
+    let Ok(lines) = answer_as(alloc, request, answer) else {
         return lacking(fault);
     };
     match out.put(lines.as_slice()) {

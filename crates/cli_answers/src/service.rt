@@ -73,7 +73,7 @@ where
         return cli_tasks::serve(rt, alloc, task, first, second, out, fault);
     }
     match cli_tasks::answered(rt, alloc, task, first, second) {
-        Ok(answer) => show_answer(alloc, request, &answer, out, fault),
+        Ok(answer) => show_answer(alloc, request, answer, out, fault),
         Err(TaskFailure::Memory) => lacking(fault),
         Err(failure) => shown(alloc, request, failure, out, fault),
     }

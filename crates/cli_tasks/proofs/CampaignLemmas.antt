@@ -1,5 +1,5 @@
--- Lemmas about the texts that `play`, `muster` and `audit` print.
-use Rattle.std.proofs.Common.{ℕ, suc, ◌≡◌, ◌∙◌, ◌++◌, ◌∷◌, [], List, Option, None, Some, ap, append_assoc, append-nil, refl, subst, sym}
+-- Lemmas about what `play`, `muster` and `audit` print.
+use Rattle.std.proofs.Common.{ℕ, suc, ◌≡◌, ◌∙◌, ◌++◌, ◌∷◌, List, Option, Some, ap, subst}
 use Rattle.cli_words.specs.declared.tasks.Account.{Account}
 use Rattle.cli_words.specs.declared.tasks.Lieutenants.{Lieutenants}
 use Rattle.answer_lines.specs.declared.line.Line.{Line}
@@ -21,25 +21,23 @@ use Rattle.world.specs.Lists.{listed, names_in}
 use Rattle.world.specs.Replay.{replay_of}
 use Rattle.world.specs.World.{oral_kind}
 use Rattle.world.specs.Schedules.{lines_by}
-use Rattle.signed.specs.Explained.{signed_explained}
 use Rattle.signed.specs.Kind.{signed_kind}
 use Rattle.signed.specs.Promises.{AgreeUnderSignedBound, IsSignedVerdictOn}
 use Rattle.signed.proofs.Worlds.{signed_campaigns}
 use Rattle.trace.specs.SignedAudit.{IsSoundSignedText, signed_chronicle_told}
 use Rattle.trace.specs.SignedText.{signed_text}
-use Rattle.cli_tasks.specs.Campaigns.{IsAccount, IsBehind, IsFollowed, IsMustered, IsOralAudited, IsOralPlayed, IsSignedAudited, IsSignedPlayed, asked, signed_behind}
+use Rattle.cli_tasks.specs.Campaigns.{IsAccount, IsBehind, IsMustered, IsOralAudited, IsOralPlayed, IsSignedAudited, IsSignedPlayed, asked, blank, signed_behind}
 use Rattle.cli_tasks.specs.Promises.{IsCompleteRun}
 use Rattle.cli_tasks.specs.Schedules.{played, signed_played}
 
--- The text that `play` prints, from its parts: the chronicle or table, the explanation, and the facts about the run.
-pub is_played : (s : Scenario) (schedule : List (List Repeat)) (account : Account) (explained : Option Lieutenants) (chronicle : Chronicle) (front text : List ℕ) → chronicle ≡ played s schedule
+-- What `play` prints, from its parts: the chronicle or table, the explanation, and the facts about the run.
+pub is_played : (s : Scenario) (schedule : List (List Repeat)) (account : Account) (explained : Option Lieutenants) (chronicle : Chronicle) (front : List ℕ) (lines : List Line) → chronicle ≡ played s schedule
     → IsComplete oral_kind s (listed s (lines_by schedule)) → AreSafeThroughout oral_kind s (listed s (lines_by schedule)) → AreWhole oral_kind s chronicle.accesses chronicle.letters
     → AgreeUnderBound s chronicle.decisions → IsVerdictOn s chronicle.decisions chronicle.verdict → IsWellUnderBound chronicle.verdict
-    → IsAccount account chronicle front → IsFollowed explained chronicle front text → IsOralPlayed s schedule account explained text
-is_played s schedule account explained chronicle front text listed complete safe whole agree verdict well told followed = record {
-  front = front;
+    → IsAccount account chronicle front → IsBehind explained chronicle lines → IsOralPlayed s schedule account explained front lines
+is_played s schedule account explained chronicle front lines listed complete safe whole agree verdict well told behind = record {
   told = subst (λ (c : Chronicle). IsAccount account c front) listed told;
-  behind = subst (λ (c : Chronicle). IsFollowed explained c front text) listed followed;
+  behind = subst (λ (c : Chronicle). IsBehind explained c lines) listed behind;
   run = record { complete = complete; safe = safe; whole = subst (λ (c : Chronicle). AreWhole oral_kind s c.accesses c.letters) listed whole };
   agree = subst (λ (c : Chronicle). AgreeUnderBound s c.decisions) listed agree;
   verdict = subst (λ (c : Chronicle). IsVerdictOn s c.decisions c.verdict) listed verdict;
@@ -59,14 +57,15 @@ pub told_wholly : (s : Scenario) (bytes : List ℕ) (c : Chronicle) → IsScenar
 unfolding chronicle_told
 told_wholly s bytes c inside is = replayed_whole s (names_of bytes) c inside is
 
--- The text that `muster` prints, from its parts: the chronicle, the explanation, and the facts about the run.
-pub is_mustered : (s : Scenario) (explained : Option Lieutenants) (c : Chronicle) (front text : List ℕ) → front ≡ chronicle_text c → IsFollowed explained c front text
+-- What `muster` prints, from its parts: the chronicle, the explanation, and the facts about the run.
+pub is_mustered : (s : Scenario) (explained : Option Lieutenants) (c : Chronicle) (front : List ℕ) (lines : List Line) → front ≡ chronicle_text c → IsBehind explained c lines
     → c ≡ chronicle_of (replay_of s c.accesses) → IsComplete oral_kind s (replayed oral_kind s (names_in 1 c.accesses (suc s.bound)))
     → AreSafeThroughout oral_kind s (replayed oral_kind s (names_in 1 c.accesses (suc s.bound))) → AreWhole oral_kind s c.accesses c.letters
-    → AgreeUnderBound s c.decisions → IsVerdictOn s c.decisions c.verdict → IsWellUnderBound c.verdict → IsMustered s explained text
-is_mustered s explained c front text is behind replay complete safe whole agree verdict well = record {
+    → AgreeUnderBound s c.decisions → IsVerdictOn s c.decisions c.verdict → IsWellUnderBound c.verdict → IsMustered s explained front lines
+is_mustered s explained c front lines is behind replay complete safe whole agree verdict well = record {
   chronicle = c;
-  told = subst (λ (f : List ℕ). IsFollowed explained c f text) is behind;
+  told = is;
+  behind = behind;
   replay = replay;
   run = record { complete = complete; safe = safe; whole = whole };
   agree = agree;
@@ -98,60 +97,43 @@ signed_audited_run s bytes inside =
       whole = whole_letters signed_kind signed_campaigns s events inside complete;
     }
 
--- Returns the explanation of decisions that follows an empty text, without that text.
-pub behind_nothing : (explained : Option Lieutenants) (c : Chronicle) (text : List ℕ) → IsFollowed explained c [] text → IsBehind explained c text
-behind_nothing explained c text (behind, is, told) = subst (λ (b : List ℕ). IsBehind explained c b) (sym is) told
-
--- The answer of `audit` for an oral campaign, from its parts: the two lines and the explanation.
-pub is_audited : (s : Scenario) (explained : Option Lieutenants) (bytes : List ℕ) (c : Chronicle) (lines : List Line) (rest : List ℕ) → IsScenario s → IsSoundText s bytes → c ≡ chronicle_told s bytes
-    → lines ≡ sound_lines c.verdict → IsFollowed explained c [] rest → IsOralAudited s explained bytes lines rest
-is_audited s explained bytes c lines rest inside sound is told behind = record {
+-- What `audit` prints for an oral campaign, from its parts: the two lines and the explanation.
+pub is_audited : (s : Scenario) (explained : Option Lieutenants) (bytes : List ℕ) (c : Chronicle) (first why lines : List Line) → IsScenario s → IsSoundText s bytes → c ≡ chronicle_told s bytes
+    → first ≡ sound_lines c.verdict → IsBehind explained c why → lines ≡ first ++ why → IsOralAudited s explained bytes lines
+is_audited s explained bytes c first why lines inside sound is told behind joined = record {
   sound = sound;
   run = audited_run s bytes inside;
-  told = told ∙ ap (λ (x : Chronicle). sound_lines x.verdict) is;
-  behind = subst (λ (x : Chronicle). IsBehind explained x rest) is (behind_nothing explained c rest behind);
+  told = (
+    why,
+    joined ∙ ap (λ (ls : List Line). ls ++ why) (told ∙ ap (λ (x : Chronicle). sound_lines x.verdict) is),
+    subst (λ (x : Chronicle). IsBehind explained x why) is behind,
+  );
 }
 
--- If no explanation is asked for, the text is unchanged.
-pub alone : (c : Chronicle) (front : List ℕ) → IsFollowed None c front front
-alone c front = ([], sym (append-nil front), refl)
+-- An empty line and the explanation are what `IsBehind` states.
+pub is_behind : (who : Lieutenants) (c : Chronicle) (why lines : List Line) → Explains c (asked who) why → lines ≡ blank ∷ why → IsBehind (Some who) c lines
+is_behind who c why lines explains is = (why, is, explains)
 
--- If no explanation is asked for, the text of a signed campaign is unchanged.
-pub signed_alone : (c : Chronicle) (front : List ℕ) → front ≡ front ++ signed_behind None c
-signed_alone c front = sym (append-nil front)
-
-pub signed_followed : (who : Lieutenants) (c : Chronicle) (front lines text : List ℕ) → lines ≡ signed_explained c (asked who) → text ≡ front ++ 10 ∷ lines → text ≡ front ++ signed_behind (Some who) c
-signed_followed who c front lines text explains is = is ∙ ap (λ (xs : List ℕ). front ++ 10 ∷ xs) explains
-
--- A text that is followed by an empty line and the explanation is what `IsFollowed` states.
-pub followed : (who : Lieutenants) (c : Chronicle) (front lines text : List ℕ) → Explains c (asked who) lines → text ≡ front ++ 10 ∷ lines → IsFollowed (Some who) c front text
-followed who c front lines text explains is = (10 ∷ lines, is, (lines, refl, explains))
-
--- The text that `play` prints for a signed campaign, from its parts: the chronicle, the explanation, and the facts
--- about the run.
-pub is_signed_played : (s : Scenario) (schedule : List (List Repeat)) (explained : Option Lieutenants) (chronicle : Chronicle) (front text : List ℕ) → chronicle ≡ signed_played s schedule
+-- What `play` prints for a signed campaign, from its parts: the chronicle, the explanation, and the facts about the run.
+pub is_signed_played : (s : Scenario) (schedule : List (List Repeat)) (explained : Option Lieutenants) (chronicle : Chronicle) (front : List ℕ) (lines : List Line) → chronicle ≡ signed_played s schedule
     → IsComplete signed_kind s (listed s (lines_by schedule))
     → AreSafeThroughout signed_kind s (listed s (lines_by schedule)) → AreWhole signed_kind s chronicle.accesses chronicle.letters
     → AgreeUnderSignedBound s chronicle.decisions → IsSignedVerdictOn s chronicle.decisions chronicle.verdict → IsWellUnderBound chronicle.verdict
-    → front ≡ signed_text chronicle → text ≡ front ++ signed_behind explained chronicle → IsSignedPlayed s schedule explained text
-is_signed_played s schedule explained chronicle front text listed complete safe whole agree verdict well told behind = record {
-  told = behind ∙ (ap (λ (f : List ℕ). f ++ signed_behind explained chronicle) told ∙ ap (λ (c : Chronicle). signed_text c ++ signed_behind explained c) listed);
+    → front ≡ signed_text chronicle → lines ≡ signed_behind explained chronicle → IsSignedPlayed s schedule explained front lines
+is_signed_played s schedule explained chronicle front lines listed complete safe whole agree verdict well told behind = record {
+  told = told ∙ ap (λ (c : Chronicle). signed_text c) listed;
+  behind = behind ∙ ap (λ (c : Chronicle). signed_behind explained c) listed;
   run = record { complete = complete; safe = safe; whole = subst (λ (c : Chronicle). AreWhole signed_kind s c.accesses c.letters) listed whole };
   agree = subst (λ (c : Chronicle). AgreeUnderSignedBound s c.decisions) listed agree;
   verdict = subst (λ (c : Chronicle). IsSignedVerdictOn s c.decisions c.verdict) listed verdict;
   well = subst (λ (c : Chronicle). IsWellUnderBound c.verdict) listed well;
 }
 
--- The answer of `audit` for a signed campaign, from its parts: the two lines and the explanation.
-pub is_signed_audited : (s : Scenario) (explained : Option Lieutenants) (bytes : List ℕ) (c : Chronicle) (lines : List Line) (rest : List ℕ) → IsScenario s → IsSoundSignedText s bytes → c ≡ signed_chronicle_told s bytes
-    → lines ≡ sound_lines c.verdict → rest ≡ signed_behind explained c → IsSignedAudited s explained bytes lines rest
-is_signed_audited s explained bytes c lines rest inside sound is told behind = record {
+-- What `audit` prints for a signed campaign, from its parts: the two lines and the explanation.
+pub is_signed_audited : (s : Scenario) (explained : Option Lieutenants) (bytes : List ℕ) (c : Chronicle) (first why lines : List Line) → IsScenario s → IsSoundSignedText s bytes → c ≡ signed_chronicle_told s bytes
+    → first ≡ sound_lines c.verdict → why ≡ signed_behind explained c → lines ≡ first ++ why → IsSignedAudited s explained bytes lines
+is_signed_audited s explained bytes c first why lines inside sound is told behind joined = record {
   sound = sound;
   run = signed_audited_run s bytes inside;
-  told = told ∙ ap (λ (x : Chronicle). sound_lines x.verdict) is;
-  behind = behind ∙ ap (λ (x : Chronicle). signed_behind explained x) is;
+  told = joined ∙ (ap (λ (ls : List Line). ls ++ why) told ∙ (ap (λ (ls : List Line). sound_lines c.verdict ++ ls) behind ∙ ap (λ (x : Chronicle). sound_lines x.verdict ++ signed_behind explained x) is));
 }
-
--- Appending a line feed and then lines to a text gives the text, the line feed and the lines.
-pub behind_lines : (front lines text : List ℕ) → text ≡ (front ++ 10 ∷ []) ++ lines → text ≡ front ++ 10 ∷ lines
-behind_lines front lines text is = is ∙ append_assoc front (10 ∷ []) lines

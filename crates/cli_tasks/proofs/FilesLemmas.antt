@@ -28,7 +28,7 @@ second_told {R} bytes second own all schedule is are told =
 
 -- If the result is not the whole answer, the task needs it for its second file.
 goes_on : (task : Task) (first : List ℕ) (more : FirstAnswer) → ComesTo task first more → IsUnfinished more → GoesOn task first more
-goes_on task first (answer.Lines lines rest) comes unfinished = absurd unfinished
+goes_on task first (answer.Lines lines) comes unfinished = absurd unfinished
 goes_on task first (answer.Text text) comes unfinished = absurd unfinished
 goes_on task first (answer.Bytes bytes) comes unfinished = absurd unfinished
 goes_on task first (answer.Trial program told) comes unfinished = comes
@@ -41,9 +41,9 @@ goes_on task first (answer.Page c text) comes unfinished = comes
 goes_on task first (answer.PageRecorded c text) comes unfinished = comes
 goes_on task first (answer.Retrace s) comes unfinished = comes
 
--- The text of an answer, from its lines and the text after them.
-pub answer_there : (task : Task) (files : Files) (lines : List Line) (rest text : List ℕ) → IsLinedAnswer task files lines rest → text ≡ text_of lines ++ rest → IsAnswer task files text
-answer_there task files lines rest text is told = (lines, (rest, is, told))
+-- The text of an answer, from the text before its lines and the lines.
+pub answer_there : (task : Task) (files : Files) (front : List ℕ) (lines : List Line) (text : List ℕ) → IsLinedAnswer task files front lines → text ≡ front ++ text_of lines → IsAnswer task files text
+answer_there task files front lines text is told = (front, (lines, is, told))
 
 -- If the first file is accepted, what stops the task later prevents its answer.
 pub prevented_later : (task : Task) (files : Files) (unread second_unread : Type 0) (first name : List ℕ) (more : FirstAnswer) (fault : TaskFailure)

@@ -1,9 +1,10 @@
 -- Defines what `check`, `asm` and `dis` print about a program.
-use Rattle.std.specs.Prelude.{ℕ, ◌≡◌, ◌++◌, Bool, true, false, List, [], Option, None, Some, String, codes, length, map, string_bytes}
+use Rattle.std.specs.Prelude.{ℕ, ◌≡◌, ◌∷◌, ◌++◌, Bool, true, false, List, [], Option, None, Some, String, codes, length, map, string_bytes}
 use Rattle.std.specs.declared.alloc.Global.{Global}
 use Rattle.insn.specs.declared.insn.Insn.{Insn}
 use Rattle.insn.specs.Program.{slots_of}
 use Rattle.answer_lines.specs.declared.line.Line.{Line}
+use Rattle.answer_lines.specs.declared.line.Line.TheVariants.{Text}
 use Rattle.semantics.specs.Relay.{oral}
 use Rattle.semantics.specs.Run.{IsSound}
 use Rattle.codec.specs.Spelling.{program_bytes}
@@ -39,13 +40,14 @@ steps_behind false program s = []
 steps_behind true program s = codes "\n" ++ trace_on s.board program (context_in s) (oral s.shape)
 
 -- States that the file contains a program, and that `lines` are the lines of the program's run in the bench setting
--- (general 3 of 4 in the first round). `rest` has the steps if `traced` is set, and then the explanation if `explained`
--- is set.
-abbrev pub IsChecked : Notation → Bool → Bool → List ℕ → List Line → List ℕ → Type 0
-IsChecked notation explained traced bytes lines rest =
+-- (general 3 of 4 in the first round) and a text after them. The text has the steps if `traced` is set, and then the
+-- explanation if `explained` is set.
+abbrev pub IsChecked : Notation → Bool → Bool → List ℕ → List Line → Type 0
+IsChecked notation explained traced bytes lines =
     (program : List Insn) × HasProgram notation bytes program
-    × ((checked : Checked) × IsRun program checked × (lines ≡ checked_lines checked)
-    × IsBehind (if_asked explained notation) bytes program (steps_behind traced program bench) rest)
+    × ((checked : Checked) × IsRun program checked
+    × ((text : List ℕ) × IsBehind (if_asked explained notation) bytes program (steps_behind traced program bench) text
+    × (lines ≡ checked_lines checked ++ Text text ∷ [])))
 
 -- States that `text` is `told`, the text about a program that was tried in this setting, with notes after it. If an
 -- explanation is asked for, there is a note for each call that should set orders in the outbox but sets none. It names
@@ -56,18 +58,23 @@ AreSlipsBehind (Some notation) bytes program s told text =
     (places : List (String Global)) × ArePlaces notation bytes (map string_bytes places)
     × (text ≡ told ++ slips_on places s.board program (context_in s) (oral s.shape))
 
--- States that `lines` are the lines of the program's trial in this setting. `rest` has the steps if `traced` is set. If
+-- States that `text` is what follows the lines of the program's trial in this setting: the steps if `traced` is set. If
 -- an explanation is asked for, it follows, with a note for each call that should set orders in the outbox but sets none.
-abbrev pub IsTriedIn : Setting → Bool → Option Notation → List ℕ → List Insn → List Line → List ℕ → Type 0
-IsTriedIn s traced asked bytes program lines rest =
-    IsTried program s lines
-    × ((told : List ℕ) × IsBehind asked bytes program (steps_behind traced program s) told
-    × AreSlipsBehind asked bytes program s told rest)
+abbrev pub IsTextOfTrial : Setting → Bool → Option Notation → List ℕ → List Insn → List ℕ → Type 0
+IsTextOfTrial s traced asked bytes program text =
+    (told : List ℕ) × IsBehind asked bytes program (steps_behind traced program s) told
+    × AreSlipsBehind asked bytes program s told text
 
--- States that `lines` and `rest` describe the program's trial in the setting that the second file describes.
-abbrev pub IsTriedBy : Bool → Option Notation → List ℕ → List ℕ → List Insn → List Line → List ℕ → Type 0
-IsTriedBy traced asked first second program lines rest =
-    (s : Setting) × TellsSetting second s × IsTriedIn s traced asked first program lines rest
+-- States that `lines` are the lines of the program's trial in this setting and a text after them.
+abbrev pub IsTriedIn : Setting → Bool → Option Notation → List ℕ → List Insn → List Line → Type 0
+IsTriedIn s traced asked bytes program lines =
+    (first : List Line) × IsTried program s first
+    × ((text : List ℕ) × IsTextOfTrial s traced asked bytes program text × (lines ≡ first ++ Text text ∷ []))
+
+-- States that `lines` describe the program's trial in the setting that the second file describes.
+abbrev pub IsTriedBy : Bool → Option Notation → List ℕ → List ℕ → List Insn → List Line → Type 0
+IsTriedBy traced asked first second program lines =
+    (s : Setting) × TellsSetting second s × IsTriedIn s traced asked first program lines
 
 -- States that the text assembles to a program with this bytecode.
 abbrev pub AssemblesRaw : List ℕ → List ℕ → Type 0

@@ -73,15 +73,15 @@ AreSecondBytes (Some known) bytes = AreBytes known bytes
 abbrev pub IsScheduleOf : Option (Option (List ℕ)) → List (List Repeat) → Type 0
 IsScheduleOf known schedule = (second : Option (List ℕ)) × AreSecond known second × IsSchedule second schedule
 
--- States that `text` is what `play` prints about the campaign when it is played by the schedule in the second file.
-abbrev pub IsPlayedBy : Option (Option (List ℕ)) → Campaign → Account → Option Lieutenants → List ℕ → Type 0
-IsPlayedBy known c account explained text =
-    (schedule : List (List Repeat)) × IsScheduleOf known schedule × IsPlayed c schedule account explained text
+-- States that `front`, followed by `lines`, is what `play` prints about the campaign when it is played by the schedule in
+-- the second file.
+abbrev pub IsPlayedBy : Option (Option (List ℕ)) → Campaign → Account → Option Lieutenants → List ℕ → List Line → Type 0
+IsPlayedBy known c account explained front lines =
+    (schedule : List (List Repeat)) × IsScheduleOf known schedule × IsPlayed c schedule account explained front lines
 
--- States that `lines` and `rest` are what `audit` prints about the second file as a chronicle of the campaign.
-abbrev pub IsAuditOf : Option (Option (List ℕ)) → Campaign → Option Lieutenants → List Line → List ℕ → Type 0
-IsAuditOf known c explained lines rest =
-    (bytes : List ℕ) × AreSecondBytes known bytes × IsAudited c explained bytes lines rest
+-- States that `lines` are what `audit` prints about the second file as a chronicle of the campaign.
+abbrev pub IsAuditOf : Option (Option (List ℕ)) → Campaign → Option Lieutenants → List Line → Type 0
+IsAuditOf known c explained lines = (bytes : List ℕ) × AreSecondBytes known bytes × IsAudited c explained bytes lines
 
 -- States that the picture shows the campaign when it is played by the schedule in the second file.
 abbrev pub IsDrawnBy : Option (Option (List ℕ)) → Campaign → List ℕ → Type 0
@@ -107,18 +107,16 @@ IsPagedAs known c text page = (bytes : List ℕ) × AreSecondBytes known bytes �
 abbrev pub IsRetracedBy : Option (Option (List ℕ)) → Scenario → List ℕ → Type 0
 IsRetracedBy known s lines = (bytes : List ℕ) × AreSecondBytes known bytes × IsScheduleFor s bytes lines
 
--- States that `lines` and `rest` describe the program's trial in the setting that the second file describes.
-abbrev pub IsTrialOf : Option (Option (List ℕ)) → Bool → Option Notation → List ℕ → List Insn → List Line → List ℕ → Type 0
-IsTrialOf known traced asked first program lines rest =
-    (bytes : List ℕ) × AreSecondBytes known bytes × IsTriedBy traced asked first bytes program lines rest
+-- States that `lines` describe the program's trial in the setting that the second file describes.
+abbrev pub IsTrialOf : Option (Option (List ℕ)) → Bool → Option Notation → List ℕ → List Insn → List Line → Type 0
+IsTrialOf known traced asked first program lines =
+    (bytes : List ℕ) × AreSecondBytes known bytes × IsTriedBy traced asked first bytes program lines
 
 -- States that `text` is what a task prints whose result on its first file is `more`. `known` are the bytes of its
--- second file. The task must not try a program.
+-- second file. The answer of the task must have no lines that are values.
 abbrev pub IsTextAfter : Option (Option (List ℕ)) → FirstAnswer → List ℕ → Type 0
 IsTextAfter known (answer.Text all) text = text ≡ string_bytes all
 IsTextAfter known (answer.Bytes all) text = text ≡ all.items
-IsTextAfter known (answer.Play c account explained) text = IsPlayedBy known c account explained text
-IsTextAfter known (answer.Muster s explained) text = IsMustered s explained text
 IsTextAfter known (answer.Draw c) text = IsDrawnBy known c text
 IsTextAfter known (answer.DrawRecorded c) text = IsDrawnAs known c text
 IsTextAfter known (answer.Page c scenario) text = IsPagedBy known c (string_bytes scenario) text
@@ -126,25 +124,28 @@ IsTextAfter known (answer.PageRecorded c scenario) text = IsPagedAs known c (str
 IsTextAfter known (answer.Retrace s) text = IsRetracedBy known s text
 IsTextAfter known _ text = ⊥
 
--- States that `lines` and `rest` are the answer of a task whose result on its first file is `more`. `known` are the
--- bytes of its second file.
-abbrev pub EndsIn : Task → List ℕ → Option (Option (List ℕ)) → FirstAnswer → List Line → List ℕ → Type 0
-EndsIn task first known (answer.Lines all text) lines rest = (lines ≡ all.items) × (rest ≡ string_bytes text)
-EndsIn task first known (answer.Trial program told) lines rest =
-    IsTrialOf known told (explained_in task) first program lines rest
-EndsIn task first known (answer.Audit c explained) lines rest = IsAuditOf known c explained lines rest
-EndsIn task first known more lines rest = (lines ≡ []) × IsTextAfter known more rest
+-- States that `front`, followed by `lines`, is the answer of a task whose result on its first file is `more`. `known` are
+-- the bytes of its second file.
+abbrev pub EndsIn : Task → List ℕ → Option (Option (List ℕ)) → FirstAnswer → List ℕ → List Line → Type 0
+EndsIn task first known (answer.Lines all) front lines = (front ≡ []) × (lines ≡ all.items)
+EndsIn task first known (answer.Trial program told) front lines =
+    (front ≡ []) × IsTrialOf known told (explained_in task) first program lines
+EndsIn task first known (answer.Audit c explained) front lines = (front ≡ []) × IsAuditOf known c explained lines
+EndsIn task first known (answer.Play c account explained) front lines =
+    IsPlayedBy known c account explained front lines
+EndsIn task first known (answer.Muster s explained) front lines = IsMustered s explained front lines
+EndsIn task first known more front lines = IsTextAfter known more front × (lines ≡ [])
 
--- States that the answer of the task for these files has the lines `lines`, followed by the text `rest`.
-abbrev pub IsLinedAnswer : Task → Files → List Line → List ℕ → Type 0
-IsLinedAnswer task files lines rest =
+-- States that the answer of the task for these files is the text or the bytes `front`, followed by `lines`.
+abbrev pub IsLinedAnswer : Task → Files → List ℕ → List Line → Type 0
+IsLinedAnswer task files front lines =
     (first : List ℕ) × AreBytes files.first first
-    × ((more : FirstAnswer) × ComesTo task first more × EndsIn task first files.second more lines rest)
+    × ((more : FirstAnswer) × ComesTo task first more × EndsIn task first files.second more front lines)
 
 -- States that the task prints `text` for these files.
 abbrev pub IsAnswer : Task → Files → List ℕ → Type 0
 IsAnswer task files text =
-    (lines : List Line) × ((rest : List ℕ) × IsLinedAnswer task files lines rest × (text ≡ text_of lines ++ rest))
+    (front : List ℕ) × ((lines : List Line) × IsLinedAnswer task files front lines × (text ≡ front ++ text_of lines))
 
 -- States that the task has an answer for these files, and that `stands` holds of its text.
 abbrev pub HasAnswer : (List ℕ → Type 0) → Task → Files → Type 0

@@ -32,9 +32,6 @@ Prints (AssemblePartly file Hex target explained) first text = AssemblesPartly f
 Prints (AssemblePartly file Raw target explained) first text = AssemblesPartlyRaw first text
 Prints (Disassemble file notation units explained) first text = Disassembles notation units first text
 Prints (DisassemblePartly file notation explained) first text = DisassemblesPartly notation first text
-Prints (Book file) first text = DecidesTable first text
-Prints (ExplainDecisions file traitors) first text =
-    KnowsAll first traitors.items × ExplainsTable first traitors.items text
 Prints (Form n m c None) first text = IsFormOf (string_bytes n) (string_bytes m) (string_bytes c) text
 Prints (Form n m c (Some filling)) first text =
     KnowsLiar (string_bytes n) (string_bytes m) (string_bytes c) filling.liar
@@ -48,12 +45,13 @@ Prints (Tree file general traitors drawing depth folded) first text =
 Prints (Retrace scenario (Listed list)) first text = Arranges (string_bytes list) first text
 Prints _ first text = ⊥
 
--- States that `lines` and `rest` are the answer of the task on a first file with these bytes, and that it needs no
--- second file.
-abbrev pub PrintsLines : Task → List ℕ → List Line → List ℕ → Type 0
-PrintsLines (Check file notation None explained traced) first lines rest =
-    IsChecked notation explained traced first lines rest
-PrintsLines _ first lines rest = ⊥
+-- States that `lines` are the answer of the task for a first file with these bytes, and that it needs no second file.
+abbrev pub PrintsLines : Task → List ℕ → List Line → Type 0
+PrintsLines (Check file notation None explained traced) first lines = IsChecked notation explained traced first lines
+PrintsLines (Book file) first lines = DecidesTable first lines
+PrintsLines (ExplainDecisions file traitors) first lines =
+    KnowsAll first traitors.items × ExplainsTable first traitors.items lines
+PrintsLines _ first lines = ⊥
 
 -- States that the task accepts a first file with these bytes and needs the given result for its second file: a verified
 -- program, and whether its steps are printed, or a campaign.
@@ -78,14 +76,14 @@ GoesOn _ first _ = ⊥
 -- States that this is the task's result on a first file with these bytes: lines, a text or bytes to print, or a program
 -- or a campaign that it needs for the second file.
 abbrev pub ComesTo : Task → List ℕ → FirstAnswer → Type 0
-ComesTo task first (answer.Lines lines rest) = PrintsLines task first lines.items (string_bytes rest)
+ComesTo task first (answer.Lines lines) = PrintsLines task first lines.items
 ComesTo task first (answer.Text text) = Prints task first (string_bytes text)
 ComesTo task first (answer.Bytes bytes) = Prints task first bytes.items
 ComesTo task first more = GoesOn task first more
 
 -- States that the result on the first file is not yet the whole answer.
 abbrev pub IsUnfinished : FirstAnswer → Type 0
-IsUnfinished (answer.Lines lines rest) = ⊥
+IsUnfinished (answer.Lines lines) = ⊥
 IsUnfinished (answer.Text text) = ⊥
 IsUnfinished (answer.Bytes bytes) = ⊥
 IsUnfinished _ = Unit {0}

@@ -5,8 +5,7 @@ ghost use Rattle.cli_tasks.specs.Campaigns.{IsAudited, IsSignedAudited};
 ghost use Rattle.cli_tasks.specs.AuditLines.{sound_lines};
 ghost use Rattle.cli_tasks.specs.Refusals.{RefusesChronicle, RefusesText};
 
-use crate::chronicle::{with_decisions, with_signed_decisions};
-use crate::lined_answer::Answer;
+use crate::chronicle::{explained_decisions, explained_signed_decisions};
 use crate::refusal::InputRefusal;
 use crate::sound_chronicles::{sound_chronicle, sound_signed_chronicle};
 use answer_lines::Line;
@@ -28,9 +27,8 @@ pub fn audited(
     campaign: &Campaign,
     bytes: &[u8],
     explained: Option<Lieutenants>,
-) -> Result<Answer, InputRefusal>
-    ensures audited { IfOk result
-        (λ answer. IsAudited campaign.now explained bytes.now answer.lines.items answer.rest.items) }
+) -> Result<Vec<Line>, InputRefusal>
+    ensures audited { IfOk result (λ lines. IsAudited campaign.now explained bytes.now lines.items) }
     ensures refused { IfErr result (RefusesText (RefusesChronicle campaign.now) bytes.now) }
 {
     match campaign {
@@ -46,16 +44,16 @@ fn oral_audited(
     scenario: &Scenario,
     bytes: &[u8],
     explained: Option<Lieutenants>,
-) -> Result<Answer, InputRefusal>
-    ensures audited { IfOk result
-        (λ answer. IsAudited (Oral scenario.now) explained bytes.now answer.lines.items answer.rest.items) }
+) -> Result<Vec<Line>, InputRefusal>
+    ensures audited { IfOk result (λ lines. IsAudited (Oral scenario.now) explained bytes.now lines.items) }
     ensures refused { IfErr result (RefusesText (RefusesChronicle (Oral scenario.now)) bytes.now) }
 {
     scenario.recall();
     let chronicle = sound_chronicle(alloc, scenario, bytes)?;
-    let lines = sound_lines(alloc, chronicle.verdict())?;
-    let rest = with_decisions(alloc, Vec::new(alloc), &chronicle, explained)?;
-    Ok(Answer { lines, rest })
+    let mut lines = sound_lines(alloc, chronicle.verdict())?;
+    let mut why = explained_decisions(alloc, &chronicle, explained)?;
+    lines.append(&mut why)?;
+    Ok(lines)
 }
 
 /// Checks that the bytes are the text of a chronicle of a signed campaign, and returns the lines that `audit` prints.
@@ -65,16 +63,16 @@ fn signed_audited(
     scenario: &Scenario,
     bytes: &[u8],
     explained: Option<Lieutenants>,
-) -> Result<Answer, InputRefusal>
-    ensures audited { IfOk result
-        (λ answer. IsSignedAudited scenario.now explained bytes.now answer.lines.items answer.rest.items) }
+) -> Result<Vec<Line>, InputRefusal>
+    ensures audited { IfOk result (λ lines. IsSignedAudited scenario.now explained bytes.now lines.items) }
     ensures refused { IfErr result (RefusesText (RefusesChronicle (Signed scenario.now)) bytes.now) }
 {
     scenario.recall();
     let chronicle = sound_signed_chronicle(alloc, scenario, bytes)?;
-    let lines = sound_lines(alloc, chronicle.verdict())?;
-    let rest = with_signed_decisions(alloc, Vec::new(alloc), &chronicle, explained)?;
-    Ok(Answer { lines, rest })
+    let mut lines = sound_lines(alloc, chronicle.verdict())?;
+    let mut why = explained_signed_decisions(alloc, &chronicle, explained)?;
+    lines.append(&mut why)?;
+    Ok(lines)
 }
 
 /// Returns the two lines that `audit` prints about a sound chronicle: `sound`, and the verdict on the campaign.

@@ -1,11 +1,13 @@
-//! Plays a campaign by a schedule, and writes its chronicle or its message table. Appends the explanation of the
-//! decisions if one is asked for (subcommand `play`).
-ghost use Rattle.std.specs.Prelude.{◌≡◌, ◌++◌, ◌∷◌, IfOk};
+//! Plays a campaign by a schedule, and writes its chronicle or its message table. The explanation of the decisions
+//! follows if one is asked for (subcommand `play`).
+ghost use Rattle.std.specs.Prelude.{◌≡◌, ◌++◌, ◌∷◌, IfOk, string_bytes};
 ghost use Rattle.trace.specs.SignedText.{signed_text};
 ghost use Rattle.trace.specs.Text.{chronicle_text};
 ghost use Rattle.show_table.specs.Retold.{IsWhole};
-ghost use Rattle.cli_tasks.specs.Campaigns.{IsAccount, IsFollowed, IsOralPlayed, IsPlayed, IsSignedPlayed, asked, signed_behind};
+ghost use Rattle.cli_tasks.specs.Campaigns.{IsAccount, IsBehind, IsOralPlayed, IsPlayed, IsSignedPlayed, asked, blank, signed_behind};
 
+use crate::lined_answer::Answer;
+use answer_lines::{Line, Passage};
 use cli_words::{Account, Lieutenants};
 use round::Scenario;
 use scenario::Campaign;
@@ -17,7 +19,7 @@ use world::{Chronicle, Schedule, play};
 
 /// Plays the campaign by the schedule. Returns its chronicle or its message table, as `account` says; a signed campaign
 /// always gets its chronicle. If `explained` names lieutenants, the explanation of their decisions follows. The whole
-/// text is in memory, and takes some bytes for each word and access in it.
+/// answer is in memory, and takes some bytes for each word and access in it.
 ///
 /// # Errors
 ///
@@ -28,8 +30,9 @@ pub fn played(
     schedule: &Schedule,
     account: Account,
     explained: Option<Lieutenants>,
-) -> Result<Vec<u8>, AllocError>
-    ensures { IfOk result (λ text. IsPlayed campaign schedule.now account explained text.items) }
+) -> Result<Answer, AllocError>
+    ensures { IfOk result
+        (λ answer. IsPlayed campaign schedule.now account explained answer.front.items answer.lines.items) }
 {
     match campaign {
         Campaign::Oral(scenario) => oral_played(alloc, scenario, schedule, account, explained),
@@ -46,13 +49,15 @@ fn oral_played(
     schedule: &Schedule,
     account: Account,
     explained: Option<Lieutenants>,
-) -> Result<Vec<u8>, AllocError>
-    ensures { IfOk result (λ text. IsOralPlayed scenario schedule.now account explained text.items) }
+) -> Result<Answer, AllocError>
+    ensures { IfOk result
+        (λ answer. IsOralPlayed scenario schedule.now account explained answer.front.items answer.lines.items) }
 {
     scenario.recall();
     let chronicle = play(alloc, scenario, schedule)?;
     let front = account_text(alloc, &chronicle, account)?;
-    with_decisions(alloc, front, &chronicle, explained)
+    let lines = explained_decisions(alloc, &chronicle, explained)?;
+    Ok(Answer { front, lines })
 }
 
 /// Returns an oral campaign as text: its chronicle or its message table, as `account` says.
@@ -77,12 +82,14 @@ fn signed_played(
     scenario: Scenario,
     schedule: &Schedule,
     explained: Option<Lieutenants>,
-) -> Result<Vec<u8>, AllocError>
-    ensures { IfOk result (λ text. IsSignedPlayed scenario schedule.now explained text.items) }
+) -> Result<Answer, AllocError>
+    ensures { IfOk result
+        (λ answer. IsSignedPlayed scenario schedule.now explained answer.front.items answer.lines.items) }
 {
     let chronicle = play_signed(alloc, scenario, schedule)?;
     let front = signed_chronicle_text(alloc, &chronicle)?;
-    with_signed_decisions(alloc, front, &chronicle, explained)
+    let lines = explained_signed_decisions(alloc, &chronicle, explained)?;
+    Ok(Answer { front, lines })
 }
 
 /// Returns the text of an oral campaign's chronicle.
@@ -96,52 +103,61 @@ pub(crate) fn chronicle_text(alloc: Global, chronicle: &Chronicle) -> Result<Vec
     }
 }
 
-/// Appends a line feed and then `lines` to a text. After a text that ends with a line feed this makes an empty line.
-#[tactic(auto, using(crate::proofs::CampaignLemmas::behind_lines))]
-fn with_lines(front: Vec<u8>, lines: &str) -> Result<Vec<u8>, AllocError>
-    ensures { IfOk result (λ text. text.items ≡ front.items ++ 10 ∷ lines.now) }
+/// Returns an empty line, and then `lines`.
+fn after_blank(alloc: Global, lines: Vec<Line>) -> Result<Vec<Line>, AllocError>
+    ensures { IfOk result (λ all. all.items ≡ blank ∷ lines.items) }
 {
-    let mut text = front;
-    text.push(b'\n')?;
-    text.extend_from_slice(lines.as_bytes())?;
-    Ok(text)
+    let mut lines = lines;
+    let mut all = Vec::new(alloc);
+    all.push(Line::Text(Passage::new(String::from_str(alloc, "\n")?)))?;
+    all.append(&mut lines)?;
+    Ok(all)
 }
 
-/// Appends an empty line and the explanation of decisions in an oral campaign to its text. Returns the text unchanged
-/// if `explained` is `None`.
-#[tactic(auto, using(crate::proofs::CampaignLemmas::alone, crate::proofs::CampaignLemmas::followed))]
-pub(crate) fn with_decisions(
+/// Returns an empty line and the explanation of decisions in an oral campaign. Returns no lines if `explained` is
+/// `None`.
+#[tactic(auto, using(crate::proofs::CampaignLemmas::is_behind))]
+pub(crate) fn explained_decisions(
     alloc: Global,
-    front: Vec<u8>,
     chronicle: &Chronicle,
     explained: Option<Lieutenants>,
-) -> Result<Vec<u8>, AllocError>
+) -> Result<Vec<Line>, AllocError>
     requires { IsWhole chronicle.now }
-    ensures { IfOk result (λ text. IsFollowed explained chronicle.now front.items text.items) }
+    ensures { IfOk result (λ lines. IsBehind explained chronicle.now lines.items) }
 {
     let Some(who) = explained else {
-        return Ok(front);
+        return Ok(Vec::new(alloc));
     };
-    let lines = show_table::explained(alloc, chronicle, asked(who))?;
-    with_lines(front, lines.as_str())
+    let why = show_table::explained(alloc, chronicle, asked(who))?;
+    after_blank(alloc, why)
 }
 
-/// Appends an empty line and the explanation of decisions in a signed campaign to its text. Returns the text unchanged
-/// if `explained` is `None`.
-#[tactic(auto, using(crate::proofs::CampaignLemmas::signed_alone, crate::proofs::CampaignLemmas::signed_followed))]
-pub(crate) fn with_signed_decisions(
+/// Returns a text after an empty line.
+fn after_feed(alloc: Global, text: &str) -> Result<String, AllocError>
+    ensures { IfOk result (λ all. string_bytes all ≡ 10 ∷ text.now) }
+{
+    let mut all = String::from_str(alloc, "\n")?;
+    all.push_str(text)?;
+    Ok(all)
+}
+
+/// Returns an empty line and the explanation of decisions in a signed campaign, as one text. Returns no lines if
+/// `explained` is `None`.
+pub(crate) fn explained_signed_decisions(
     alloc: Global,
-    front: Vec<u8>,
     chronicle: &SignedChronicle,
     explained: Option<Lieutenants>,
-) -> Result<Vec<u8>, AllocError>
-    ensures { IfOk result (λ text. text.items ≡ front.items ++ signed_behind explained chronicle.now) }
+) -> Result<Vec<Line>, AllocError>
+    ensures { IfOk result (λ lines. lines.items ≡ signed_behind explained chronicle.now) }
 {
+    let mut lines = Vec::new(alloc);
     let Some(who) = explained else {
-        return Ok(front);
+        return Ok(lines);
     };
-    let lines = explain_signed(alloc, chronicle, asked(who))?;
-    with_lines(front, lines.as_str())
+    let why = explain_signed(alloc, chronicle, asked(who))?;
+    let text = after_feed(alloc, why.as_str())?;
+    lines.push(Line::Text(Passage::new(text)))?;
+    Ok(lines)
 }
 
 /// Returns the number of the lieutenant whose decision is explained, or `None` if the decisions of all lieutenants are.

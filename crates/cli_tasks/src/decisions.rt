@@ -1,5 +1,5 @@
 //! Computes and explains what the lieutenants of a message table decide (subcommand `book`).
-ghost use Rattle.std.specs.Prelude.{◌≡◌, IfOk, IfErr, Ok, OnOk, string_bytes};
+ghost use Rattle.std.specs.Prelude.{◌≡◌, IfOk, IfErr, Ok, OnOk};
 ghost use Rattle.book.specs.Grammar.{table_told};
 ghost use Rattle.book.specs.Answers.{DecidesTable, ExplainsTable};
 ghost use Rattle.cli_tasks.specs.TableRefusals.{RefusesNaming, RefusesTable};
@@ -7,16 +7,17 @@ ghost use Rattle.cli_tasks.specs.Strangers.{KnowsAll};
 
 use crate::refusal::InputRefusal;
 use crate::strangers::know_all;
+use answer_lines::Line;
 use book::{Table, explain, read_table};
 use std::alloc::Global;
 
-/// Computes what the lieutenants of a message table decide, and returns a text with their decisions.
+/// Computes what the lieutenants of a message table decide, and returns the lines of their decisions.
 ///
 /// # Errors
 ///
 /// Fails with `Table` for the first fault of the table, and with `Memory` if memory runs out.
-pub fn decided(alloc: Global, text: &str) -> Result<String, InputRefusal>
-    ensures decided { IfOk result (λ lines. DecidesTable text.now (string_bytes lines)) }
+pub fn decided(alloc: Global, text: &str) -> Result<Vec<Line>, InputRefusal>
+    ensures decided { IfOk result (λ lines. DecidesTable text.now lines.items) }
     ensures refused { IfErr result (RefusesTable text.now) }
 {
     Ok(book::decided(alloc, text)?)
@@ -30,9 +31,13 @@ pub fn decided(alloc: Global, text: &str) -> Result<String, InputRefusal>
 /// Fails with `Table` for the first fault of the table, with `Stranger` for the first of `traitors` who is not one of
 /// its generals, and with `Memory` if memory runs out.
 #[tactic(auto, using(crate::proofs::StrangerLemmas::table_explained))]
-pub fn explained(alloc: Global, text: &str, traitors: &[u8]) -> Result<String, InputRefusal>
+pub fn explained(
+    alloc: Global,
+    text: &str,
+    traitors: &[u8],
+) -> Result<Vec<Line>, InputRefusal>
     ensures known { OnOk result (KnowsAll text.now traitors.now) }
-    ensures explained { IfOk result (λ lines. ExplainsTable text.now traitors.now (string_bytes lines)) }
+    ensures explained { IfOk result (λ lines. ExplainsTable text.now traitors.now lines.items) }
     ensures refused { IfErr result (RefusesNaming traitors.now text.now) }
 {
     let table = table_in(alloc, text)?;

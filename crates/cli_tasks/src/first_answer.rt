@@ -10,8 +10,8 @@ use verify::Verified;
 /// for the second file.
 #[derive(Drop)]
 pub enum FirstAnswer {
-    /// The whole answer: lines, and the text after them.
-    Lines(Vec<Line>, String),
+    /// The whole answer, as lines.
+    Lines(Vec<Line>),
     /// The whole answer, as text.
     Text(String),
     /// The whole answer, as bytes that need not be text.

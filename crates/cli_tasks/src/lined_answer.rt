@@ -1,31 +1,42 @@
-//! Defines the answer of a task: its lines, and the text or bytes after them.
+//! Defines the answer of a task: a text or bytes, and the lines after them.
 ghost use Rattle.std.specs.Prelude.{◌≡◌, ◌++◌, [], IfOk};
 ghost use Rattle.answer_lines.specs.Text.{text_of};
 
 use answer_lines::{Line, push_lines};
 use std::alloc::{AllocError, Global};
 
-/// What a task prints.
+/// What a task prints: a text or bytes, and then lines.
 #[derive(Drop)]
 pub struct Answer {
-    /// The lines at its beginning that are values.
+    /// The text or the bytes before the lines, for example a chronicle or a picture.
+    pub front: Vec<u8>,
+    /// The lines.
     pub lines: Vec<Line>,
-    /// The text or bytes after these lines.
-    pub rest: Vec<u8>,
 }
 
 impl Answer {
     ghost use Rattle.std.specs.Prelude.{◌≡◌, ◌++◌, [], IfOk};
     ghost use Rattle.answer_lines.specs.Text.{text_of};
 
-    /// Returns the answer with these bytes, none of whose lines is a value.
-    pub(crate) fn plain(alloc: Global, rest: Vec<u8>) -> Answer
+    /// Returns the answer that is this text or these bytes, without lines.
+    pub(crate) fn whole(alloc: Global, front: Vec<u8>) -> Answer
+        ensures front { result.front ≡ front }
         ensures lines { result.lines.items ≡ [] }
-        ensures rest { result.rest ≡ rest }
     {
         Answer {
+            front,
             lines: Vec::new(alloc),
-            rest,
+        }
+    }
+
+    /// Returns the answer that has only these lines.
+    pub(crate) fn lined(alloc: Global, lines: Vec<Line>) -> Answer
+        ensures front { result.front.items ≡ [] }
+        ensures lines { result.lines ≡ lines }
+    {
+        Answer {
+            front: Vec::new(alloc),
+            lines,
         }
     }
 
@@ -33,17 +44,13 @@ impl Answer {
     ///
     /// # Errors
     ///
-    /// Fails with `AllocError` if there is not enough memory.
-    pub fn into_text(self, alloc: Global) -> Result<Vec<u8>, AllocError>
-        ensures { IfOk result (λ text. text.items ≡ text_of self.lines.items ++ self.rest.items) }
+    /// Fails with `AllocError` if memory runs out.
+    pub fn into_bytes(self, alloc: Global) -> Result<Vec<u8>, AllocError>
+        ensures { IfOk result (λ bytes. bytes.items ≡ self.front.items ++ text_of self.lines.items) }
     {
-        let Answer { lines, rest } = self;
-        if lines.is_empty() {
-            return Ok(rest);
-        }
-        let mut text = Vec::new(alloc);
-        push_lines(alloc, &mut text, lines.as_slice())?;
-        text.extend_from_slice(rest.as_slice())?;
-        Ok(text)
+        let Answer { front, lines } = self;
+        let mut bytes = front;
+        push_lines(alloc, &mut bytes, lines.as_slice())?;
+        Ok(bytes)
     }
 }

@@ -3,7 +3,8 @@ ghost use Rattle.std.specs.Prelude.{IfOk, IfErr};
 ghost use Rattle.cli_tasks.specs.Campaigns.{IsMustered};
 ghost use Rattle.cli_tasks.specs.CampaignRefusals.{RefusesMuster};
 
-use crate::chronicle::{chronicle_text, with_decisions};
+use crate::chronicle::{chronicle_text, explained_decisions};
+use crate::lined_answer::Answer;
 use crate::refusal::InputRefusal;
 use cli_words::Lieutenants;
 use round::Scenario;
@@ -12,7 +13,7 @@ use std::sync::Wait;
 use std::thread::Threads;
 use threads::{Open, muster};
 
-/// Runs an oral campaign with a thread for each general, and waits for the threads. Returns the text of its chronicle.
+/// Runs an oral campaign with a thread for each general, and waits for the threads. Returns its chronicle as text.
 /// If `explained` names lieutenants, the explanation of their decisions follows.
 ///
 /// # Errors
@@ -25,12 +26,14 @@ pub fn mustered<T: Threads + Wait + Sync>(
     alloc: Global,
     scenario: Scenario,
     explained: Option<Lieutenants>,
-) -> Result<Vec<u8>, InputRefusal>
-    ensures mustered { IfOk result (λ text. IsMustered scenario explained text.items) }
+) -> Result<Answer, InputRefusal>
+    ensures mustered { IfOk result
+        (λ answer. IsMustered scenario explained answer.front.items answer.lines.items) }
     ensures refused { IfErr result RefusesMuster }
 {
     scenario.recall();
     let chronicle = muster(rt, alloc, scenario, &Open)?;
-    let text = chronicle_text(alloc, &chronicle)?;
-    Ok(with_decisions(alloc, text, &chronicle, explained)?)
+    let front = chronicle_text(alloc, &chronicle)?;
+    let lines = explained_decisions(alloc, &chronicle, explained)?;
+    Ok(Answer { front, lines })
 }

@@ -27,6 +27,7 @@ use crate::refusal::InputRefusal;
 use crate::task_answer::answer;
 use crate::trials::tried_by;
 use crate::whys::{FileRole, is_explained, later};
+use answer_lines::Line;
 use cli_words::{Account, Lieutenants, Task};
 use scenario::Campaign;
 use std::alloc::Global;
@@ -119,12 +120,12 @@ where
     }
 }
 
-/// Returns the text of an answer, as bytes.
+/// Returns the bytes that are printed of an answer.
 fn printed<'a>(alloc: Global, answer: Answer) -> Result<Vec<u8>, TaskFailure<'a>>
-    ensures text { IfOk result (λ text. text.items ≡ text_of answer.lines.items ++ answer.rest.items) }
+    ensures text { IfOk result (λ text. text.items ≡ answer.front.items ++ text_of answer.lines.items) }
     ensures fault { IfErr result (λ fault. fault ≡ TaskFailure.Memory) }
 {
-    match answer.into_text(alloc) {
+    match answer.into_bytes(alloc) {
         Ok(text) => Ok(text),
         Err(_) => Err(TaskFailure::Memory),
     }
@@ -146,7 +147,7 @@ where
     T: Threads + Wait + Sync,
     R: Source,
     ensures answer { IfOk result
-        (λ answer. IsLinedAnswer task.entry.now (files R.bytes first second) answer.lines.items answer.rest.items) }
+        (λ answer. IsLinedAnswer task.entry.now (files R.bytes first second) answer.front.items answer.lines.items) }
     ensures fault { IfErr result
         (Prevents (R.fails first) (IsSomeAnd second R.fails) task.entry.now (files R.bytes first second)) }
 {
@@ -173,7 +174,7 @@ where
     T: Threads + Wait + Sync,
     R: Source,
     ensures answer { IfOk result
-        (λ answer. EndsIn task.now first.now (option_map R.bytes second) more answer.lines.items answer.rest.items) }
+        (λ answer. EndsIn task.now first.now (option_map R.bytes second) more answer.front.items answer.lines.items) }
     ensures fault { IfErr result
         (λ fault. IsUnfinished more
         × Stops (IsSomeAnd second R.fails)
@@ -181,64 +182,61 @@ where
 {
     let told = is_explained(task);
     match more {
-        FirstAnswer::Lines(lines, rest) => Ok(Answer {
-            lines,
-            rest: rest.into_bytes(),
-        }),
-        FirstAnswer::Text(text) => Ok(Answer::plain(alloc, text.into_bytes())),
-        FirstAnswer::Bytes(bytes) => Ok(Answer::plain(alloc, bytes)),
+        FirstAnswer::Lines(lines) => Ok(Answer::lined(alloc, lines)),
+        FirstAnswer::Text(text) => Ok(Answer::whole(alloc, text.into_bytes())),
+        FirstAnswer::Bytes(bytes) => Ok(Answer::whole(alloc, bytes)),
         FirstAnswer::Trial(program, traced) => {
-            trial_of(alloc, task, first, &program, traced, file, second)
+            let lines = trial_of(alloc, task, first, &program, traced, file, second)?;
+            Ok(Answer::lined(alloc, lines))
         }
         FirstAnswer::Play(campaign, account, explained) => {
-            let text = play_by(alloc, campaign, account, explained, told, file, second)?;
-            Ok(Answer::plain(alloc, text))
+            play_by(alloc, campaign, account, explained, told, file, second)
         }
         FirstAnswer::Muster(scenario, explained) => {
-            let text = mustered(rt, alloc, scenario, explained);
-            Ok(Answer::plain(alloc, mustered_text(alloc, text, told, file)?))
+            let answer = mustered(rt, alloc, scenario, explained);
+            Ok(mustered_answer(alloc, answer, told, file)?)
         }
         FirstAnswer::Audit(campaign, explained) => {
-            audit_of(alloc, &campaign, explained, told, file, second)
+            let lines = audit_of(alloc, &campaign, explained, told, file, second)?;
+            Ok(Answer::lined(alloc, lines))
         }
         FirstAnswer::Draw(campaign) => {
-            Ok(Answer::plain(alloc, draw_by(alloc, campaign, told, file, second)?))
+            Ok(Answer::whole(alloc, draw_by(alloc, campaign, told, file, second)?))
         }
         FirstAnswer::DrawRecorded(campaign) => {
-            Ok(Answer::plain(alloc, draw_record(alloc, &campaign, told, file, second)?))
+            Ok(Answer::whole(alloc, draw_record(alloc, &campaign, told, file, second)?))
         }
         FirstAnswer::Page(campaign, text) => {
-            Ok(Answer::plain(alloc, page_by(alloc, campaign, text, told, file, second)?))
+            Ok(Answer::whole(alloc, page_by(alloc, campaign, text, told, file, second)?))
         }
         FirstAnswer::PageRecorded(campaign, text) => {
-            Ok(Answer::plain(alloc, page_record(alloc, campaign, text, told, file, second)?))
+            Ok(Answer::whole(alloc, page_record(alloc, campaign, text, told, file, second)?))
         }
         FirstAnswer::Retrace(scenario) => {
-            Ok(Answer::plain(alloc, retrace_of(alloc, &scenario, told, file, second)?))
+            Ok(Answer::whole(alloc, retrace_of(alloc, &scenario, told, file, second)?))
         }
     }
 }
 
-/// Returns the text of a muster, or turns the reason why it failed into the failure of the task. The failure reports
+/// Returns the answer of a muster, or turns the reason why it failed into the failure of the task. The failure reports
 /// more about the reason if `explained` is set. `file` is the name of the task's second file.
-fn mustered_text<'a>(
+fn mustered_answer<'a>(
     alloc: Global,
-    text: Result<Vec<u8>, InputRefusal>,
+    answer: Result<Answer, InputRefusal>,
     explained: bool,
     file: &'a str,
-) -> Result<Vec<u8>, TaskFailure<'a>>
-    ensures { MatchResult text (λ own. result ≡ Ok own)
+) -> Result<Answer, TaskFailure<'a>>
+    ensures { MatchResult answer (λ own. result ≡ Ok own)
         (λ refusal. IsErrAnd result
         (IsToldIf explained refusal file.entry (TellsWhyOf refusal Nothing file.entry.now []))) }
 {
-    match text {
-        Ok(text) => Ok(text),
+    match answer {
+        Ok(answer) => Ok(answer),
         Err(unmustered) => Err(later(alloc, explained, FileRole::Nothing, unmustered, file, &[])),
     }
 }
 
-/// Tries a program in the setting that the second file describes. Returns the answer of the trial: its lines, and the
-/// text after them.
+/// Tries a program in the setting that the second file describes. Returns the lines of the answer.
 fn trial_of<'a, R: Source>(
     alloc: Global,
     task: &Task,
@@ -247,10 +245,10 @@ fn trial_of<'a, R: Source>(
     traced: bool,
     file: &'a str,
     second: Option<R>,
-) -> Result<Answer, TaskFailure<'a>>
+) -> Result<Vec<Line>, TaskFailure<'a>>
     ensures tried { IfOk result
-        (λ answer. IsTrialOf (option_map R.bytes second) traced
-        (explained_in task.now) first.now program.now answer.lines.items answer.rest.items) }
+        (λ lines. IsTrialOf (option_map R.bytes second) traced
+        (explained_in task.now) first.now program.now lines.items) }
     ensures fault { IfErr result
         (Stops (IsSomeAnd second R.fails)
         (IsToldLater (is_explained task.now) file.entry.now (option_map R.bytes second)
@@ -265,10 +263,7 @@ fn trial_of<'a, R: Source>(
         first,
         bytes.as_slice(),
     ) {
-        Ok((lines, rest)) => Ok(Answer {
-            lines,
-            rest: rest.into_bytes(),
-        }),
+        Ok(lines) => Ok(lines),
         Err(refusal) => Err(later(
             alloc,
             is_explained(task),
@@ -290,9 +285,10 @@ fn play_by<'a, R: Source>(
     reported: bool,
     file: &'a str,
     second: Option<R>,
-) -> Result<Vec<u8>, TaskFailure<'a>>
+) -> Result<Answer, TaskFailure<'a>>
     ensures played { IfOk result
-        (λ text. IsPlayedBy (option_map R.bytes second) campaign account explained text.items) }
+        (λ answer. IsPlayedBy (option_map R.bytes second) campaign account explained answer.front.items
+        answer.lines.items) }
     ensures fault { IfErr result
         (Stops (IsSomeAnd second R.fails)
         (IsToldLater reported file.entry.now (option_map R.bytes second)
@@ -300,7 +296,7 @@ fn play_by<'a, R: Source>(
 {
     let schedule = scheduled(alloc, reported, file, second)?;
     match played(alloc, campaign, &schedule, account, explained) {
-        Ok(text) => Ok(text),
+        Ok(answer) => Ok(answer),
         Err(_) => Err(TaskFailure::Memory),
     }
 }
@@ -347,9 +343,9 @@ fn audit_of<'a, R: Source>(
     reported: bool,
     file: &'a str,
     second: Option<R>,
-) -> Result<Answer, TaskFailure<'a>>
+) -> Result<Vec<Line>, TaskFailure<'a>>
     ensures audited { IfOk result
-        (λ answer. IsAuditOf (option_map R.bytes second) campaign.now explained answer.lines.items answer.rest.items) }
+        (λ lines. IsAuditOf (option_map R.bytes second) campaign.now explained lines.items) }
     ensures fault { IfErr result
         (Stops (IsSomeAnd second R.fails)
         (IsToldLater reported file.entry.now (option_map R.bytes second)
@@ -357,7 +353,7 @@ fn audit_of<'a, R: Source>(
 {
     let bytes = read_second(alloc, file, second)?;
     match audited(alloc, campaign, bytes.as_slice(), explained) {
-        Ok(answer) => Ok(answer),
+        Ok(lines) => Ok(lines),
         Err(refusal) => {
             Err(later(
                 alloc,

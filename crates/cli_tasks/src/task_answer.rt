@@ -1,4 +1,4 @@
-//! Computes the result of each subcommand on its first file: the text to print, or a program or a campaign that it
+//! Computes the result of each subcommand on its first file: what to print, or a program or a campaign that it
 //! needs for the second file.
 ghost use Rattle.std.specs.Prelude.{IfOk, IfErr, None};
 ghost use Rattle.cli_tasks.specs.TaskAnswers.{ComesTo};
@@ -42,10 +42,9 @@ pub fn answer(alloc: Global, task: &Task, bytes: &[u8]) -> Result<FirstAnswer, I
             explained,
             traced,
             ..
-        } => {
-            let (lines, rest) = checked_in(alloc, notation, *explained, *traced, bytes)?;
-            Ok(FirstAnswer::Lines(lines, rest))
-        }
+        } => Ok(FirstAnswer::Lines(checked_in(
+            alloc, notation, *explained, *traced, bytes,
+        )?)),
         Task::Check {
             notation,
             context: Some(_),
@@ -76,9 +75,9 @@ pub fn answer(alloc: Global, task: &Task, bytes: &[u8]) -> Result<FirstAnswer, I
         Task::DisassemblePartly { notation, .. } => {
             Ok(FirstAnswer::Text(disassembled_partly(alloc, notation, bytes)?))
         }
-        Task::Book(_) => Ok(FirstAnswer::Text(decided(alloc, as_text(bytes)?)?)),
+        Task::Book(_) => Ok(FirstAnswer::Lines(decided(alloc, as_text(bytes)?)?)),
         Task::ExplainDecisions { traitors, .. } => {
-            Ok(FirstAnswer::Text(explained(alloc, as_text(bytes)?, traitors.as_slice())?))
+            Ok(FirstAnswer::Lines(explained(alloc, as_text(bytes)?, traitors.as_slice())?))
         }
         Task::Form {
             generals,

@@ -15,6 +15,7 @@ use Rattle.html.proofs.PageLaws.{proved_pages_are_elements, proved_parts_are_con
 use Rattle.html.proofs.SectionLaws.{proved_sections_are_fitted}
 use Rattle.board.specs.Board.{Access}
 use Rattle.book.specs.Decisions.{decision_of}
+use Rattle.answer_lines.specs.Text.{text_of}
 use Rattle.book.specs.Explained.{explained_one}
 use Rattle.book.specs.Table.{MessageTable}
 use Rattle.show_diagram.specs.Foot.{alike_words, bound_words, obeyed_words}
@@ -134,8 +135,8 @@ diagram_filled t c = let drawn = proved_diagrams_are_elements t c in picture_fil
 
 why_content : (t : MessageTable) (traitors : List ℕ) (g : ℕ) → IsContent (why_part t traitors g)
 why_content t traitors g =
-    cond_both (nat_lt t.bound 4) (lines (explained_one t traitors g)) (paragraph (elsewhere_words g)) IsContent
-    (λ _. proved_parts_are_content.lines (explained_one t traitors g)) (λ _. proved_parts_are_content.paragraph (elsewhere_words g))
+    cond_both (nat_lt t.bound 4) (lines (text_of (explained_one t traitors g))) (paragraph (elsewhere_words g)) IsContent
+    (λ _. proved_parts_are_content.lines (text_of (explained_one t traitors g))) (λ _. proved_parts_are_content.paragraph (elsewhere_words g))
 
 node_content : (node : Node) (inside : List ℕ) → IsContent inside → IsContent (label_item node inside)
 node_content node inside c =

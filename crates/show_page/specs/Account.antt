@@ -4,6 +4,7 @@ use Rattle.std.specs.Fmt.{decimal}
 use Rattle.std.specs.List.{list_all, range_with_len}
 use Rattle.board.specs.Board.{Access}
 use Rattle.book.specs.Decisions.{decision_of}
+use Rattle.answer_lines.specs.Text.{text_of}
 use Rattle.book.specs.Explained.{explained_one}
 use Rattle.book.specs.Table.{MessageTable}
 use Rattle.show_diagram.specs.Foot.{alike_words, bound_words, obeyed_words}
@@ -205,7 +206,7 @@ elsewhere_words g =
     ++ codes "or byzlab audit of the chronicle prints them with --explain --of " ++ (decimal g ++ codes ".")
 
 abbrev pub why_part : MessageTable → List ℕ → ℕ → List ℕ
-why_part t traitors g = if nat_lt t.bound 4 then lines (explained_one t traitors g) else paragraph (elsewhere_words g)
+why_part t traitors g = if nat_lt t.bound 4 then lines (text_of (explained_one t traitors g)) else paragraph (elsewhere_words g)
 
 abbrev pub lieutenant_told : MessageTable → List ℕ → View → ℕ → List ℕ
 lieutenant_told t traitors view g =

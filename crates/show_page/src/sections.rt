@@ -13,6 +13,7 @@ use crate::room::{
     ROOM_FOR_LIEUTENANTS, ROOM_FOR_PROGRAMS, ROOM_FOR_SECTIONS, ROOM_FOR_UNITS, put_fitted, roomed,
     share, units_words,
 };
+use answer_lines::lines_text;
 use book::{Heard, decision, explain_one};
 use html::{Section, put_begun_lines, put_fold_end, put_fold_start, put_lines, put_paragraph};
 use insn::Program;
@@ -292,7 +293,8 @@ fn put_why<H: Heard>(
         let words = elsewhere_words(alloc, general)?;
         return put_paragraph(out, words.as_str());
     }
-    let why = explain_one(alloc, table, traitors, general)?;
+    let lines = explain_one(alloc, table, traitors, general)?;
+    let why = lines_text(alloc, lines.as_slice())?;
     put_lines(out, why.as_str())
 }
 

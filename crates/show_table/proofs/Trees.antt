@@ -1,11 +1,12 @@
 -- The explanation of a whole chronicle, by the trees of its lieutenants.
-use Rattle.std.proofs.Common.{ℕ, suc, ◌+◌, ◌-◌, ◌<◌, ◌≤◌, ◌≡◌, true, inl, inr, List, [], ◌∷◌, length, map, refl, sym, ap, subst, ◌∙◌, arith, Option, None, Some, Ok, Err, IfOk, Result, String, string_bytes}
+use Rattle.std.proofs.Common.{ℕ, suc, ◌+◌, ◌-◌, ◌<◌, ◌≤◌, ◌≡◌, true, inl, inr, List, [], ◌∷◌, length, map, refl, sym, ap, subst, ◌∙◌, arith, Option, None, Some, Ok, Err, IfOk, Result, Vec}
 use Rattle.std.specs.declared.alloc.AllocError.{AllocError}
 use Rattle.std.specs.declared.alloc.Global.{Global}
 use Rattle.std.specs.Prelude.{nat_lt, option_map, slice_get}
 use Rattle.std.proofs.lemmas.List.{length-map}
 use Rattle.std.proofs.lemmas.Option.{slice_get-map}
 use Rattle.std.proofs.lemmas.Bool.{cases_lt, cond-true, cond-false, lt-ltb, le-ltb}
+use Rattle.answer_lines.specs.declared.line.Line.{Line}
 use Rattle.combine.specs.declared.campaign_rule.Rule.{Rule}
 use Rattle.label.specs.Labels.{others}
 use Rattle.label.specs.Lieutenants.{lieutenants}
@@ -67,7 +68,7 @@ trees_filled s before h inside told =
     ∙ (ap (option_map F) there
     ∙ ap (λ (u : LieutenantTree). Some u) (sym (tree_is t s.generals s.bound s.commander (lieutenant_at s.commander i) (messages before) is.generals is.bound is.commander is.general is.filled))))
 
-asked_of : (text : List ℕ) (t : MessageTable) (traitors : List ℕ) (general : Option ℕ) (lines : List ℕ) → table_told text ≡ Ok t → lines ≡ explained_of t traitors general → ExplainsAsked text traitors general lines
+asked_of : (text : List ℕ) (t : MessageTable) (traitors : List ℕ) (general : Option ℕ) (lines : List Line) → table_told text ≡ Ok t → lines ≡ explained_of t traitors general → ExplainsAsked text traitors general lines
 asked_of text t traitors None lines read is = (t, read, is)
 asked_of text t traitors (Some g) lines read is = (t, read, is)
 
@@ -107,8 +108,8 @@ told_from c h s trees n m k by t inside es et en em ek eb told read =
 -- Proves what is explained for the table that the chronicle's text is parsed as.
 pub explains_or_error : (c : Chronicle) (s : Scenario) (t : MessageTable) (general : Option ℕ) (traitors named : List ℕ) → s ≡ c.scenario
     → table_told (table_of c) ≡ Ok t → named ≡ traitors → traitors ≡ traitors_of s
-    → (r : Result (String Global) AllocError) → IfOk r (λ lines. string_bytes lines ≡ explained_of t named general) → IfOk r (λ lines. Explains c general (string_bytes lines))
+    → (r : Result (Vec Line Global) AllocError) → IfOk r (λ lines. lines.items ≡ explained_of t named general) → IfOk r (λ lines. Explains c general lines.items)
 explains_or_error c s t general traitors named es read who is (Err e) said = tt
 explains_or_error c s t general traitors named es read who is (Ok lines) said =
-    asked_of (table_of c) t (traitors_of c.scenario) general (string_bytes lines) read
+    asked_of (table_of c) t (traitors_of c.scenario) general lines.items read
     (said ∙ ap (λ (ts : List ℕ). explained_of t ts general) (who ∙ (is ∙ ap traitors_of es)))

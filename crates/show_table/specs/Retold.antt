@@ -1,5 +1,6 @@
 -- The message table of a campaign, and the explanation of the campaign's decisions.
 use Rattle.std.specs.Prelude.{ℕ, suc, ◌≡◌, List, filter, length, Option, None, Some, Ok}
+use Rattle.answer_lines.specs.declared.line.Line.{Line}
 use Rattle.label.specs.Labels.{generals}
 use Rattle.book.specs.Decisions.{decisions_of}
 use Rattle.book.specs.Explained.{explained, explained_one}
@@ -40,18 +41,18 @@ pub record IsRetold (c : Chronicle) (text : List ℕ) : Type 0 where
 abbrev pub traitors_of : Scenario → List ℕ
 traitors_of s = filter (is_traitor s) (generals s.generals)
 
--- Writes the explanation that `book` writes for a message table: of all lieutenants' decisions (None), or only of the
+-- Returns the explanation that `book` makes for a message table: of all lieutenants' decisions (None), or only of the
 -- decision of general g. `traitors` are the generals named as traitors.
-abbrev pub explained_of : MessageTable → List ℕ → Option ℕ → List ℕ
+abbrev pub explained_of : MessageTable → List ℕ → Option ℕ → List Line
 explained_of t traitors None = explained t traitors
 explained_of t traitors (Some g) = explained_one t traitors g
 
--- States that the lines are the explanation that `book` writes for the table with this text.
-abbrev pub ExplainsAsked : List ℕ → List ℕ → Option ℕ → List ℕ → Type 0
+-- States that the lines are the explanation that `book` makes for the table with this text.
+abbrev pub ExplainsAsked : List ℕ → List ℕ → Option ℕ → List Line → Type 0
 ExplainsAsked text traitors None lines = ExplainsTable text traitors lines
 ExplainsAsked text traitors (Some g) lines = ExplainsOne text traitors g lines
 
--- States that the lines are the explanation that `book` writes for the campaign's message table, with the scenario's
+-- States that the lines are the explanation that `book` makes for the campaign's message table, with the scenario's
 -- traitors named.
-abbrev pub Explains : Chronicle → Option ℕ → List ℕ → Type 0
+abbrev pub Explains : Chronicle → Option ℕ → List Line → Type 0
 Explains c general lines = ExplainsAsked (table_of c) (traitors_of c.scenario) general lines

@@ -1,15 +1,16 @@
 //! Explains how the lieutenants of a campaign reach their decisions.
-ghost use Rattle.std.specs.Prelude.{◌≡◌, IfOk, string_bytes};
+ghost use Rattle.std.specs.Prelude.{◌≡◌, IfOk};
 ghost use Rattle.show_table.specs.Retold.{Explains, IsWhole, explained_of, traitors_of};
 
 use crate::letter_table::{hearing, told_table};
+use answer_lines::Line;
 use book::{TreeTable, explain, explain_one};
 use round::Scenario;
 use std::alloc::{AllocError, Global};
 use world::Chronicle;
 
 /// Returns an explanation of how the lieutenants of a campaign reach their decisions. If `general` is given, it
-/// explains only this lieutenant's decision. The text is the one that `book` writes for the campaign's message table,
+/// explains only this lieutenant's decision. The lines are those that `book` makes for the campaign's message table,
 /// with the scenario's traitors named.
 ///
 /// # Errors
@@ -19,9 +20,9 @@ pub fn explained(
     alloc: Global,
     chronicle: &Chronicle,
     general: Option<u8>,
-) -> Result<String, AllocError>
+) -> Result<Vec<Line>, AllocError>
     requires { IsWhole chronicle.now }
-    ensures { IfOk result (λ lines. Explains chronicle.now general (string_bytes lines)) }
+    ensures { IfOk result (λ lines. Explains chronicle.now general lines.items) }
 {
     let told = hearing(alloc, chronicle)?;
     let table = told_table(&told, chronicle);
@@ -29,15 +30,15 @@ pub fn explained(
     asked(alloc, &table, traitors.as_slice(), general)
 }
 
-/// Returns the explanation that `book` writes for a message table: of all lieutenants' decisions, or only of the
+/// Returns the explanation that `book` makes for a message table: of all lieutenants' decisions, or only of the
 /// decision of `general`. `traitors` are the generals named as traitors.
 fn asked(
     alloc: Global,
     table: &TreeTable<'_>,
     traitors: &[u8],
     general: Option<u8>,
-) -> Result<String, AllocError>
-    ensures { IfOk result (λ lines. string_bytes lines ≡ explained_of table.now traitors.now general) }
+) -> Result<Vec<Line>, AllocError>
+    ensures { IfOk result (λ lines. lines.items ≡ explained_of table.now traitors.now general) }
 {
     match general {
         None => explain(alloc, table, traitors),

@@ -8,7 +8,7 @@ use Rattle.label.specs.Labels.{generals}
 use Rattle.label.specs.Lieutenants.{lieutenants}
 use Rattle.book.specs.declared.conditions.Obedience.{Obedience}
 use Rattle.book.specs.declared.conditions.Obedience.TheVariants.{Traitor, Obeyed, Disobeyed}
-use Rattle.book.specs.Explained.{alike_line, dotted, few_words, head_line, mark, obedience_line, yes_no}
+use Rattle.book.specs.Explained.{alike_line, dotted, few_words, head_line, obedience_line, yes_no}
 use Rattle.round.specs.Scenario.{Scenario, is_traitor}
 use Rattle.world.specs.declared.verdict.Verdict.{Verdict}
 use Rattle.world.specs.Chronicle.{Chronicle}
@@ -38,6 +38,10 @@ abbrev pub choice_words : List ℕ → List ℕ
 choice_words [] = codes ": no order, so 0\n"
 choice_words (v ∷ []) = codes ": one order\n"
 choice_words (v ∷ w ∷ vs) = codes ": several orders, so 0\n"
+
+-- Returns the text between the lieutenant's number and his order: ` traitor ` if he is a traitor, and otherwise a space.
+abbrev pub mark : Bool → List ℕ
+mark traitor = if traitor then codes " traitor " else codes " "
 
 -- Returns the line of a lieutenant's decision. It says whether he is a traitor, on which order he decides, and whether
 -- he accepted no order, one or several.

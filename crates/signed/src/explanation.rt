@@ -4,10 +4,10 @@ ghost use Rattle.std.specs.Prelude.{◌≡◌, ◌<◌, ◌++◌, ◌∷◌, IfO
 ghost use Rattle.std.specs.Fmt.{decimal};
 ghost use Rattle.std.specs.List.{flat_map};
 ghost use Rattle.label.specs.Lieutenants.{lieutenants};
-ghost use Rattle.book.specs.Explained.{alike_line, dotted, few_words, mark, obedience_line, yes_no};
+ghost use Rattle.book.specs.Explained.{alike_line, dotted, few_words, obedience_line, yes_no};
 ghost use Rattle.signed.specs.Accepted.{decided};
 ghost use Rattle.signed.specs.Chains.{orders};
-ghost use Rattle.signed.specs.Explained.{acceptance_lines, acceptance_of, accepted_line, choice_line, choice_words, obedience_of, signed_explained, traitors_line, verdict_lines};
+ghost use Rattle.signed.specs.Explained.{acceptance_lines, acceptance_of, accepted_line, choice_line, choice_words, mark, obedience_of, signed_explained, traitors_line, verdict_lines};
 ghost use Rattle.signed.specs.Sending.{lent};
 
 use crate::acceptance::decided;

@@ -1,5 +1,4 @@
 use Rattle.std.proofs.Common.{◌≡◌, ◌∙◌, ◌∷◌, [], arith, sym, refl}
-use Rattle.std.specs.String.{string_bytes}
 use Rattle.book.specs.Explained.{lieutenant_lines}
 use Rattle.book.proofs.Gathering.{lines_yes, lines_no, off_first, on_first}
 use Rattle.book.proofs.TextLemmas.{explained_whole}
@@ -22,4 +21,4 @@ pub returns : goal.returns
 returns g c =
     let value = c.generals-general-end.ensures.value in
     let all : c.loop-general.general ≡ (g.H.Heard.seen c.args.table.now).generals = omega arith in
-    explained_whole (g.H.Heard.seen c.args.table.now) c.args.traitors.now c.loop-general.general c.judge.result (string_bytes c.loop-general.lines) (string_bytes c.push_conditions.new.lines) all c.loop-general.invariant c.judge.ensures c.in_ok-push_conditions.ensures
+    explained_whole (g.H.Heard.seen c.args.table.now) c.args.traitors.now c.loop-general.general c.judge.result c.loop-general.lines.items c.push_conditions.new.lines.items all c.loop-general.invariant c.judge.ensures c.in_ok-push_conditions.ensures

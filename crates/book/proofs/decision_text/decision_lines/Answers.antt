@@ -1,14 +1,14 @@
 use Rattle.std.proofs.Common.{◌≡◌, ◌==◌, ◌∙◌, [], ◌∷◌, ℕ, List, get_or, false, true, ap, arith, refl, sym, length}
 use Rattle.std.proofs.lemmas.Bool.{or_from, or_left, ne_eqb, eq-eqb}
-use Rattle.std.specs.List.{flat_map}
+use Rattle.answer_lines.specs.declared.line.Line.{Line}
 use Rattle.label.specs.Labels.{on}
 use Rattle.book.proofs.Steps.{others-more_no}
 use Rattle.book.specs.Decisions.{decision_of}
-use Rattle.book.proofs.Gathering.{lines_yes}
+use Rattle.book.proofs.Gathering.{map_no, map_yes}
 use Rattle.book.specs.Lines.{decision_line}
 use Rattle.book.proofs.LineLemmas.{lines_all, order_is, order_there, place_more, place_small}
-use Rattle.book.proofs.decision_text.decisions_text.Goals as goal
-use Rattle.book.proofs.decision_text.decisions_text.Goals.{then-general-commander+in_ok-push_decision, else-general-commander}
+use Rattle.book.proofs.decision_text.decision_lines.Goals as goal
+use Rattle.book.proofs.decision_text.decision_lines.Goals.{then-general-commander+in_ok-push, else-general-commander}
 
 -- A lieutenant is not on the list that consists of the commander.
 apart : (general commander known : ℕ) → known ≡ commander → (general ≡ known → ⊥) → on (commander ∷ []) general ≡ false
@@ -40,9 +40,9 @@ pub loop-general-preserved : goal.loop-general-preserved
 loop-general-preserved c =
     let table = c.args.table.now in
     let general = c.loop-general.general in
-    let line : ℕ → List ℕ = λ g. decision_line g (decision_of c.args.table.now g) in
+    let line : ℕ → Line = decision_line c.args.table.now in
     elim c.if-general-commander.branch [
-      | then-general-commander+in_ok-push_decision w ↦
+      | then-general-commander+in_ok-push w ↦
           let fresh : on (table.commander ∷ []) general ≡ false = apart c.loop-general.general c.args.table.now.commander c.commander.result c.commander.ensures.value w.if-general-commander.true in
           let order : get_or c.as_slice-orders.result.now c.loop-general.place 0 ≡ decision_of c.args.table.now c.loop-general.general =
           order_is c.args.table.now c.as_slice-orders.result.now c.loop-general.place c.loop-general.general (c.as_slice-orders.ensures.value ∙ c.decisions-decisions.ensures.values) c.loop-general.invariant.place
@@ -50,14 +50,14 @@ loop-general-preserved c =
           fresh
           in
           record {
-            lines = rw (w.lines-is, w.in_ok-push_decision.ensures, c.loop-general.invariant.lines, order) (sym (lines_yes line (table.commander ∷ []) general fresh));
+            lines = rw (w.lines-is, w.in_ok-push.ensures.items, c.loop-general.invariant.lines, order) (sym (map_yes line (table.commander ∷ []) general fresh));
             place = w.place-is ∙ place_more c.args.table.now.commander c.loop-general.general c.loop-general.place c.loop-general.invariant.place fresh;
           }
       | else-general-commander w ↦
           let there : on (table.commander ∷ []) general ≡ true =
           or_left (table.commander == general) false (eq-eqb _ _ (sym c.commander.ensures.value ∙ sym w.if-general-commander.false)) in
           record {
-            lines = rw (w.lines-is, c.loop-general.invariant.lines) (sym (ap (flat_map line) (others-more_no (table.commander ∷ []) general there)));
+            lines = rw (w.lines-is, c.loop-general.invariant.lines) (sym (map_no line (table.commander ∷ []) general there));
             place = w.place-is ∙ (c.loop-general.invariant.place ∙ sym (ap length (others-more_no (table.commander ∷ []) general there)));
           }
     ]
