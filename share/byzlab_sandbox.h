@@ -88,7 +88,10 @@ enum byzlab_number {
 #define BYZLAB_BOARD_HELPERS UINT64_C(0x3e)
 #define BYZLAB_ALL_HELPERS UINT64_C(0xffe)
 
-/* Why bytes are not accepted. It is written only at the statuses 1, 2 and 6. */
+/*
+ * Why bytes are not accepted (at the statuses 1 and 2), or which helper is not allowed and where it is called (at 6). At
+ * other statuses it is unchanged.
+ */
 struct byzlab_fault {
     uint32_t number;
     size_t unit;

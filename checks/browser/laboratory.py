@@ -14,6 +14,10 @@ from chromium import Tab
 
 TOP = os.path.dirname(os.path.dirname(os.path.dirname(os.path.realpath(__file__))))
 WIDTHS = ((360, 740), (1024, 768), (1920, 1080))
+# What can be touched is at least this wide and high, in pixels (WCAG 2.2, 2.5.8).
+LEAST_TARGET = 24
+# The links of a page into the laboratory.
+LINKS = r"\]\(http://127\.0\.0\.1:8000/(#[^)]*)\)"
 SCHEMES = ("light", "dark")
 LOOKS = ("overlaps", "strikes", "cuts", "breaks", "scrolls", "faint")
 KEYS = {"ArrowRight": 39, "ArrowLeft": 37, "ArrowDown": 40, " ": 32, "Tab": 9, "Enter": 13}
@@ -120,9 +124,18 @@ def served(port=0):
             server.kill()
 
 
-def chronicle_of(text):
-    done = subprocess.run([program(), "play", "-"], input=text, capture_output=True, text=True, check=True)
-    return Chronicle(done.stdout)
+def answer(*words, text=None):
+    """What the program answers to these words."""
+    return subprocess.run([program(), *words], input=text, capture_output=True, text=True, check=True).stdout
+
+
+def chronicle_of(text, *words):
+    return Chronicle(answer("play", *words, "-", text=text))
+
+
+def content_of(*names):
+    with open(os.path.join(TOP, *names), encoding="utf-8") as file:
+        return file.read()
 
 
 class Led(Tab):
@@ -159,8 +172,8 @@ class Led(Tab):
         self.ask(f"(() => {{ const field = document.querySelector({json.dumps(selector)}); field.value = {json.dumps(value)}; field.dispatchEvent(new Event('change', {{ bubbles: true }})); }})()")
         self.settle()
 
-    def type(self, text):
-        self.ask(f"(() => {{ const field = document.querySelector('#program'); field.value = {json.dumps(text)}; field.setSelectionRange(0, 0); field.dispatchEvent(new Event('input', {{ bubbles: true }})); }})()")
+    def type(self, text, selector="#program"):
+        self.ask(f"(() => {{ const field = document.querySelector({json.dumps(selector)}); field.value = {json.dumps(text)}; field.setSelectionRange(0, 0); field.dispatchEvent(new Event('input', {{ bubbles: true }})); }})()")
 
     def key(self, key):
         self.press(key, key if len(key) > 1 else "Space", KEYS[key], {" ": " ", "Enter": "\r"}.get(key, ""))
@@ -210,6 +223,7 @@ class Wrong:
                 tab.ask("scrollTo(0, 0)")  # (what scrolls below what stays in sight is no overlap)
                 self.looked += 1
                 self.add(*(f"{state}, {width} {scheme}: {line}" for line in sum(self.asked(tab, *LOOKS), [])))
+                self.add(*(f"{state}, {width}: {line}" for line in too_small(tab)))
                 if self.keep:
                     photograph(tab, os.path.join(self.keep, f"lab_{state.replace(' ', '_')}_{width}_{scheme}.png"), width)
         self.add(*(f"{state}: {line}" for line in unnamed(tab)))
@@ -224,6 +238,15 @@ def photograph(tab, path, width):
     picture = tab.call("Page.captureScreenshot", captureBeyondViewport=True, clip={"x": 0, "y": 0, "width": width, "height": min(height, 6000), "scale": 1})
     with open(path, "wb") as file:
         file.write(b64decode(picture["data"]))
+
+
+def too_small(tab):
+    """What can be touched and is too small for a finger. A message of the diagram is touched in a rectangle around its value."""
+    found = """[...document.querySelectorAll("button, select, input, textarea, summary, [role=button]")].filter((one) => one.checkVisibility()).map((one) => {
+        const box = (one.querySelector(".touched") ?? one.closest("label.check") ?? one).getBoundingClientRect();
+        return [one.getAttribute("aria-label") || one.id || one.textContent, box.width, box.height];
+    })"""
+    return [f"{name[:60]} is {width:.0f} by {height:.0f}" for name, width, height in tab.ask(found) if min(width, height) < LEAST_TARGET - 0.5]
 
 
 def unnamed(tab):
@@ -268,6 +291,7 @@ def story(browser, address, name, text, wrong, place):
         decided(tab, name, chronicle, wrong)
         why(tab, name, chronicle, wrong)
         wrong.look(tab, name)
+        at_all_widths(tab, name, chronicle, wrong)
         predicted(tab, name, chronicle, wrong)
         tab.click("#share")
         tab.until("document.querySelector('#copied').textContent !== ''")
@@ -284,6 +308,20 @@ def story(browser, address, name, text, wrong, place):
             frame = tab.call("Page.getFrameTree")["frameTree"]["frame"]["id"]
             tab.world = tab.call("Page.createIsolatedWorld", frameId=frame, worldName="checks")["executionContextId"]
             tab.settle()
+
+
+def at_all_widths(tab, name, chronicle, wrong):
+    """The messages and decisions are the chronicle's at each width, light and dark, whether they are drawn or listed."""
+    for width, height in WIDTHS:
+        for scheme in SCHEMES:
+            tab.show(width, height, scheme)
+            time.sleep(0.3)
+            if tab.ask("document.querySelector('.everybody') !== null"):
+                tab.click(".everybody")
+            wrong.unless(f"{name}, {width} {scheme}: messages", tab.messages(), chronicle.spoken(len(chronicle.rounds)))
+            decided(tab, f"{name}, {width} {scheme}", chronicle, wrong)
+    tab.show(*tab.size, tab.scheme)
+    time.sleep(0.3)
 
 
 def decided(tab, name, chronicle, wrong):
@@ -465,16 +503,148 @@ def strange_links(browser, address, wrong):
     with Led(browser, f"{address}#predict") as tab:
         tab.to_the_end()
         wrong.unless("#predict", set(tab.decisions().values()), {"?"})
+    for kind in ("story", "table", "exercise"):
+        with Led(browser, f"{address}#{kind}=nothing") as tab:
+            wrong.unless(f"the link to {kind} nothing: a fault", tab.until(f"document.querySelector('#fault').textContent.includes('There is no {kind} nothing')"))
+
+
+def lessons(browser, address, wrong):
+    """Each link of the lessons opens the campaign or table that it names, with the decisions hidden."""
+    for fragment in sorted(set(re.findall(LINKS, content_of("docs", "CAMPAIGNS.md")))):
+        kind, name = fragment.lstrip("#").split("=")
+        with Led(browser, f"{address}{fragment}") as tab:
+            wrong.unless(f"{fragment}: no fault", tab.ask("document.querySelector('#fault').hidden"))
+            if kind == "table":
+                a_table(tab, fragment, os.path.join(TOP, "examples", f"{name}.table"), wrong)
+            else:
+                wrong.unless(f"{fragment}: its kind", kind, "predict,story")
+                a_story(tab, fragment, name, wrong)
+            wrong.add(*(f"{fragment}: {line}" for line in messages(tab)))
+            if name in ("traitor_lieutenant", "collusion_twice"):
+                wrong.look(tab, f"the lesson {name}{' as a table' if kind == 'table' else ''}")
+
+
+def a_story(tab, fragment, name, wrong):
+    """A story is stepped through. Its decisions and its text are hidden until they are asked for."""
+    wrong.unless(f"{fragment}: the story", tab.ask("document.querySelector('#story').value"), name)
+    known = stories()
+    base = max((one for one in known if name == one or name.startswith(f"{one}_")), key=len)
+    schedule = [] if name == base else ["--schedule", os.path.join(TOP, "examples", f"{name}.schedule")]
+    tab.to_the_end()
+    wrong.unless(f"{fragment}: hidden decisions", set(tab.decisions().values()), {"?"})
+    tab.ask("document.querySelector('.held').open = true")
+    count = tab.ask("document.querySelectorAll('#generals button').length") - 1
+    wrong.unless(f"{fragment}: what each lieutenant holds", tab.until(f"document.querySelectorAll('.held section li').length >= {count} && document.querySelectorAll('.held section').length === {count}"))
+    wrong.unless(f"{fragment}: the hidden story", tab.ask("document.querySelector('#told').checkVisibility()"), False)
+    tab.click("#reveal")
+    decided(tab, fragment, chronicle_of(known[base], *schedule), wrong)
+    wrong.unless(f"{fragment}: the story after it", tab.ask("document.querySelector('#told').checkVisibility()"))
+
+
+def a_table(tab, fragment, path, wrong):
+    """A table is decided as the program decides it, when it is asked for, and a tree is drawn of it."""
+    wrong.unless(f"{fragment}: the table", tab.until(f"document.querySelector('#table').value === {json.dumps(content_of(path))}"))
+    wrong.unless(f"{fragment}: hidden decisions", tab.until("document.querySelector('#decided').textContent.startsWith('The table is complete')"))
+    tab.click("#decide")
+    wrong.unless(f"{fragment}: its decisions", tab.until(f"document.querySelector('#decided').textContent === {json.dumps(answer('book', '--explain', path))}"))
+    tab.click("#liars button:last-child")
+    wrong.unless(f"{fragment}: a traitor", tab.until("/^IC2 /m.test(document.querySelector('#decided').textContent)"))
+    tab.choose("#lieutenant", "1")
+    wrong.unless(f"{fragment}: a tree", tab.until("document.querySelector('#drawn img')?.naturalWidth > 0"))
+    tab.click("#leave")
+    wrong.unless(f"{fragment}: the campaign again", tab.ask("document.querySelector('.heads').checkVisibility() && !document.querySelector('#decide').checkVisibility()"))
+    tab.choose("#stored", os.path.basename(path)[: -len(".table")])
+    wrong.unless(f"{fragment}: from the list", tab.ask("document.querySelector('#decide').checkVisibility() && !document.querySelector('.heads').checkVisibility()"))
+
+
+def in_a_grid(browser, address, wrong):
+    """Seven generals in the grid: the messages are the chronicle's."""
+    chronicle = chronicle_of(stories()["collusion"])
+    with Led(browser, address) as tab:
+        tab.choose("#story", "collusion")
+        tab.choose("#view", "grid")
+        tab.to_the_end()
+        wrong.unless("the grid: its messages", tab.messages(), chronicle.spoken(len(chronicle.rounds)))
+        decided(tab, "the grid", chronicle, wrong)
+        tab.click(".grid .message")
+        wrong.unless("the grid: where a message came from", tab.ask("document.querySelectorAll('.grid .lit').length > 0"))
+        wrong.look(tab, "a grid")
+        wrong.add(*messages(tab))
+
+
+def refuted(browser, address, wrong):
+    """With too few generals the page shows messages that break each rule, with their traitors."""
+    for name, rule in (("three_generals", ()), ("three_generals_median", ("--rule", "median"))):
+        with Led(browser, address) as tab:
+            tab.choose("#story", name)
+            tab.ask("document.querySelector('#breaking').open = true")
+            tab.click("#refute")
+            table = answer("refute", *rule, "3", "1", "0")
+            wrong.unless(f"refute {name}: the table", tab.until(f"document.querySelector('#table').value === {json.dumps(table)}"))
+            tab.click("#decide")
+            wrong.unless(f"refute {name}: it breaks the rule", tab.until("/^IC[12] no/m.test(document.querySelector('#decided').textContent)"))
+            wrong.unless(f"refute {name}: its traitors", len(tab.all("#liars [aria-pressed=true]", "1")), 1)
+            wrong.look(tab, f"messages that break {name}")
+            wrong.add(*messages(tab))
+
+
+def solved(browser, address, wrong):
+    """The page says when an exercise is solved, and how many of its answers were found."""
+    with Led(browser, f"{address}#exercise=break_three") as tab:
+        text = content_of("examples", "exercises", "break_three.table")
+        tab.click("#decide")
+        tab.type(text.replace("?", "0"), "#table")
+        ends(tab, "break_three", "1 of 2 answers found.", wrong)
+        tab.type(re.sub("1$", "0", text, flags=re.M).replace("commander 0", "commander 0 rule median").replace("?", "1"), "#table")
+        ends(tab, "break_three", "Solved.", wrong)
+        wrong.look(tab, "a solved exercise")
+    with Led(browser, f"{address}#exercise=choose") as tab:
+        for strategy, end in (("silent", "1 of 2 answers found."), ("splits", "Solved.")):
+            for general in (4, 5):
+                tab.choose(f"#strategy-{general}", strategy)
+            tab.to_the_end()
+            ends(tab, f"choose, {strategy}", end, wrong)
+    with Led(browser, f"{address}#exercise=mend") as tab:
+        ends(tab, "mend", "Not solved yet.", wrong)
+        tab.type(content_of("examples", "exercises", "mend.asm").replace("        mov r2", "        and r1, 7\n        mov r2", 1))
+        ends(tab, "mend", "Solved.", wrong)
+    with Led(browser, f"{address}#exercise=altered") as tab:
+        lines = content_of("examples", "exercises", "altered.chronicle").splitlines(keepends=True)
+        lines[15] = lines[15].replace("1 0\n", "1 1\n")
+        tab.type("".join(lines), "#chronicle")
+        tab.click("#audit")
+        ends(tab, "altered", "Solved.", wrong)
+    for name in ("one_retreats", "tip_the_scales", "late"):
+        answers_file(browser, address, name, wrong)
+
+
+def answers_file(browser, address, name, wrong):
+    """An answer in examples/exercises/answers, whose programs are typed, solves its exercise."""
+    programs = re.findall(r'^general = (\d+)\nasm = """\n(.*?)"""', content_of("examples", "exercises", "answers", f"{name}.toml"), re.S | re.M)
+    with Led(browser, f"{address}#exercise={name}") as tab:
+        general, text = programs[-1]
+        tab.click(f"[data-key='edit {general}']")
+        tab.type(text)
+        tab.until("document.querySelector('#verdict').textContent.startsWith('Accepted')")
+        time.sleep(0.5)
+        tab.settle()
+        tab.to_the_end()
+        ends(tab, name, "Solved.", wrong)
+
+
+def ends(tab, name, end, wrong):
+    wrong.unless(f"the exercise {name}: {end}", tab.until(f"document.querySelector('#task-end').textContent === {json.dumps(end)}"))
 
 
 def exercises(browser, address, wrong):
     """Each exercise's link opens its file, and the program answers what it contains."""
     folder = os.path.join(TOP, "examples", "exercises")
-    for file in sorted(one for one in os.listdir(folder) if os.path.isfile(os.path.join(folder, one))):
+    for file in sorted(one for one in os.listdir(folder) if os.path.isfile(os.path.join(folder, one)) and not one.endswith(".json")):
         name, ending = os.path.splitext(file)
         with open(os.path.join(folder, file), encoding="utf-8") as opened:
             text = opened.read()
         with Led(browser, f"{address}#exercise={name}") as tab:
+            wrong.unless(f"the exercise {name}: its task", tab.ask("document.querySelector('#task-text').checkVisibility()"))
             wrong.unless(f"the exercise {name}: no fault", tab.ask("document.querySelector('#fault').hidden") or ending == ".asm")
             if ending == ".toml":
                 numbers = [re.search(rf"^{key} = (\d+)", text, re.M)[1] for key in ("generals", "bound", "commander", "order")]
@@ -504,6 +674,8 @@ def lost(browser, wrong):
     tab.type(MASKED)
     wrong.unless("lost: it says so", tab.until("document.querySelector('#fault').textContent.includes('does not answer')"))
     wrong.unless("lost: what was typed", tab.ask("document.querySelector('#program').value"), MASKED)
+    tab.click("#next")
+    wrong.unless("lost: the last campaign can be stepped through", len(tab.messages()), 2)
     with served(int(address.rsplit(":", 1)[1].strip("/"))):
         tab.click("#again")
         wrong.unless("lost: it comes back", tab.until("document.querySelector('#fault').hidden && document.querySelector('.pane:not(.failed) .heads')"))
@@ -536,7 +708,7 @@ def judge(browser, asked, questions, keep):
             wrong.look(tab, "large type")
         for place, (name, text) in enumerate(stories().items()):
             story(browser, address, name, text, wrong, place)
-        for part in (edited, compared, explored, broken, by_keys, strange_links, exercises, on_paper):
+        for part in (edited, compared, explored, broken, refuted, in_a_grid, by_keys, strange_links, lessons, exercises, solved, on_paper):
             part(browser, address, wrong)
     lost(browser, wrong)
     return wrong.lines, wrong.looked

@@ -1,4 +1,4 @@
-/* "Break it": attempts within the bound, and the smallest broken campaign beyond it. */
+/* "Break it": attempts within the bound; beyond it the smallest broken campaign, and messages that break the rule. */
 import { fromScenario, isEnough, isWithinBound, scenario, traitors } from "./campaign.js";
 import { isBroken } from "./chronicle.js";
 import { $, make } from "./dom.js";
@@ -11,15 +11,27 @@ const THEOREM = {
 };
 const CERTAIN = "This is proved for all programs of the traitors, in whatever order they act. No attempt of anybody can succeed.";
 
+/* Returns the traitors of a table that `refute` printed. The generals form three groups (docs/FORMATS.md, "refute"), and a group
+   are traitors: the commander's group if he sends different orders, else one of the others, according to the order. */
+function refuters(table, { n, c }) {
+  const sent = [...table.matchAll(new RegExp(`^tell ${c} \\d+ (\\d+)$`, "gm"))].map(([, order]) => order);
+  const lying = sent.some((order) => order !== sent[0]) ? 0 : sent[0] === "0" ? 2 : 1;
+  const group = (general) => (general === c ? 0 : (general < c ? general + 1 : general) % 3);
+  return [...Array(n).keys()].filter((general) => group(general) === lying);
+}
+
 export class Breaking {
-  constructor(page, canSearch, load) {
+  /* `load` plays a campaign, and `table` shows a message table with its traitors. */
+  constructor(page, canSearch, load, table) {
     this.page = page;
     this.load = load;
+    this.table = table;
     this.attempts = null; // the scenarios that were tried, or null if nobody is trying
     this.numbers = ""; // the generals, bound and kind of messages for which attempts are counted
     $("search").hidden = !canSearch;
     $("try").addEventListener("click", () => this.begin());
     $("search").addEventListener("click", () => this.search());
+    $("refute").addEventListener("click", () => this.refute());
   }
 
   forget() {
@@ -44,6 +56,7 @@ export class Breaking {
     const kind = campaign.signed ? "signed" : "oral";
     if (this.attempts !== null && this.numbers !== this.numbersNow()) this.forget();
     $("try").hidden = !isEnough(campaign);
+    $("refute").hidden = isEnough(campaign);
     $("attempts").hidden = this.attempts === null;
     if (isEnough(campaign) && campaign.m > 0) {
       const over = isWithinBound(campaign) ? "" : ` Now there are ${traitors(campaign).length}, so nothing is promised.`;
@@ -51,7 +64,7 @@ export class Breaking {
     } else if (isEnough(campaign)) {
       $("promise").textContent = "With the bound 0 the generals provide for no traitor: each obeys what the commander sends.";
     } else {
-      $("promise").textContent = `Nothing is promised: ${needed(campaign)}.`;
+      $("promise").textContent = `Nothing is promised: ${needed(campaign)}. With fewer, no rule by which lieutenants decide from their messages is right in all cases. This is proved.`;
     }
   }
 
@@ -73,6 +86,14 @@ export class Breaking {
     const answer = await ask("break", { generals: n, bound: m, signed: Number(signed), median: Number(!signed && rule === "median") });
     $("search").disabled = false;
     $("found").replaceChildren(...this.results(answer, { n, m }));
+  }
+
+  /* Shows messages that break the rule: for each rule there are some, if there are too few generals. */
+  async refute() {
+    const campaign = structuredClone(this.page.campaign);
+    const answer = await ask("refute", { generals: campaign.n, bound: campaign.m, commander: campaign.c, median: Number(campaign.rule === "median") });
+    if (answer.ok) return this.table(answer.text, refuters(answer.text, campaign));
+    return $("found").replaceChildren(make("p", {}, answer.why));
   }
 
   results(answer, { n, m }) {

@@ -14,7 +14,6 @@ export const isTraitor = (campaign, general) => general in campaign.traitors;
 export const traitors = (campaign) => Object.keys(campaign.traitors).map(Number);
 export const lieutenants = (campaign) => all(campaign).filter((general) => general !== campaign.c);
 export const loyal = (campaign) => lieutenants(campaign).filter((general) => !isTraitor(campaign, general));
-export const rounds = (campaign) => campaign.m + 1;
 export const isWithinBound = (campaign) => traitors(campaign).length <= campaign.m && isEnough(campaign);
 /* Whether there are enough generals for the bound (of signed messages every campaign has m + 2). */
 export const isEnough = (campaign) => campaign.signed || campaign.n > 3 * campaign.m;

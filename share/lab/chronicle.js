@@ -1,14 +1,23 @@
 /* Reads the lines of JSON by which the program reports a campaign. */
 import { all, isTraitor } from "./campaign.js";
 
+/* The lines of a chronicle that exercises ask for, by the kinds of their objects. */
+const spelled = (value) => ({ true: "yes", false: "no", null: "-" })[value] ?? String(value);
+const LINES = {
+  row: ({ rank, orders }) => `row ${rank} ${orders.map(spelled).join(" ")}`,
+  decision: ({ general, traitor, decision }) => `decision ${general} ${traitor ? "traitor " : ""}${decision}`,
+  verdict: ({ alike, obeyed, bound }) => `verdict alike ${spelled(alike)} obeyed ${spelled(obeyed)} bound ${spelled(bound)}`,
+};
+
 /* Returns the rounds with their accesses and messages, the decisions and explanations by general, and the verdict.
-   A message has a label (who sent the order on, the commander first), its order (null for none), the order that a loyal general
+   A message has a label (who relayed the order, the commander first), its order (null for none), the order that a loyal general
    would send (`right`), and whether it is a lie. The program reports what was sent. What a loyal general would have sent is
    looked up here in the messages of the round before. */
 export function read(text, campaign) {
-  const course = { rounds: [], decisions: new Map(), verdict: null, why: new Map(), byLabel: new Map() };
+  const course = { rounds: [], decisions: new Map(), verdict: null, why: new Map(), byLabel: new Map(), lines: [] };
   let explained = null;
   for (const line of text.trim().split("\n").map((one) => JSON.parse(one))) {
+    if (Object.hasOwn(LINES, line.line)) course.lines.push(LINES[line.line](line));
     if (line.line === "round") course.rounds.push({ accesses: [], messages: [] });
     else if (line.line === "access") course.rounds.at(-1).accesses.push(line);
     else if (line.line === "row") addRow(course, campaign, line);
@@ -50,9 +59,9 @@ function add(course, message) {
 }
 
 /* Without signatures, the last line of an explanation is a decision too. */
-function addDecision(course, { general, traitor, decision }, explained) {
-  course.decisions.set(general, decision);
-  if (explained !== null) course.why.get(explained).push(`decision ${general} ${traitor ? "traitor " : ""}${decision}`);
+function addDecision(course, line, explained) {
+  course.decisions.set(line.general, line.decision);
+  if (explained !== null) course.why.get(explained).push(LINES.decision(line));
   return null;
 }
 

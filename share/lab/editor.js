@@ -5,9 +5,11 @@ import { ask, capital } from "./server.js";
 const WAIT = 300; // milliseconds after the last key
 
 export class Editor {
-  /* `changed` is called with the text when it has been edited and not changed for a moment. */
-  constructor(changed, typed) {
+  /* `typed` is called with the general and his text after each key, `changed` when nothing has been typed for a moment, and
+     `checked` with a text and what the program says about it. */
+  constructor(changed, typed, checked) {
     this.general = null;
+    this.checked = checked;
     this.fault = null; // {line, sentence, more} of a refused program
     const soon = later(WAIT, () => {
       this.check();
@@ -79,6 +81,7 @@ export class Editor {
     const said = answer.ok ? accepted(answer.text) : answer.refused ? refused(answer.text) : { verdict: answer.why, fault: null, facts: "" };
     this.fault = said.fault;
     $("verdict").textContent = said.verdict;
+    this.checked(text, said.verdict);
     $("verdict").classList.toggle("refused", !answer.ok);
     $("program").setAttribute("aria-invalid", String(!answer.ok));
     this.edit = said.fault ? editOf(said.fault.more, said.facts, text.split("\n")) : null;

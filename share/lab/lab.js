@@ -3,17 +3,21 @@ import { first, fromScenario, isTraitor, loyal, packed, program, scenario, settl
 import { isBroken } from "./chronicle.js";
 import { $, download, later, make, refill } from "./dom.js";
 import { Editor } from "./editor.js";
+import { Exercise } from "./exercise.js";
 import { Breaking } from "./breaking.js";
 import { Orders } from "./orders.js";
 import { Pane, ending, narration, values } from "./pane.js";
-import { Setup, comments } from "./setup.js";
+import { Setup } from "./setup.js";
 import { Tools } from "./tools.js";
 import { ask } from "./server.js";
 
 const WAIT = 60; // milliseconds after the last change
+const RETRY = 5000; // milliseconds after which a server that does not answer is asked again
 const PREDICT = "predict";
 const FIRST_STRATEGY = "inverts";
 const EXERCISE = "exercise=";
+const TABLE = "table=";
+const STORY = "story=";
 
 const page = {
   campaign: first(),
@@ -28,20 +32,29 @@ const page = {
 };
 const main = new Pane(page);
 const other = new Pane(page);
-let setup, editor, breaking, orders, tools;
+let setup, editor, exercise, breaking, orders, tools;
+let retry = 0; // the timer of the next attempt
 
 /* ---- playing */
 
+/* Plays the campaign. Returns what went wrong, or undefined. */
 async function play() {
+  clearTimeout(retry);
   breaking.show();
   const failures = await Promise.all([main.play(page.campaign), compared() ? other.play(compared()) : null]);
   const failure = failures.find(Boolean);
   complain(failure);
-  page.guesses = {};
-  page.revealed = !page.predict;
+  clearTimeout(retry);
+  if (failure?.lost) {
+    retry = setTimeout(play, RETRY);
+  } else {
+    page.guesses = {};
+    page.revealed = !page.predict;
+  }
   if (main.course) page.step = Math.min(page.step, last());
   if (!failure) breaking.played(main);
   show();
+  return failure;
 }
 const playSoon = later(WAIT, play);
 
@@ -49,8 +62,10 @@ const playSoon = later(WAIT, play);
 function complain(failure) {
   const culprit = Number(/^traitor (\d+) /.exec(failure?.place ?? "")?.[1] ?? NaN);
   const isProgram = isTraitor(page.campaign, culprit);
+  const text = !failure ? "" : isProgram ? `The program of general ${culprit} is rejected. ${failure.why}` : failure.why;
+  const kept = failure?.lost && main.course ? " The campaign below is the last one that it played." : "";
   $("fault").hidden = !failure;
-  $("fault").firstElementChild.textContent = !failure ? "" : isProgram ? `The program of general ${culprit} is rejected. ${failure.why}` : failure.why;
+  if ($("fault").firstElementChild.textContent !== text + kept) $("fault").firstElementChild.textContent = text + kept;
   $("again").hidden = !failure?.lost;
   $("culprit").hidden = !isProgram || editor.general === culprit;
   $("culprit").dataset.general = culprit;
@@ -68,6 +83,7 @@ function compared() {
 
 /* The campaign was changed: it begins anew, without the order of accesses that belonged to the old one. */
 function changed() {
+  tools.leave();
   page.campaign.schedule = null;
   settle(page.campaign);
   if (editor.general !== null && !isTraitor(page.campaign, editor.general)) editor.close();
@@ -83,6 +99,7 @@ function changed() {
 /* ---- showing */
 
 function show() {
+  if ($("course").hidden) return; // (a message table is shown)
   const isTwo = Boolean(compared()) && other.course !== null;
   $("panes").classList.toggle("two", isTwo);
   if (isTwo && !other.element.isConnected) $("panes").append(other.element);
@@ -98,9 +115,12 @@ function show() {
   if (!$("ask").hidden) questions();
   $("order").hidden = page.campaign.schedule === null;
   if (page.campaign.schedule !== null) $("order").firstElementChild.textContent = `Schedule: ${scheduled(page.campaign.schedule)}.`;
-  $("view").disabled = Boolean(course) && !main.canDraw;
-  $("narrow").hidden = !$("view").disabled;
-  $("view").value = course && !main.canDraw ? "list" : page.view;
+  const isNarrow = Boolean(course) && !main.canDraw;
+  $("view").options[0].disabled = isNarrow;
+  $("narrow").hidden = !isNarrow;
+  $("view").value = isNarrow && page.view === "diagram" ? "list" : page.view;
+  setup.showStory();
+  if (exercise.goals.length && hasDecisions() && page.revealed && !main.stale) exercise.answered(course.lines.join("\n"));
 }
 
 const scheduled = (schedule) => schedule.trimEnd().split("\n").map((line, at) => `round ${at + 1}: ${line || "-"}`).join("; ");
@@ -113,10 +133,12 @@ function sentence() {
 
 function move(by) {
   if (!main.course) return;
+  const button = document.activeElement;
   page.step = Math.max(0, Math.min(last(), page.step + by));
   main.closeDetail();
   other.closeDetail();
   show();
+  if (button === $("next") || button === $("back")) (button.disabled ? $("stage") : button).focus({ preventScroll: true });
   const shown = main.body.lastElementChild;
   if (page.step > 0) shown?.scrollIntoView({ block: "nearest" });
 }
@@ -159,13 +181,16 @@ function reveal() {
 /* ---- links and files */
 
 async function share(isExercise) {
-  const fragment = `${isExercise ? `${PREDICT},` : ""}${await packed(page.campaign)}`;
+  const campaign = await packed(page.campaign).catch(() => null);
+  if (campaign === null) return complain({ why: "This browser cannot make links. Keep the scenario instead." });
+  const fragment = `${isExercise ? `${PREDICT},` : ""}${campaign}`;
   history.replaceState(null, "", `#${fragment}`);
   $("link").value = location.href;
   $("shared").hidden = false;
   $("link").select();
   const isCopied = await (navigator.clipboard?.writeText(location.href) ?? Promise.reject()).then(() => true, () => false);
   $("copied").textContent = isCopied ? "The link is copied." : "Copy the link from here.";
+  return undefined;
 }
 
 async function save(command, name, type) {
@@ -176,31 +201,47 @@ async function save(command, name, type) {
   return answer.ok ? download(name, type, answer.text) : complain(answer);
 }
 
-/* Opens what the link's fragment says: nothing, `predict`, a campaign, `predict,` and a campaign, or an exercise. */
-async function openLink() {
-  if (location.hash.startsWith(`#${EXERCISE}`)) return openExercise(location.hash.slice(1 + EXERCISE.length));
-  const [mode, rest] = /^(predict(?:,|$))?(.*)$/s.exec(location.hash.slice(1)).slice(1);
-  let campaign = first();
-  let isDamaged = false;
-  if (rest) campaign = await unpacked(rest).catch(() => ((isDamaged = true), first()));
-  else if (mode) campaign = setup.story("three_generals") ?? first();
+/* Opens what the link's fragment says: nothing, an exercise, a message table, `predict`, a campaign, or `predict,` and a campaign.
+   A campaign is `story=` and a name, or the campaign itself. */
+function openLink() {
+  const fragment = location.hash.slice(1);
+  if (fragment.startsWith(EXERCISE)) return openExercise(fragment.slice(EXERCISE.length));
+  if (fragment.startsWith(TABLE)) return openTable(fragment.slice(TABLE.length));
+  const [mode, rest] = /^(predict(?:,|$))?(.*)$/s.exec(fragment).slice(1);
   page.predict = mode !== undefined;
-  await load(campaign);
-  if (isDamaged && !main.failed) complain({ why: "The link is damaged. This is a new campaign." });
+  if (rest.startsWith(STORY)) return openStory(rest.slice(STORY.length));
+  return rest ? openCampaign(rest) : load((mode && setup.story("three_generals")) || first());
+}
+
+async function openCampaign(fragment) {
+  const campaign = await unpacked(fragment).catch(() => null);
+  const failure = await load(campaign ?? first());
+  if (campaign === null && !failure) complain({ why: "The link is damaged. This is a new campaign." });
+}
+
+async function openStory(name) {
+  const campaign = setup.story(name);
+  const failure = await load(campaign ?? first());
+  if (campaign === null && !failure) complain({ why: `There is no story ${name.slice(0, 40)}. This is a new campaign.` });
+}
+
+async function openTable(name) {
+  page.predict = false;
+  const failure = await load(first());
+  const isKnown = tools.choose(name) !== undefined;
+  if (!isKnown && !failure) complain({ why: `There is no table ${name.slice(0, 40)}. This is a new campaign.` });
 }
 
 /* Opens an exercise's file of examples/exercises: a campaign, a traitor's program, a message table, or a chronicle. */
 async function openExercise(name) {
-  const file = Object.keys(setup.exercises).find((one) => one.replace(/\.\w+$/, "") === name);
-  const text = setup.exercises[file];
-  const ending = file?.split(".").pop();
+  const found = exercise.find(name);
+  const { ending, text, traitors } = found ?? {};
   page.predict = false;
-  await load((ending === "toml" && fromScenario(text)) || (ending === "asm" && mended(text)) || (ending === "chronicle" && setup.story("two_faced")) || first());
-  $("task").textContent = file === undefined ? "" : comments(text, ending === "asm" ? ";" : "#");
-  $("task").hidden = $("task").textContent === "";
-  if (file === undefined) complain({ why: `There is no exercise ${name.slice(0, 40)}. This is a new campaign.` });
+  const failure = await load((ending === "toml" && fromScenario(text)) || (ending === "asm" && mended(text)) || (ending === "chronicle" && setup.story("two_faced")) || first());
+  if (found === null && !failure) complain({ why: `There is no exercise ${name.slice(0, 40)}. This is a new campaign.` });
+  if (found !== null) exercise.begin(name, text);
   if (ending === "asm") editor.open(3, text);
-  if (ending === "table") await tools.table(text);
+  if (ending === "table") await tools.table(text, traitors);
   if (ending === "chronicle") tools.chronicle(text);
 }
 
@@ -212,7 +253,8 @@ function load(campaign) {
   page.campaign = campaign;
   page.step = 0;
   $("predict").checked = page.predict;
-  $("task").hidden = true;
+  exercise.end();
+  tools.leave();
   main.refresh();
   other.refresh();
   editor.close();
@@ -227,7 +269,7 @@ function load(campaign) {
 /* The keys step, unless they mean something where the focus is. */
 function press(event) {
   const isText = event.target.closest("textarea, select, input:not([type=checkbox])");
-  if (isText || event.altKey || event.ctrlKey || event.metaKey || event.defaultPrevented) return;
+  if ($("course").hidden || isText || event.altKey || event.ctrlKey || event.metaKey || event.defaultPrevented) return;
   const isButton = event.target.closest("button, input, summary, a, [role=button]");
   const by = { ArrowRight: 1, ArrowLeft: -1, " ": isButton ? 0 : 1 }[event.key];
   if (!by) return;
@@ -263,6 +305,7 @@ function listen() {
   $("setup").addEventListener("submit", (event) => event.preventDefault());
   document.addEventListener("keydown", press);
   window.addEventListener("resize", later(200, show));
+  window.addEventListener("online", () => ($("again").hidden ? null : play()));
   window.addEventListener("hashchange", openLink);
 }
 
@@ -282,16 +325,22 @@ async function begin() {
     page.campaign.traitors[general] = { text };
     page.campaign.schedule = null;
     setup.show();
-  });
+  }, (text, verdict) => exercise.answered(`${text}\n${verdict}`));
+  exercise = new Exercise(known.exercises, known.tasks);
   setup = new Setup(page, known, {
     changed,
     load,
-    edit: (general) => editor.open(general, program(page.campaign.traitors[general])),
+    edit: (general) => {
+      tools.leave();
+      show();
+      editor.open(general, program(page.campaign.traitors[general]));
+    },
     strategy: FIRST_STRATEGY in known.strategies ? FIRST_STRATEGY : Object.keys(known.strategies)[0],
   });
-  breaking = new Breaking(page, known.searches, load);
-  tools = new Tools(page);
+  tools = new Tools(page, known.tables, (text) => exercise.answered(text), show);
+  breaking = new Breaking(page, known.searches, load, (text, liars) => tools.table(text, liars));
   orders = new Orders(page, () => {
+    tools.leave();
     page.step = 0;
     play();
   });

@@ -7,7 +7,9 @@ import { ask } from "./server.js";
 
 /* Trees with more labels than this are drawn without the labels below which all messages are the same. */
 const MANY_LABELS = 200;
-/* A list of so many generals begins with the messages of one. */
+/* What all lieutenants hold is shown together only of at most this many messages. */
+const MANY_HELD = 2000;
+/* A list of this many generals or more begins with the messages of one. */
 const MANY_GENERALS = 6;
 
 export class Pane {
@@ -17,11 +19,13 @@ export class Pane {
     this.campaign = null;
     this.course = null; // what the program answered
     this.stale = false; // whether the campaign was changed since
-    this.failed = false; // whether the program has refused it, or could not be asked
+    this.failed = false; // whether the program has refused it
+    this.isLost = false; // whether the last request had no answer
     this.chosen = null; // the general whose messages are shown, or null for everybody's
     this.isFresh = true; // whether nobody has chosen a general yet
     this.lit = []; // the messages that are an order's origin
     this.asked = 0; // the number of the last request: an older answer is dropped
+    this.isHeldOpen = false; // whether it is unfolded what each lieutenant holds
     this.detail = make("section", { class: "detail", hidden: true, "aria-live": "polite" });
     this.body = make("div", {});
     this.element = make("section", { class: "pane" }, this.body, this.detail);
@@ -30,12 +34,17 @@ export class Pane {
   /* Asks for a campaign's course. Returns what went wrong, or null. */
   async play(campaign) {
     const number = (this.asked += 1);
-    this.stale = true;
     this.failed = false;
-    this.element.classList.add("stale");
+    if (!this.isLost) this.stale = true;
+    this.element.classList.toggle("stale", this.stale);
     const request = { text: scenario(campaign), of: lieutenants(campaign)[0] };
     const answer = await ask("play", campaign.schedule === null ? request : { ...request, schedule: campaign.schedule });
     if (number !== this.asked) return null;
+    this.isLost = Boolean(answer.lost);
+    if (this.isLost) {
+      this.stale = false; // (the campaign that was answered last can still be stepped through)
+      return answer;
+    }
     this.failed = !answer.ok;
     if (this.failed) return answer;
     this.campaign = structuredClone(campaign);
@@ -63,18 +72,35 @@ export class Pane {
     const { campaign, course, page } = this;
     const width = Math.floor(this.element.clientWidth);
     this.canDraw = fits(course, campaign.n, width);
-    const isDiagram = this.canDraw && page.view === "diagram";
-    if (this.isFresh) this.chosen = isDiagram || campaign.n < MANY_GENERALS ? null : (loyal(campaign)[0] ?? null);
-    const view = { width, isDiagram, chosen: this.chosen, lit: this.lit };
+    const kind = page.view === "diagram" && !this.canDraw ? "list" : page.view;
+    if (this.isFresh) this.chosen = kind !== "list" || campaign.n < MANY_GENERALS ? null : (loyal(campaign)[0] ?? null);
+    const view = { width, kind, chosen: this.chosen, lit: this.lit };
     view.onmessage = (messages) => this.showMessage(messages);
     view.ongeneral = (general) => this.choose(general);
     this.element.setAttribute("aria-label", about(campaign));
     const shown = course.rounds.slice(0, page.step).map((_, at) => round(course, campaign, at, view));
     const hasAll = page.step > course.rounds.length;
+    const held = page.step >= course.rounds.length ? this.held() : null;
     const wrong = page.wrongGuesses(this);
-    refill(this.body, make("h2", { class: "about" }, about(campaign)), heads(campaign, view), ...shown,
+    refill(this.body, make("h2", { class: "about" }, about(campaign)), heads(campaign, view), ...shown, held,
       hasAll ? decisions(course, campaign, view, { revealed: page.isRevealed(), wrong }) : null,
-      hasAll && page.isRevealed() ? make("p", { class: `outcome ${isBroken(course) ? "broken" : ""}` }, make("span", { class: "ending" }, `${ending(course)} `), promise(course, campaign)) : null);
+      hasAll && page.isRevealed() ? make("p", { class: `outcome ${isBroken(course) ? "broken" : ""}` }, make("span", { class: "ending" }, `${ending(course)} `), promise(course, campaign), ` ${sent(course)}`) : null);
+  }
+
+  /* What each lieutenant holds after the last round. It is made when it is unfolded. */
+  held() {
+    const { campaign, course } = this;
+    if (course.byLabel.size > MANY_HELD) return make("p", { class: "hint" }, "Choose a general to see what he holds.");
+    const fold = make("details", { class: "held" }, make("summary", { "data-key": "held" }, "What each lieutenant holds"));
+    const one = (general) => make("section", {}, make("h4", {}, `General ${general}`), holdings(course, campaign, general, course.rounds.length));
+    const fill = () => {
+      this.isHeldOpen = fold.open;
+      if (fold.open && fold.childElementCount === 1) fold.append(make("div", {}, ...lieutenants(campaign).map(one)));
+    };
+    fold.open = this.isHeldOpen;
+    fill();
+    fold.addEventListener("toggle", fill);
+    return fold;
   }
 
   /* Forgets which general was chosen. */
@@ -134,9 +160,9 @@ export class Pane {
 }
 
 /* The program's picture of a tree. */
-function tree(text, general) {
+export function tree(text, general) {
   const address = URL.createObjectURL(new Blob([text], { type: "image/svg+xml" }));
-  const image = make("img", { src: address, alt: `The tree of general ${general}. The lists below say the same.` });
+  const image = make("img", { src: address, alt: `The tree of general ${general}. The lists next to it say the same.` });
   image.addEventListener("load", () => {
     URL.revokeObjectURL(address);
     image.scrollIntoView({ block: "nearest" });
@@ -204,6 +230,12 @@ function promise(course, campaign) {
   if (course.verdict.bound) return "With so few traitors they always agree, and obey a loyal commander: this is proved.";
   if (!isEnough(campaign)) return `Nothing was promised: ${needed(campaign)}.`;
   return `Nothing was promised: there are more traitors than the bound of ${campaign.m}.`;
+}
+
+/* How many orders were sent in all. */
+function sent(course) {
+  const count = course.rounds.flatMap((one) => one.messages).filter(({ order }) => order !== null).length;
+  return `They sent ${counted(count, "order")} in ${counted(course.rounds.length, "round")}.`;
 }
 
 /* How many generals the bound takes. */

@@ -1,13 +1,16 @@
-/* Shows the rounds of a campaign: as a space-time diagram, or as a list if there is not enough room. */
+/* Shows the rounds of a campaign: as a space-time diagram, as a list if there is not enough room, or as a grid. */
 import { all, isTraitor } from "./campaign.js";
 import { aloud, brief, grouped, kind } from "./chronicle.js";
 import { make, rove } from "./dom.js";
 
-/* Sizes of the diagram in pixels, for letters of 16 pixels. A value is large enough for a finger. */
+/* Sizes of the diagram in pixels, for letters of 16 pixels. A value is as wide as there is room, up to the width that a finger
+   needs, and what can be touched is as high. */
 const LEAST_PITCH = 30;
+const FINGER = 44;
 const LETTER = 9;
 const LINE = 18;
 const GAP = 10;
+const RIM = 14; // the height of a value besides its lines
 
 /* The size of this page's letters, compared with the usual one. */
 export const scale = () => parseFloat(getComputedStyle(document.documentElement).fontSize) / 16;
@@ -20,7 +23,7 @@ function plan(round) {
   const senders = [...new Set(groups.map(({ messages }) => messages[0].from))].sort((one, other) => one - other);
   const pitch = Math.max(LEAST_PITCH, LETTER * widest + 10);
   const beside = Math.max(1, ...groups.map(({ messages }) => senders.filter((from) => from !== messages[0].to).length));
-  return { groups, senders, pitch, column: pitch * beside + GAP, tall: LINE * most + 8 };
+  return { groups, senders, pitch, beside, column: pitch * beside + GAP, tall: LINE * most + RIM };
 }
 
 /* Whether the diagram of a campaign fits into a width. */
@@ -35,7 +38,8 @@ const isShown = (chosen, { from, to }) => chosen === null || chosen === from || 
    with the messages of a group; `lit` are the messages that are shown as an order's origin. */
 export function round(course, campaign, at, view) {
   const heading = make("h3", {}, `Round ${at + 1}`);
-  const picture = view.isDiagram ? diagram(course.rounds[at], campaign, at, view) : list(course.rounds[at], campaign, at, view);
+  const draw = { diagram, list, grid }[view.kind];
+  const picture = draw(course.rounds[at], campaign, at, view);
   return make("section", { class: "round", "aria-label": `Round ${at + 1}` }, heading, accesses(course.rounds[at]), picture);
 }
 
@@ -65,8 +69,9 @@ const key = (at, { from, to }) => `round ${at} ${from}>${to}`;
 
 function diagram(round, campaign, at, view) {
   const unit = scale();
-  const { groups, senders, pitch, tall } = plan(round);
+  const { groups, senders, pitch: least, beside, tall } = plan(round);
   const column = view.width / campaign.n;
+  const pitch = Math.max(least, Math.min(FINGER, (column / unit - GAP) / beside));
   const middle = (general) => column * (general + 0.5);
   const slope = (46 + 6 * campaign.n) * unit;
   const height = 8 * unit + slope + tall * unit + 10 * unit;
@@ -77,7 +82,7 @@ function diagram(round, campaign, at, view) {
     const { from, to } = messages[0];
     const others = senders.filter((general) => general !== to);
     const x = middle(to) + (others.indexOf(from) - (others.length - 1) / 2) * pitch * unit;
-    return stroke({ messages, texts, at, view, x1: middle(from), y1: 8 * unit, x2: x, y2: 8 * unit + slope, pitch, tall, unit });
+    return stroke({ messages, texts, at, view, x1: middle(from), y1: 8 * unit, x2: x, y2: 8 * unit + slope, pitch, unit });
   });
   picture.append(...strokes);
   for (const general of senders) picture.append(make("circle", { class: "start", cx: middle(general), cy: 8 * unit, r: 4 * unit }));
@@ -88,7 +93,8 @@ function diagram(round, campaign, at, view) {
 function stroke({ messages, texts, at, view, x1, y1, x2, y2, pitch, unit }) {
   const lit = messages.some((message) => view.lit.includes(message)) ? "lit" : "";
   const label = spoken(at, messages);
-  const box = { x: x2 - (pitch * unit) / 2 + 2, y: y2, width: pitch * unit - 4, height: (LINE * texts.length + 8) * unit, rx: 4 * unit };
+  const box = { x: x2 - (pitch * unit) / 2 + 2, y: y2, width: pitch * unit - 4, height: (LINE * texts.length + RIM) * unit, rx: 4 * unit };
+  const touched = { x: x2 - (pitch * unit) / 2, y: y2 - 12 * unit, width: pitch * unit, height: box.height + 16 * unit };
   const tip = `M${x2} ${y2}L${x2 - 4.5 * unit} ${y2 - 9 * unit}H${x2 + 4.5 * unit}z`;
   const act = () => view.onmessage(messages);
   const press = (event) => {
@@ -100,9 +106,10 @@ function stroke({ messages, texts, at, view, x1, y1, x2, y2, pitch, unit }) {
   return make("g", { class: `message ${kind(messages)} ${lit}`, role: "button", tabindex: 0, "aria-label": label, "data-key": key(at, messages[0]), onclick: act, onkeydown: press },
     make("title", {}, label),
     make("path", { class: "way", d: `M${x1} ${y1}L${x2} ${y2 - 8 * unit}` }),
+    make("rect", { class: "touched", ...touched }),
     make("path", { class: "tip", d: tip }),
     make("rect", { class: "pill", ...box }),
-    ...texts.map((text, line) => make("text", { x: x2, y: y2 + (LINE * (line + 1) - 1) * unit }, text)));
+    ...texts.map((text, line) => make("text", { x: x2, y: y2 + (LINE * (line + 1) + 2) * unit }, text)));
 }
 
 /* ---- the list */
@@ -115,7 +122,7 @@ function list(round, campaign, at, view) {
     const sent = groups.filter(([{ from }]) => from === view.chosen);
     if (sent.length) rows.push(listRow(`General ${view.chosen} sends`, sent, ({ to }) => `to ${to}`, at, view));
   }
-  if (!rows.length) return make("p", { class: "hint" }, view.chosen === null ? "Nobody sends anything." : `General ${view.chosen} receives and sends nothing.`);
+  if (!rows.length) return nothing(view);
   const whole = make("div", { class: "list" }, ...rows);
   rove(whole, "button");
   return whole;
@@ -123,11 +130,39 @@ function list(round, campaign, at, view) {
 
 function listRow(title, groups, who, at, view) {
   const chips = groups.map((messages) => {
-    const lit = messages.some((message) => view.lit.includes(message)) ? "lit" : "";
-    const words = { type: "button", class: `message ${kind(messages)} ${lit}`, "aria-label": spoken(at, messages), "data-key": `${title} ${key(at, messages[0])}` };
+    const words = { ...described(messages, at, view), "data-key": `${title} ${key(at, messages[0])}` };
     return make("li", {}, make("button", { ...words, onclick: () => view.onmessage(messages) }, make("small", {}, who(messages[0])), ` ${brief(messages).join(" ")}`));
   });
   return make("div", { class: "receiver" }, make("h4", {}, title), make("ul", {}, ...chips));
+}
+
+const nothing = ({ chosen }) => make("p", { class: "hint" }, chosen === null ? "Nobody sends anything." : `General ${chosen} receives and sends nothing.`);
+
+/* ---- the grid: a row for each sender, a column for each receiver */
+
+function grid(round, campaign, at, view) {
+  const groups = grouped(round).filter((messages) => isShown(view.chosen, messages[0]));
+  if (!groups.length) return nothing(view);
+  const senders = [...new Set(groups.map(([{ from }]) => from))];
+  const head = make("tr", {}, make("td", {}), ...all(campaign).map((to) => make("th", { scope: "col" }, `to ${to}`)));
+  const rows = senders.map((from) => make("tr", {}, make("th", { scope: "row" }, `from ${from}`), ...all(campaign).map((to) => cell(groups, from, to, at, view))));
+  const table = make("table", {}, make("thead", {}, head), make("tbody", {}, ...rows));
+  const whole = make("div", { class: "grid", tabindex: 0, role: "group", "aria-label": `Messages of round ${at + 1}` }, table);
+  rove(whole, "button");
+  return whole;
+}
+
+function cell(groups, from, to, at, view) {
+  const messages = groups.find(([message]) => message.from === from && message.to === to);
+  if (!messages) return make("td", {});
+  const act = () => view.onmessage(messages);
+  return make("td", {}, make("button", { ...described(messages, at, view), "data-key": `grid ${key(at, messages[0])}`, onclick: act }, brief(messages).join(" ")));
+}
+
+/* What a button for messages is: its type, its class, and how it is read aloud. */
+function described(messages, at, view) {
+  const lit = messages.some((message) => view.lit.includes(message)) ? "lit" : "";
+  return { type: "button", class: `message ${kind(messages)} ${lit}`, "aria-label": spoken(at, messages) };
 }
 
 /* ---- the generals at the top, and the decisions at the bottom */
@@ -140,8 +175,8 @@ export function heads(campaign, view) {
     const below = isTraitor(campaign, general) ? "traitor" : general === campaign.c ? "commander" : "";
     return make("button", words, make("b", {}, `${general}${general === campaign.c ? "★" : ""}`), make("small", {}, below));
   });
-  if (view.chosen !== null && !view.isDiagram) made.push(make("button", { type: "button", class: "everybody", "data-key": "everybody", onclick: () => view.ongeneral(view.chosen) }, "All"));
-  const group = make("div", { class: `heads ${view.isDiagram ? "columns" : ""}`, role: "group", "aria-label": "Generals: choose one to see his messages" }, ...made);
+  if (view.chosen !== null && view.kind !== "diagram") made.push(make("button", { type: "button", class: "everybody", "data-key": "everybody", onclick: () => view.ongeneral(view.chosen) }, "All"));
+  const group = make("div", { class: `heads ${view.kind === "diagram" ? "columns" : ""}`, role: "group", "aria-label": "Generals: choose one to see his messages" }, ...made);
   group.style.setProperty("--columns", campaign.n);
   return group;
 }
@@ -149,13 +184,13 @@ export function heads(campaign, view) {
 /* The decisions, or question marks in their place. A wrong prediction is marked. */
 export function decisions(course, campaign, view, { revealed, wrong }) {
   const made = all(campaign).map((general) => {
-    if (general === campaign.c) return view.isDiagram ? make("span", {}) : null;
+    if (general === campaign.c) return view.kind === "diagram" ? make("span", {}) : null;
     const value = revealed ? String(course.decisions.get(general)) : "?";
-    const who = view.isDiagram ? "" : `General ${general} `;
+    const who = view.kind === "diagram" ? "" : `General ${general} `;
     const does = isTraitor(campaign, general) ? "(traitor)" : "decides";
     return make("p", { class: `decision ${wrong.has(general) ? "wrong" : ""}`, "data-general": general }, make("small", {}, `${who}${does}`), " ", make("b", {}, value));
   });
-  const group = make("div", { class: `decisions ${view.isDiagram ? "columns" : ""}`, role: "group", "aria-label": "Decisions" }, ...made.filter(Boolean));
+  const group = make("div", { class: `decisions ${view.kind === "diagram" ? "columns" : ""}`, role: "group", "aria-label": "Decisions" }, ...made.filter(Boolean));
   group.style.setProperty("--columns", campaign.n);
   return group;
 }

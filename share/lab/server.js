@@ -2,6 +2,7 @@
 
 const LOST = "The laboratory does not answer. What you typed is kept.";
 const MOST_ATTEMPTS = 5;
+const PATIENCE = 30000; // milliseconds for an answer
 
 const pause = (seconds) => new Promise((done) => setTimeout(done, 1000 * seconds));
 
@@ -10,7 +11,8 @@ export async function ask(command, request) {
   for (let attempt = 1; ; attempt += 1) {
     let answer;
     try {
-      answer = await fetch(`api/${command}`, { method: "POST", headers: { "Content-Type": "application/json" }, body: JSON.stringify(request) });
+      const how = { method: "POST", headers: { "Content-Type": "application/json" }, signal: AbortSignal.timeout(PATIENCE) };
+      answer = await fetch(`api/${command}`, { ...how, body: JSON.stringify(request) });
       if (answer.status === 503 && attempt < MOST_ATTEMPTS) {
         await pause((Number(answer.headers.get("Retry-After")) || 1) * (0.5 + Math.random()));
         continue;

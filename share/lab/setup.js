@@ -1,10 +1,11 @@
 /* The form in which a campaign is set up. */
-import { MOST_GENERALS, all, fromScenario, isTraitor, traitors } from "./campaign.js";
+import { all, fromScenario, isTraitor, traitors } from "./campaign.js";
 import { $, make, refill } from "./dom.js";
 
 const OWN = "own program";
 const MOST_WORDS = 64;
 const label = (name) => name.replaceAll("_", " ");
+const areEqual = (one, other) => JSON.stringify(one) === JSON.stringify(other);
 
 /* The comments at the head of a text, without their marks. */
 export function comments(text, mark) {
@@ -15,13 +16,17 @@ export function comments(text, mark) {
 
 export class Setup {
   /* `on` has what the form does: changed(), load(campaign), edit(general), and the first `strategy` of a traitor. */
-  constructor(page, { stories, strategies, exercises }, on) {
+  constructor(page, { stories, schedules, strategies }, on) {
     this.page = page;
     this.on = on;
-    this.stories = stories;
     this.strategies = strategies;
-    this.exercises = exercises;
-    const names = Object.keys(stories).filter((name) => fromScenario(stories[name]) !== null);
+    this.stories = new Map(); // by name: the campaign and the scenario's text
+    for (const [name, text] of Object.entries(stories)) this.addStory(name, text, null);
+    for (const [name, schedule] of Object.entries(schedules)) {
+      const base = Object.keys(stories).filter((one) => name.startsWith(`${one}_`)).sort((one, other) => other.length - one.length)[0];
+      if (base !== undefined) this.addStory(name, stories[base], schedule);
+    }
+    const names = [...this.stories.keys()].sort();
     $("story").append(make("option", { value: "" }, "a campaign of your own"), ...names.map((name) => make("option", { value: name }, label(name))));
     $("story").addEventListener("change", () => this.choose($("story").value));
     for (const id of ["n", "m", "o", "c", "patience"]) $(id).addEventListener("change", () => this.number(id));
@@ -30,8 +35,15 @@ export class Setup {
     $("board").addEventListener("change", () => this.set("board", ($("board").value.match(/\d+/g) ?? []).slice(0, MOST_WORDS).map(Number)));
   }
 
+  /* A schedule is a story of its own: collusion_twice is the scenario collusion, played by this schedule. */
+  addStory(name, text, schedule) {
+    const campaign = fromScenario(text);
+    if (campaign !== null) this.stories.set(name, { campaign: { ...campaign, schedule }, text });
+  }
+
+  /* Returns the campaign of a story, or null if there is no such story. */
   story(name) {
-    return Object.hasOwn(this.stories, name) ? fromScenario(this.stories[name]) : null;
+    return this.stories.has(name) ? structuredClone(this.stories.get(name).campaign) : null;
   }
 
   choose(name) {
@@ -64,17 +76,19 @@ export class Setup {
     $("c").replaceChildren(...all(campaign).map((general) => make("option", {}, String(general))));
     $("c").value = campaign.c;
     this.showStory();
-    if ($("liar").length === 1) $("liar").append(...[...Array(MOST_GENERALS).keys()].map((general) => make("option", {}, String(general))));
     refill($("generals"), ...all(campaign).map((general) => this.general(general)));
     refill($("traitors"), ...traitors(campaign).map((general) => this.traitor(general)));
   }
 
-  /* The story is shown as long as the campaign is the one that it is about. */
+  /* The story is shown as long as the campaign is the one that it is about, and the decisions need not be predicted: it gives
+     them away. */
   showStory() {
-    const name = Object.keys(this.stories).find((one) => JSON.stringify(this.story(one)) === JSON.stringify({ ...this.page.campaign, schedule: null }));
+    const names = [...this.stories.keys()];
+    const has = (campaign) => names.find((name) => areEqual(this.stories.get(name).campaign, campaign));
+    const name = has(this.page.campaign) ?? has({ ...this.page.campaign, schedule: null });
     $("story").value = name ?? "";
-    $("told").hidden = !name;
-    $("story-text").textContent = name ? comments(this.stories[name], "#") : "";
+    $("told").hidden = !name || (this.page.predict && !this.page.revealed);
+    $("story-text").textContent = name ? comments(this.stories.get(name).text, "#") : "";
   }
 
   general(general) {

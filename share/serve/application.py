@@ -2,6 +2,7 @@
 import json
 import os
 import re
+import time
 
 from . import commands
 from .program import Turns
@@ -10,6 +11,8 @@ from .refused import Refused
 MOST_BODY = 256 * 1024
 # What a browser sends anyway is read up to this size: otherwise it would not see the answer.
 MOST_READ = 4 * MOST_BODY
+# The seconds in which a request must arrive.
+SECONDS = 10
 EXERCISES = (".toml", ".asm", ".table", ".chronicle")
 KINDS = {".html": "text/html", ".css": "text/css", ".js": "text/javascript", ".svg": "image/svg+xml"}
 POLICY = "; ".join(
@@ -42,7 +45,8 @@ class Laboratory:
         self.hosts = frozenset(name.lower() for name in hosts)
         self.files = pages(page)
         known = {"stories": texts(examples, ".toml", is_story), "strategies": texts(os.path.join(examples, "strategies"), ".asm")}
-        known.update(exercises=exercises(os.path.join(examples, "exercises")), searches=programs.has("surveyor"))
+        known.update(tables=texts(examples, ".table"), schedules=texts(examples, ".schedule"), searches=programs.has("surveyor"))
+        known.update(exercises=exercises(os.path.join(examples, "exercises")), tasks=tasks(examples))
         self.files["/examples.json"] = "application/json", json.dumps(known).encode()
         self.late_order = text_of(os.path.join(examples, "surveys", "late_order.asm"))
 
@@ -110,11 +114,7 @@ def body(environ):
     if environ.get("CONTENT_TYPE", "").split(";")[0].strip().lower() != "application/json":
         raise Refused("415 Unsupported Media Type", "A request is application/json.")
     try:
-        content = environ["wsgi.input"].read(int(length))
-    except OSError:
-        raise Refused("408 Request Timeout", "The request did not arrive.") from None
-    try:
-        request = json.loads(content.decode("utf-8"))
+        request = json.loads(content_of(environ["wsgi.input"], int(length)).decode("utf-8"))
     except (ValueError, RecursionError):
         raise Refused("400 Bad Request", "The request is not JSON.") from None
     if not isinstance(request, dict):
@@ -122,12 +122,35 @@ def body(environ):
     return request
 
 
-def drain(stream, rest):
-    while rest > 0:
-        part = stream.read(min(rest, 65536))
+def content_of(stream, length):
+    """Returns the bytes of a body."""
+    content = b"".join(parts_of(stream, length))
+    if len(content) < length:
+        raise Refused("400 Bad Request", "The request is shorter than it says.")
+    return content
+
+
+def drain(stream, length):
+    """Reads a body and forgets it."""
+    for _ in parts_of(stream, length):
+        pass
+
+
+def parts_of(stream, length):
+    """Yields the parts of a body as they arrive, until it has this length or ends. The connection limits the time for each part,
+    and SECONDS the time for all of them."""
+    read, end = getattr(stream, "read1", stream.read), time.monotonic() + SECONDS
+    while length > 0:
+        try:
+            part = read(min(length, 65536))
+        except OSError:
+            part = None
+        if part is None or time.monotonic() > end:
+            raise Refused("408 Request Timeout", "The request did not arrive.")
         if not part:
             return
-        rest -= len(part)
+        length -= len(part)
+        yield part
 
 
 def pages(folder):
@@ -156,6 +179,11 @@ def texts(folder, ending, is_wanted=lambda text: True):
 def exercises(folder):
     """Returns the texts of the exercises' files by their names."""
     return {name + ending: text for ending in EXERCISES for name, text in texts(folder, ending).items()}
+
+
+def tasks(examples):
+    """Returns what examples/exercises/tasks.json says about the exercises, by their names."""
+    return json.loads(text_of(os.path.join(examples, "exercises", "tasks.json")) or b"{}")
 
 
 def text_of(path):

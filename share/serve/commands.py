@@ -19,12 +19,12 @@ class Call:
 
 class Command:
     """A command: its program and words, and what a request may add. `numbers` gives each number's option, least and greatest value;
-    `switches` the words that a 1 adds; `files` the words after the first file for the text of a second one. A scenario may name no
-    file: the program refuses it."""
+    `lists` the option of a list of generals; `switches` the words that a 1 adds; `files` the words after the first file for the
+    text of a second one. A scenario may name no file: the program refuses it."""
 
-    def __init__(self, words, kind, numbers=None, switches=None, program="byzlab", files=None, is_scenario=True):
+    def __init__(self, words, kind, numbers=None, switches=None, program="byzlab", files=None, is_scenario=True, lists=None):
         self.words, self.kind, self.program, self.files = words, kind, program, files or {}
-        self.numbers, self.switches, self.is_scenario = numbers or {}, switches or {}, is_scenario
+        self.numbers, self.switches, self.is_scenario, self.lists = numbers or {}, switches or {}, is_scenario, lists or {}
         self.kind_of_refusal = LINES if "--json" in words else TEXT
 
     def call(self, request):
@@ -38,6 +38,8 @@ class Command:
             elif name in self.files:
                 second = encoded(value)
                 files += self.files[name]
+            elif name in self.lists:
+                words += generals(self.lists[name], value)
             else:
                 words += self.option(name, value)
         if text is None and self.program == "byzlab":
@@ -65,6 +67,21 @@ class Tree(Command):
         return super().call(request)
 
 
+class Refutation(Command):
+    """The message table that breaks a rule. Each request has the three numbers of the campaign, and no text."""
+
+    def call(self, request):
+        if not set(self.numbers) <= set(request):
+            raise Refused("400 Bad Request", "A table needs the generals, the bound and the commander.")
+        words = list(self.words)
+        for name in request:
+            if name not in self.numbers:
+                words += self.option(name, request[name])
+        for name in self.numbers:
+            words += self.option(name, request[name])[1:]
+        return Call(words, None, None)
+
+
 class Search(Command):
     """The search for a campaign that breaks. It takes both numbers, and plays as many campaigns as the time allows: with no
     more traitors than one above the bound, who are enough if any are."""
@@ -83,6 +100,15 @@ def seeds(generals, bound):
     return 30 if generals < 12 else 10
 
 
+def generals(option, value):
+    """Returns the words that name the generals of a list, each once."""
+    if not isinstance(value, list) or any(type(one) is not int or not 0 <= one < MOST_GENERALS for one in value):
+        raise Refused("400 Bad Request", "The generals are a list of numbers from 0 to 12.")
+    if len(set(value)) < len(value):
+        raise Refused("400 Bad Request", "A general is listed twice.")
+    return [option, ",".join(map(str, value))] if value else []
+
+
 def encoded(value):
     """Returns a text of a request in UTF-8."""
     if not isinstance(value, str):
@@ -96,17 +122,22 @@ def encoded(value):
 OF = {"of": ("--of", 0, MOST_GENERALS - 1)}
 CAMPAIGNS = {"generals": ("--generals", 2, MOST_GENERALS), "bound": ("--bound", 0, 4)}
 SCHEDULE = {"schedule": ["--schedule", None]}
-KINDS_OF_CAMPAIGNS = {"median": ["--rule", "median"], "signed": ["--signed", "--adversary", "-"]}
+TRAITORS = {"traitors": "--traitors"}
+MEDIAN = {"median": ["--rule", "median"]}
+KINDS_OF_CAMPAIGNS = {**MEDIAN, "signed": ["--signed", "--adversary", "-"]}
+# (an argument has no option)
+REFUTED = {"generals": ("", 3, MOST_GENERALS - 1), "bound": ("", 1, 4), "commander": ("", 0, MOST_GENERALS - 2)}
 
 COMMANDS = {
     "check": Command(["check", "--asm", "--explain"], TEXT, is_scenario=False),
     "play": Command(["play", "--json", "--explain"], LINES, OF, files=SCHEDULE),
     "chronicle": Command(["play"], TEXT, files=SCHEDULE),
-    "tree": Tree(["tree", "--svg"], SVG, {**OF, "depth": ("--depth", 0, 4)}, {"fold": ["--fold"]}),
+    "tree": Tree(["tree", "--svg"], SVG, {**OF, "depth": ("--depth", 0, 4)}, {"fold": ["--fold"]}, lists=TRAITORS),
     "draw": Command(["draw"], SVG, files=SCHEDULE),
     "page": Command(["page"], HTML, files=SCHEDULE),
     "audit": Command(["audit", "--explain"], TEXT, files={"chronicle": [None]}),
-    "book": Command(["book", "--explain"], TEXT, {"traitor": ("--traitors", 0, MOST_GENERALS - 1)}, is_scenario=False),
+    "book": Command(["book", "--explain"], TEXT, is_scenario=False, lists=TRAITORS),
+    "refute": Refutation(["refute"], TEXT, REFUTED, MEDIAN),
     "explore": Command(["explore"], TEXT, {"most": ("--most", 1, 100000)}),
     "break": Search(["--break"], TEXT, CAMPAIGNS, KINDS_OF_CAMPAIGNS, program="surveyor"),
 }

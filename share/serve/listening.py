@@ -6,12 +6,12 @@ import webbrowser
 from wsgiref import simple_server
 
 from . import settings
-from .application import MOST_READ
+from .application import MOST_READ, SECONDS
 from .program import QUEUE
 from .settings import Unusable
 
-# A browser keeps up to six connections open, and 60 browsers are a class. Connections that send nothing are closed.
-CONNECTIONS, SECONDS = 900, 10
+# A browser keeps up to six connections open, and 60 browsers are a class. Connections that send nothing for SECONDS are closed.
+CONNECTIONS = 900
 
 
 class Server(socketserver.ThreadingMixIn, simple_server.WSGIServer):

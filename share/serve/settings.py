@@ -79,4 +79,7 @@ def laboratory(hosts=None, workers=None):
         named = os.environ.get("BYZLAB_HOSTS", ",".join(f"{name}:8000" for name in LOOPBACK))
         hosts = [name.strip() for name in named.split(",")]
     workers = workers or int(os.environ.get("BYZLAB_WORKERS") or processors())
-    return Laboratory(programs(), hosts, workers, os.path.join(SHARE, "lab"), examples())
+    try:
+        return Laboratory(programs(), hosts, workers, os.path.join(SHARE, "lab"), examples())
+    except ValueError as error:
+        raise Unusable(f"an example cannot be read: {error}") from None

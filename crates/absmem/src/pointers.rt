@@ -48,7 +48,7 @@ pub(crate) fn put(spills: &mut Blocks, place: usize, region: Region, offset: i32
     spills.set(place / 8, whole(place, region, offset));
 }
 
-/// Returns the record that a pointer is stored in the 8 cells from index `place` on.
+/// Returns a `Spill`, which says that a pointer is stored in the 8 cells from index `place` on.
 fn whole(place: usize, region: Region, offset: i32) -> Spill
     ensures { result ≡ Spill.Whole (place % 8) region offset }
 {

@@ -107,7 +107,7 @@ abbrev pub reduced_both : ℕ × ℕ → ℕ × ℕ → Option Pair → Option (
 reduced_both b c None = None
 reduced_both b c (Some e) = both (reduced e.0 b) (reduced e.1 c)
 
--- Narrows two compared sets to the case that the condition holds (`taken`) or does not hold. There is no result if that
+-- Narrows two compared sets to the case that the condition holds (`taken`) or does not hold. No result means that this
 -- is impossible.
 abbrev pub refined : Width → Condition → Bool → NumberSet → NumberSet → Option (NumberSet × NumberSet)
 refined w condition taken a b =

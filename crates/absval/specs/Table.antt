@@ -20,7 +20,7 @@ use Rattle.absval.specs.declared.value.AbsVal.TheVariants.{Unset, Number, Pointe
 
 -- ---- Where two paths meet
 
--- Returns the offsets from the least in both ranges to the greatest in both.
+-- Returns the smallest range of offsets that contains both ranges.
 abbrev pub joined_offsets : ℤ × ℤ → ℤ × ℤ → ℤ × ℤ
 joined_offsets m n = (int_min m.0 n.0, int_max m.1 n.1)
 

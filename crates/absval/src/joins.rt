@@ -85,7 +85,7 @@ fn join_pointer(region: Region, m: Offsets, b: AbsVal) -> AbsVal
     }
 }
 
-/// Returns the offsets from the least in both ranges to the greatest in both.
+/// Returns the smallest range of offsets that contains both ranges.
 fn joined(m: Offsets, n: Offsets) -> Offsets
     ensures low_left { result.0 ≤ℤ m.0 }
     ensures low_right { result.0 ≤ℤ n.0 }

@@ -171,8 +171,8 @@ impl NumberSet {
         whatever_bits(Width::W64, range)
     }
 
-    /// Narrows two sets of compared numbers to the case that the condition holds (`taken`) or does not hold. Returns
-    /// the sets that remain, or `None` if no pair of the numbers makes this case possible.
+    /// Narrows two sets of compared numbers to the case that the condition holds (`taken`) or does not hold. Every pair
+    /// of numbers in this case stays in the results. `None` means that there is no such pair.
     #[inline(always)]
     pub fn refine(
         width: Width,
@@ -246,7 +246,8 @@ fn goes_bit_by_bit(operation: Operation) -> bool
     }
 }
 
-/// Returns the set of the numbers in `range`, of which no bit within the width is known.
+/// Returns the set of the numbers in `range`, none of which may exceed the width. If there are several, no bit within
+/// the width is known.
 #[inline(always)]
 fn whatever_bits(width: Width, range: Range) -> NumberSet
     requires { range.1 < 2 ^ bits_of width }

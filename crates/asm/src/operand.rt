@@ -15,7 +15,8 @@ pub enum Raw {
     Number(Number),
 }
 
-/// The target of a jump: a distance in units, or a name, which is stored next to this value.
+/// How the target of a jump is written: as a distance in units of 8 bytes, or as a name. The name itself is not in this
+/// value, but stored with it.
 #[derive(Clone, Copy)]
 pub enum Aim {
     Away(Number),

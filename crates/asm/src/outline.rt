@@ -66,7 +66,7 @@ fn token(piece: &[u8]) -> Option<&[u8]>
 }
 
 /// Appends the operands in `text`, which commas separate, to `words`. Fails with `Line` if an operand is not a single
-/// word.
+/// word, or with `Memory`.
 fn push_operands<'a>(words: &mut Vec<&'a [u8]>, text: &'a [u8]) -> Result<(), LineError>
     ensures { GivesWords words.new.items result (tokens_on (map (λ r. r.now) words.old.items) (pieces comma text.now)) }
 {
@@ -82,7 +82,8 @@ fn push_operands<'a>(words: &mut Vec<&'a [u8]>, text: &'a [u8]) -> Result<(), Li
     Ok(())
 }
 
-/// Appends the mnemonic and the operands in `body` to `words`. Fails with `Line` if `body` does not have this form.
+/// Appends the mnemonic and the operands in `body` to `words`, which must be empty. Appends nothing if `body` is empty.
+/// Fails with `Line` if `body` does not have this form, and with `Memory`.
 #[tactic(auto, unfolding(crate::specs::Line::line_words))]
 fn push_words<'a>(words: &mut Vec<&'a [u8]>, body: &'a [u8]) -> Result<(), LineError>
     requires { words.old.items ≡ [] }
@@ -113,7 +114,7 @@ fn behind_first(text: &[u8]) -> &[u8]
 }
 
 /// Reads a line that begins with a name and a colon. Returns the name, and appends the mnemonic and the operands to
-/// `words`. Fails with `Line` if the line does not have this form.
+/// `words`, which must be empty. Fails with `Line` if the line does not have this form, or with `Memory`.
 #[tactic(auto, unfolding(crate::specs::Line::named))]
 fn read_named<'a>(words: &mut Vec<&'a [u8]>, code: &'a [u8]) -> Result<Option<&'a [u8]>, LineError>
     requires { words.old.items ≡ [] }
@@ -130,7 +131,7 @@ fn read_named<'a>(words: &mut Vec<&'a [u8]>, code: &'a [u8]) -> Result<Option<&'
 }
 
 /// Reads a line without its comment. Returns its name, or `None` if it has none, and appends the mnemonic and the
-/// operands to `words`. Fails with `Line` if the line does not have this form.
+/// operands to `words`, which must be empty. Fails with `Line` if the line does not have this form, or with `Memory`.
 #[tactic(auto, unfolding(crate::specs::Line::outlined))]
 fn read_outlined<'a>(
     words: &mut Vec<&'a [u8]>,

@@ -63,7 +63,8 @@ fn push_blanks(
     Ok(())
 }
 
-/// Appends a line with a question mark for each receiver of a label: each general who is not on it.
+/// Appends one line for each receiver of a label, which is each general who is not on the label. The line has a
+/// question mark in place of the order.
 fn push_receivers(
     alloc: Global,
     text: &mut String,

@@ -6,9 +6,11 @@ pub enum Obedience {
     Traitor,
     /// The commander is not named as a traitor, but did not send the same order to all lieutenants.
     Unlike,
-    /// The commander sent this order to all lieutenants, and each loyal lieutenant decides on it.
+    /// The commander is not named as a traitor and sent this order to all lieutenants, and each loyal lieutenant
+    /// decides on it.
     Obeyed(u32),
-    /// The commander sent this order to all lieutenants, but not each loyal lieutenant decides on it.
+    /// The commander is not named as a traitor and sent this order to all lieutenants, but not each loyal lieutenant
+    /// decides on it.
     Disobeyed(u32),
 }
 

@@ -7,7 +7,8 @@ pub fn tables_are_read()
     ensures { TablesAreRead }
 {}
 
-/// Does nothing. Its contract states that if all generals send the same order, each lieutenant decides on it.
+/// Does nothing. Its contract states that if all generals send the same order, each lieutenant decides on it by the
+/// majority rule.
 pub fn loyal_tables_decide()
     ensures { LoyalTablesDecide }
 {}

@@ -15,7 +15,8 @@ use std::alloc::{AllocError, Global};
 use tree::Tree;
 
 /// Returns the message table, as text, of a campaign with these numbers, this rule, and the messages that the
-/// lieutenants' trees contain. It is read back as a table with the same numbers, messages and decisions.
+/// lieutenants' trees contain. It is read back as a table with the same numbers, messages and decisions. There must be
+/// 2 to 13 generals. The bound must be at most 4 and at most `generals - 2`, and the commander one of the generals.
 ///
 /// # Errors
 ///

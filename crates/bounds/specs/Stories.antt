@@ -74,9 +74,9 @@ story_messages s c w p =
     let g : ℕ = last_general w in
     Some (if is_traitor_in s c g then held_order s c p (w ++ p ∷ []) else held_order s c g w)
 
--- States that in each story at most m generals are traitors, at least one lies, and all others are faithful. A
--- lieutenant of group 1 cannot distinguish the first two stories, and one of group 2 not the last two. The statement
--- is the contract of a function of this crate.
+-- States that in each story at most m generals are traitors, at least one is, and all others are faithful, if there are
+-- at least three generals and at most 3m. A lieutenant of group 1 cannot distinguish the first two stories, and one of
+-- group 2 not the last two. The statement is the contract of a function of this crate.
 pub record StoriesAreAdmissible : Type 0 where
   pub admissible : (s : Story) (n c m : ℕ) → IsTooFew n c m →
       IsAdmissible n c m (story_order s) (is_traitor_in s c) (story_messages s c)

@@ -19,8 +19,9 @@ pub fn om_is_decision_rule()
     ensures { OmIsDecisionRule }
 {}
 
-/// States that in each of the three stories the loyal generals are faithful, and 1 to m generals lie. A lieutenant of
-/// group 1 receives the same messages in the first two stories, and one of group 2 in the last two.
+/// States what holds in each of the three stories if there are at least three generals and at most 3m. The loyal
+/// generals are faithful, and 1 to m generals are traitors. A lieutenant of group 1 receives the same messages in the
+/// first two stories, and one of group 2 in the last two.
 pub fn stories_are_admissible()
     ensures { StoriesAreAdmissible }
 {}
@@ -44,7 +45,7 @@ pub fn bound_is_tolerable()
 {}
 
 /// States that with the majority rule, no loyal lieutenant obeys a loyal commander if k lieutenants deny his order.
-/// This needs at most 2k + m generals, and m must be at least 1.
+/// This needs at most 2k + m generals, and k and m must be at least 1.
 pub fn denial_breaks()
     ensures { DenialBreaks }
 {}

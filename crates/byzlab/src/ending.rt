@@ -45,7 +45,7 @@ impl Ending {
     ghost use Rattle.std.specs.Prelude.{◌≡◌, ◌≢◌, IfErr, OnErr, OnOk, false, true};
     ghost use Rattle.byzlab.specs.Failures.{IsStatus, status_said};
 
-    /// Returns the ending of a request with this exit status, for which no output failed.
+    /// Returns the ending of a run of `byzlab` that has this exit status and whose outputs were all written.
     fn with(status: u8) -> Ending
         ensures status { result.status ≡ status }
         ensures written { result.is_unwritten ≡ false }
@@ -243,8 +243,8 @@ impl<'a> Served<'a, Input<'a>, Target<'a>> {
     }
 }
 
-/// An exploration that was kept and printed, or for which it was reported that it was not. Only `Printed::of` makes
-/// this value. The proofs need the target: it is a snapshot, which takes no bytes at run time.
+/// Shows that an exploration was written to its files and printed, or that its failure was reported. Only
+/// `Printed::of` makes this value. The field `target` is only for proofs, and takes no bytes at run time.
 #[derive(Drop)]
 pub struct Printed<'a, O> {
     request: &'a TaskRequest,

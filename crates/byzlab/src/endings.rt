@@ -95,7 +95,7 @@ fn worse(first: u8, second: u8) -> u8
 }
 
 /// Returns the index of the first request whose output failed, now that the request with index `place` has ended.
-/// `before` is this index among the earlier requests.
+/// `before` is this index among the earlier requests. Either is `None` if there is no such request.
 fn first_unwritten(before: Option<usize>, place: usize, is_unwritten: bool) -> Option<usize>
     ensures { result ≡ first_unwritten before place is_unwritten }
 {

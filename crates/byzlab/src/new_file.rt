@@ -1,5 +1,5 @@
 //! A file that is written whole or not at all. Its bytes go to a new file next to it, and a flush gives this new file
-//! the old name.
+//! the old name. Devices, pipes, streams such as `/dev/stdout` and targets of broken links are written directly.
 ghost use Rattle.std.specs.Prelude.{◌≡◌, IfOk, IfSome, IsSomeAnd, None, true, string_bytes};
 ghost use Rattle.std.specs.Io.KnownBytes.{Keeps};
 ghost use Rattle.byzlab.specs.NewFiles.{IsRenamedTo, IsRenaming, is_stream, name_beside};
@@ -12,11 +12,11 @@ use std::fs::{
 };
 use std::io::{self, ErrorKind, Write};
 
-/// How many names for a new file are tried. A name is in use already only if another call writes the same file at the
-/// same time, or if a call was killed.
+/// One more than the number of names that are tried for a new file. The names end in 1 to 999. One is in use already
+/// only if another call writes the same file at the same time, or if a call was killed.
 const NAMES: u32 = 1000;
 
-/// A file that is being written, whole or not at all.
+/// A file that is being written. It is written whole or not at all, except if the bytes go to the file itself.
 #[derive(Drop)]
 pub struct NewFile<'a> {
     rt: &'a HostRuntime,
@@ -134,8 +134,8 @@ fn numbered<'a>(rt: &'a HostRuntime, to: &str, number: u32) -> io::Result<Option
     }
 }
 
-/// Creates a new file next to the file `to`, with the permissions of that file. If a file has the name of the new file
-/// already, it is left as it is, and the next name is tried.
+/// Creates a new file next to the file `to`. If `to` exists, tries to give the new file its permissions, and ignores it
+/// if this fails. If a file has the name of the new file already, it is left as it is, and the next name is tried.
 ///
 /// # Errors
 ///

@@ -33,7 +33,8 @@ impl<'a> ProgressLine<'a> {
         ProgressLine { rt, start, all }
     }
 
-    /// Clears the progress line, so that a shorter line can be written there.
+    /// Clears the progress line, so that a shorter line can be written there. Does nothing in the first second, or if
+    /// no progress is shown.
     ///
     /// # Errors
     ///
@@ -52,7 +53,7 @@ impl<'a> ProgressLine<'a> {
         stderr.flush()
     }
 
-    /// Shows how many files are done.
+    /// Shows how many files are done. Does nothing in the first second, or if no progress is shown.
     ///
     /// # Errors
     ///

@@ -58,7 +58,7 @@ pub fn note<D: Display + Drop>(rt: &HostRuntime, line: D) -> Noted<D, Stderr>
     noted_on(line, &mut rt.stderr())
 }
 
-/// Reports with this line that the task of the request is not done.
+/// Reports with this line that the task of the request is not done, and returns a record of the report.
 pub fn turn_down<D: Display + Drop>(
     rt: &HostRuntime,
     request: &TaskRequest,

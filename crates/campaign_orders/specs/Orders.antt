@@ -52,9 +52,9 @@ IsFrom K w zero order = order ≡ []
 IsFrom K w (suc k) [] = ⊥
 IsFrom K w (suc k) (names ∷ order) = IsRoundFrom K w names × IsFrom K (behind K w names) k order
 
--- States that complete runs with the same order of accesses are the same, and equal to the replay of that order. The
--- accesses of the replay come in this order. The orders are exactly the sequences that result from choosing, again and
--- again, which general makes the next access.
+-- States that complete runs with the same order of accesses end in the same world, as does the replay of that order.
+-- The accesses of the replay come in this order. The orders are exactly the sequences that result from choosing, again
+-- and again, which general makes the next access.
 pub record OrdersDecide (K : Kind) : Type 0 where
   pub worlds : (s : Scenario) (events others : List Event) → IsScenario s → IsComplete K s events →
       IsComplete K s others →

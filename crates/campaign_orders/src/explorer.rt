@@ -1,5 +1,5 @@
 //! Explores the orders in which a campaign's accesses can come. It follows all orders together, access by access, or
-//! plays the least ones separately.
+//! plays the first ones, in lexicographic order, one by one.
 ghost use Rattle.std.specs.Prelude.{◌≡◌, ◌↔◌, IsTrue, ◌<◌, ◌+◌, ◌-◌, ◌^◌, ℕ, All, IfOk, OnOk, MatchOption, true, false, length, slice_index_or, option_map, bytes_eq};
 ghost use Rattle.campaign_orders.specs.Entering.{entered};
 ghost use Rattle.campaign_orders.specs.Exploring.{Finding as Found, IsExploration, counted_in};
@@ -61,8 +61,8 @@ fn explore_all(alloc: Global, scenario: &Scenario) -> Result<Exploration, AllocE
     }
 }
 
-/// Returns the outcomes of all orders. It follows them together, access by access, and merges equal worlds. Fails with
-/// `AllocError` if it runs out of memory.
+/// Returns the outcomes of all orders. It follows them together, access by access, and merges alike worlds, from which
+/// the same outcomes follow. Fails with `AllocError` if it runs out of memory.
 fn explore_layers(alloc: Global, scenario: &Scenario) -> Result<Exploration, AllocError>
     ensures { IfOk result (λ exploration. IsExploration oral_kind oral_outcome scenario.now (2 ^ 64 - 1) exploration) }
 {

@@ -6,13 +6,14 @@ ghost use Rattle.campaign_orders.specs.Orders.{OrdersDecide};
 ghost use Rattle.campaign_orders.specs.Schedules.{OrdersAreSchedules};
 ghost use Rattle.world.specs.World.{oral_kind};
 
-/// States that complete runs with the same order of accesses are the same. It also states that the orders are exactly
-/// the sequences that result from choosing, again and again, which general makes the next access.
+/// States that complete runs with the same order of accesses end in the same world. It also states that the orders are
+/// exactly the sequences that result from choosing, again and again, which general makes the next access.
 pub fn orders_decide()
     ensures { OrdersDecide oral_kind }
 {}
 
-/// States that the list of orders contains every order of accesses exactly once, and nothing else.
+/// States that the list of orders contains exactly once every order of accesses in which no round has more than a given
+/// number of accesses, and nothing else.
 pub fn orders_are_listed()
     ensures { OrdersAreListed oral_kind }
 {}

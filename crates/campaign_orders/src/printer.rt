@@ -341,9 +341,9 @@ pub fn explored_with_schedules(
     Ok((text, schedules))
 }
 
-/// Explores all orders of accesses of an oral campaign, or the `most` least ones if there are more. Returns a text with
-/// the number of orders, and each outcome with a schedule that leads to it. If `most` is `u64::MAX`, all orders are
-/// explored.
+/// Explores all orders of accesses of an oral campaign. If there are more than `most`, it explores the first `most` in
+/// lexicographic order, by the generals who make the accesses. If `most` is `u64::MAX`, all are explored. Returns a
+/// text with the number of orders, and each outcome with a schedule that leads to it.
 ///
 /// # Errors
 ///

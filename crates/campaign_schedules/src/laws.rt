@@ -5,7 +5,8 @@ ghost use Rattle.campaign_schedules.specs.Reading.{SchedulesAreRead};
 use campaign_orders::recall_short;
 use round::Scenario;
 
-/// States that parsing the text of a schedule gives this schedule again.
+/// States that parsing the text of a schedule gives this schedule again. The schedule has at most 5 lines, and its text
+/// at most 1,048,576 bytes. Each entry names a general from 0 to 12, and a number of times from 1 to 4,096.
 pub fn schedules_are_read()
     ensures { SchedulesAreRead }
 {}

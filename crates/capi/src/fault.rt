@@ -10,7 +10,8 @@ use codec::CodecFault as Misspelling;
 use verify::Reason;
 
 /// Why a program is rejected, for C: the number of the fault, and the number of the unit (8 bytes) at which it is.
-/// Faults 1 to 8 are faults of the bytecode, C1 to C8. Faults 101 to 113 are the verifier's reasons, V1 to V13.
+/// Faults 1 to 8 are faults of the bytecode, C1 to C8. Faults 101 to 113 are the verifier's reasons, V1 to V13. If a
+/// call of a helper is not allowed, which is status 6, the number is that of the helper.
 #[repr(C)]
 #[derive(Clone, Copy, Drop)]
 pub struct NumberedFault {

@@ -200,7 +200,7 @@ fn unit_digits(digits: &[u8], unit: usize) -> &[u8]
 }
 
 /// Marks the name of the bytecode file in table `table` of the scenario or, if it has none, the name of the object
-/// file.
+/// file. Returns `None` if it has neither.
 fn bytes_shown(table: Option<usize>, own: &[u8]) -> Option<Mark<'_>>
     ensures { option_map mark_view result ≡ bytes_shown table own.now }
 {
@@ -288,7 +288,7 @@ fn key_told(
 }
 
 /// Marks the key `code` in table `table` of the scenario or, if it has none, the name of the bytecode file or object
-/// file.
+/// file. Returns `None` if it has none of them.
 fn code_shown(table: Option<usize>, own: &[u8]) -> Option<Mark<'_>>
     ensures { option_map mark_view result ≡ code_shown table own.now (own_line table (codes "code") own.now) }
 {
@@ -445,7 +445,8 @@ fn in_file() -> Found<'static>
 }
 
 /// Returns the line from which the lines of a program are counted, if its assembly is not in the scenario. It is a
-/// made-up line 0 for an assembly file, and otherwise the line with the key of the bytecode.
+/// made-up line 0 for an assembly file, and otherwise the line with the key of the bytecode or of the object file.
+/// Returns `None` if table `table` has none of these keys.
 fn file_source(table: Option<usize>, own: &[u8]) -> Option<Found<'_>>
     ensures { option_map found_view result ≡ file_source table own.now }
 {
@@ -462,7 +463,7 @@ fn file_source(table: Option<usize>, own: &[u8]) -> Option<Found<'_>>
 }
 
 /// Returns the line from which the lines of a program in table `table` are counted: the line with the program's key, or
-/// a made-up line 0 for an assembly file.
+/// a made-up line 0 for an assembly file. Returns `None` if the table has no such key.
 fn own_source(table: Option<usize>, own: &[u8]) -> Option<Found<'_>>
     ensures { option_map found_view result ≡ own_source table own.now }
 {
@@ -472,8 +473,8 @@ fn own_source(table: Option<usize>, own: &[u8]) -> Option<Found<'_>>
     }
 }
 
-/// Returns what follows the report of an error: the explanation of the program if the verifier rejects it, and
-/// otherwise an empty text.
+/// Returns what follows the report of an error: the explanation of the program if the verifier rejects it. Returns an
+/// empty text for any other error, and if `made`, the resolved scenario, does not contain the program.
 fn made_judged(
     alloc: Global,
     own: &str,

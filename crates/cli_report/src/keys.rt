@@ -168,7 +168,8 @@ pub(crate) fn shown_at<'a>(by_value: bool, word: &[u8], found: Found<'a>) -> Mar
 }
 
 /// Returns the line of the key `word` in traitor's table `index`, counted from 0. If the table has no such key, returns
-/// its header, and if there is no such header, the line of the key `traitor` at the top of the text.
+/// its header, and if there is no such header, the line of the key `traitor` at the top of the text. Returns `None` if
+/// there is no such line either.
 pub(crate) fn entry_line<'a>(index: usize, word: &[u8], text: &'a [u8]) -> Option<Found<'a>>
     ensures { option_map found_view result ≡ entry_line index word.now text.now }
 {

@@ -155,7 +155,7 @@ fn line_behind(text: &[u8], first: u64, more: u64) -> Option<(u64, &[u8])>
 }
 
 /// Returns the line of a program that begins where a line of the file begins, with its place. It ends before the
-/// quotation marks `quote`, if the line of the file has them.
+/// quotation marks `quote`, if the line of the file has them. Returns `None` if `line` is `None`.
 fn line_spot<'a>(quote: &[u8], line: Option<(u64, &'a [u8])>) -> Option<Spot<'a>>
     ensures { option_map spot_view result
         ≡ option_map (line_spot quote.now) (option_map (λ l. (l.0, l.1.now)) line.entry) }
@@ -171,6 +171,7 @@ fn line_spot<'a>(quote: &[u8], line: Option<(u64, &'a [u8])>) -> Option<Spot<'a>
 
 /// Returns line `number` of a program, with its place. The program is a TOML string over several lines, which ends at
 /// `quote`. `line` is the line of the program's key, and `rest` is what follows the opening quotation marks there.
+/// Returns `None` if the file has no such line.
 fn long_spot<'a>(
     text: &'a [u8],
     number: u64,
@@ -190,7 +191,7 @@ fn long_spot<'a>(
 }
 
 /// Returns line `number` of a program in the file `text`, with its place. `line` is the line of the file with the
-/// program's key.
+/// program's key. Returns `None` if the file has no such line.
 fn spot_in<'a>(text: &'a [u8], number: u64, line: Found<'a>) -> Option<Spot<'a>>
     ensures { option_map spot_view result ≡ spot_in text.now number (found_view line.entry) }
 {
@@ -204,7 +205,7 @@ fn spot_in<'a>(text: &'a [u8], number: u64, line: Found<'a>) -> Option<Spot<'a>>
 }
 
 /// Returns line `number` of a program in the file `text`, with its place. `line` is the line of the file with the
-/// program's key. If it is `None`, returns `None`.
+/// program's key. Returns `None` if `line` is `None`, or if the file has no such line.
 fn spot_of<'a>(text: &'a [u8], number: u64, line: Option<Found<'a>>) -> Option<Spot<'a>>
     ensures { option_map spot_view result
         ≡ option_and_then (spot_in text.now number) (option_map found_view line.entry) }
@@ -320,6 +321,7 @@ pub(crate) fn unit_shown<'a>(
 }
 
 /// Marks the key `asm` of this general's program or, if he has no such key, all of the line with the key `code`.
+/// Returns `None` if he has neither.
 fn source_shown(alloc: Global, general: u8, text: &[u8]) -> Result<Option<Mark<'_>>, AllocError>
     ensures { IfOk result (λ mark. option_map mark_view mark ≡ source_shown general text.now) }
 {
@@ -336,7 +338,7 @@ fn bytecode_shown(alloc: Global, general: u8, text: &[u8]) -> Result<Option<Mark
 }
 
 /// Marks what the verifier rejects in a general's program: the statement of unit `unit` in assembly, or the key of
-/// bytecode.
+/// bytecode. Returns `None` if the file `text` does not have it.
 fn refused_at<'a>(
     alloc: Global,
     text: &'a [u8],

@@ -284,7 +284,7 @@ fn entry_sentence(known: Option<&'static str>, word: &[u8]) -> &'static str
     }
 }
 
-/// Returns `known`, the key that is most similar to `word`, unless it is `word` itself.
+/// Returns `known`, the key that is most similar to `word` if there is one. Returns `None` if it is `word` itself.
 fn other_than(known: Option<&'static str>, word: &[u8]) -> Option<&'static str>
     ensures { option_map (λ k. k.now) result ≡ other_than (option_map (λ k. k.now) known.entry) word.now }
 {

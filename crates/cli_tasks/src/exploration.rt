@@ -11,8 +11,9 @@ use round::Scenario;
 use std::alloc::{AllocError, Global};
 
 /// Plays an oral campaign once for each sequence in which its accesses to the board can happen, and returns the
-/// outcomes as text. If there are more than `most` sequences, only the `most` least ones are counted. If `most` is
-/// `None`, all are counted. Time and memory then grow with the number of worlds that can go on differently.
+/// outcomes as text. If there are more than `most` sequences, only the first `most`, in lexicographic order, are
+/// counted. If `most` is `None`, all are counted. Time and memory then grow with the number of worlds that can go on
+/// differently.
 ///
 /// # Errors
 ///

@@ -69,7 +69,7 @@ pub fn disassembled_partly(
 }
 
 /// Disassembles code, even if it is not the bytecode of a program. The resulting text assembles to the same bytes.
-/// Fails if the number of bytes is not a multiple of 8.
+/// Fails with `Codec` if the number of bytes is not a multiple of 8, and with `Memory` if memory runs out.
 fn of_code(alloc: Global, bytes: &[u8]) -> Result<String, InputRefusal>
     ensures text { IfOk result (λ text. IsTextOf bytes.now (string_bytes text)) }
     ensures again { IfOk result (λ text. bytes_said (string_bytes text) ≡ Ok bytes.now) }

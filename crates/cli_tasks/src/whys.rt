@@ -94,7 +94,7 @@ fn campaign_again(alloc: Global, campaign: &Campaign, text: &[u8]) -> Result<Vec
 }
 
 /// Returns the report on a rejected line of a schedule or a chronicle. Returns an empty report if the file is neither,
-/// as `of` says, or if memory ran out.
+/// as `of` says, or if `error` is not about a line. Fails with `AllocError` if it runs out of memory.
 fn trace_told(
     alloc: Global,
     of: FileRole<'_>,
@@ -160,6 +160,7 @@ fn told_by(
 }
 
 /// Returns the failure of a task that rejects the file named `file` for the reason `refusal`, with `text` as the hint.
+/// There is no hint if the file is not UTF-8 or memory ran out: these are failures of their own, `Text` and `Memory`.
 fn with_text<'a>(refusal: InputRefusal, file: &'a str, text: String) -> TaskFailure<'a>
     ensures { result ≡ text_fault refusal file.entry text }
 {
@@ -171,7 +172,8 @@ fn with_text<'a>(refusal: InputRefusal, file: &'a str, text: String) -> TaskFail
 }
 
 /// Returns the failure of a task that rejects the file named `file` with the bytes `bytes`, with a report on the fault
-/// as the hint.
+/// as the hint. The report is empty for a fault that needs none. The failure is `Text`, without a hint, if the file is
+/// not UTF-8, and `Memory` if memory runs out.
 fn told<'a>(
     alloc: Global,
     of: FileRole<'_>,
@@ -201,9 +203,11 @@ fn is_reported(task: &Task, refusal: &InputRefusal) -> bool
     }
 }
 
-/// Returns the failure of a task that rejects its first file, without explaining a program. If the task must explain
-/// its errors, the hint is a report on `own`, the bytes in which the fault is located. Otherwise the hint only says
-/// what the bytes seem to be or why an ELF object is at fault, if either applies.
+/// Returns the failure of a task that rejects its first file, without explaining a program. If an ELF object has no
+/// code for the entry function, the hint says why. For another refusal, if the task must explain its errors, the hint
+/// is a report on `own`, the bytes in which the fault is located. Otherwise there is a hint only if `own` should be
+/// bytecode and is not: it says what these bytes seem to be. If memory ran out, or if the file is not UTF-8 text, there
+/// is never a hint.
 pub fn unjudged<'a>(
     alloc: Global,
     task: &Task,
@@ -221,7 +225,8 @@ pub fn unjudged<'a>(
 }
 
 /// Returns the failure of a task that rejects the second file, which has the name `file` and the bytes `bytes`. If
-/// `explained` is set, the hint is a report on the fault. Otherwise there is no hint.
+/// `explained` is set, the hint is a report on the fault, except if memory ran out or the file is not UTF-8 text.
+/// Otherwise there is no hint.
 pub fn later<'a>(
     alloc: Global,
     explained: bool,

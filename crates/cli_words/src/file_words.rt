@@ -121,8 +121,8 @@ fn parted<'a>(alloc: Global, flags: &[Flag], words: &[&'a str]) -> Result<Parts<
 }
 
 impl<'a> Parts<'a> {
-    /// Adds one more word: the value of an option if `is_value` is true, and otherwise a flag or the name of a file.
-    /// Returns whether the next word is the value of an option.
+    /// Adds one more word: the value of an option if `is_value` is true, and otherwise a flag or the name of a file,
+    /// but not `--`. Returns whether the next word is the value of an option.
     fn take(&mut self, flags: &[Flag], is_value: bool, word: &'a str) -> Result<bool, AllocError>
         requires { is_value ≡ false → bytes_eq word.now (codes "--") ≡ false }
         ensures { IfOk result (λ next. (rest : List Text) →

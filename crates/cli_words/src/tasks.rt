@@ -9,7 +9,8 @@ pub struct TaskRequest {
     pub task: Task,
     /// Whether the answer is printed as JSON Lines, with an object for each line.
     pub json: bool,
-    /// Whether the answer is printed as only one line, which begins with the file's name.
+    /// Whether the answer is printed as only one line, which begins with the file's name. With `json`, the line is an
+    /// object with the file's name as a member.
     pub verdicts: bool,
     /// Whether a scenario that names a file is refused, without opening the file.
     pub no_files: bool,
@@ -106,7 +107,7 @@ pub enum Task {
     },
     /// Draw the tree of what this general received, in a message table or in a campaign. The drawing has `depth` levels
     /// below the commander's, 0 to 4, and marks the lies of `traitors`. If `folded` is true, it omits the labels below
-    /// one if the same was received for all of them.
+    /// a label if the same was received for it and for all of them, and none is known to be a lie.
     Tree {
         file: String,
         general: u8,

@@ -13,8 +13,8 @@ pub trait Combine {
     fn combine(&self, orders: &[u32]) -> u32
         ensures { result ≡ combined self.now orders.now };
 
-    /// Combines at most 12 received orders and the general's own order, which is inserted at the index `place`.
-    /// Allocates no memory.
+    /// Combines at most 12 received orders and the general's own order into one order. The own order is inserted at the
+    /// index `place`, which is at most the number of received orders. Allocates no memory.
     fn combine_told(&self, told: &[u32], place: usize, own: u32) -> u32
         requires place { place ≤ length told.now }
         requires few { length told.now < 13 }

@@ -9,8 +9,8 @@ use absmem::AbsStack;
 use absval::{AbsVal, Window, window_of};
 use semantics::Region;
 
-/// Returns the sentence that says that an access may touch bytes outside its region, or `None` if `value` is not a
-/// pointer. `value` is what is known of the base register.
+/// Returns the sentence that says that an access may touch bytes outside its region. It is not checked that it may.
+/// `value` is what is known of the base register. Returns `None` if it is not a pointer.
 pub(crate) fn outside(reach: Reach, value: AbsVal) -> Option<Sentence>
     requires { reach.size ≤ 512 }
     ensures { result ≡ outside reach value }

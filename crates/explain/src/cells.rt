@@ -203,7 +203,7 @@ fn put_reach(
     put_window(alloc, out, here, window)
 }
 
-/// Checks whether the helper with this number is `send_row`, which reads orders from the stack.
+/// Checks whether the helper with this number is `send_row`, which reads orders from the stack or the context.
 fn is_row(number: i32) -> bool
     ensures { result ≡ is_row (helper_of number) }
 {

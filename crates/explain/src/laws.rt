@@ -7,7 +7,7 @@ pub fn refusals_are_told()
 {}
 
 /// Does nothing. Its contract says that if an edit is offered as a help, the verifier gets past the rejected
-/// instruction in the edited program.
+/// instruction in the edited program. It also says that the verifier accepts this program if the help says so.
 pub fn helps_mend()
     ensures { HelpsMend }
 {}

@@ -22,8 +22,9 @@ fn above(helper: Helper, r: Reg, numbers: NumberSet, most: u64) -> Option<Senten
     Some(Sentence::Call(Misfit::Above(helper, r, value, most)))
 }
 
-/// Returns the sentence that says that the argument in register `r` is rejected, or `None` if it is accepted. The
-/// helper accepts a number up to its limit or, if it has no limit, a pointer. `value` is what is known of the argument.
+/// Returns the sentence that says that the argument in register `r` is rejected. The helper accepts a number up to its
+/// limit or, if it has no limit, a pointer. `value` is what is known of the argument. Returns `None` if the argument is
+/// accepted, or if it should be a pointer and may be unset.
 fn misfit_of(helper: Helper, r: Reg, argument: Argument, value: AbsVal) -> Option<Sentence>
     ensures { result ≡ misfit_of helper r (bound_of argument) value }
 {
@@ -36,7 +37,7 @@ fn misfit_of(helper: Helper, r: Reg, argument: Argument, value: AbsVal) -> Optio
 }
 
 /// Returns the sentence that says that the argument in register `r` is rejected. Returns `None` if the helper accepts
-/// it, or takes no argument there.
+/// it, if it should be a pointer and may be unset, or if the helper takes no argument there.
 fn misfit_at(
     helper: Helper,
     state: &AbsState,
@@ -49,8 +50,9 @@ fn misfit_at(
     misfit_of(helper, r, argument, state.known(r))
 }
 
-/// Returns the sentence that says that the words from a slot on may go past the end of the board, which has 64.
-/// `counts` is what is known of their number. Returns `None` if slot or count is not known to be a number up to 64.
+/// Returns the sentence that says that the words from a slot on may go past the end of the board, which has 64. It is
+/// not checked that they may. `counts` is what is known of their number. Returns `None` if slot or count is not known
+/// to be a number up to 64.
 fn past_board(slots: AbsVal, counts: AbsVal) -> Option<Sentence>
     ensures { result ≡ past_board slots counts }
 {
@@ -68,7 +70,8 @@ fn past_board(slots: AbsVal, counts: AbsVal) -> Option<Sentence>
 }
 
 /// Returns the sentence that says that the arguments of a call are rejected: the first that the helper does not accept
-/// or, if it accepts each, that slot and count together go past the end of the board.
+/// or, if there is none, that slot and count together may go past the end of the board. Returns `None` if there is
+/// none, and r1 or r3 is not known to be a number up to 64.
 fn arguments_misfit(
     helper: Helper,
     state: &AbsState,
@@ -91,7 +94,7 @@ fn arguments_misfit(
 }
 
 /// Returns the sentence that says that a helper does not accept the arguments of a call. Returns `None` if the
-/// instruction is not a call of a helper.
+/// instruction is not a call of a helper, or if no sentence fits its arguments.
 pub(crate) fn call_misfit(insn: &Insn, state: &AbsState) -> Option<Sentence>
     ensures { result ≡ call_misfit insn.now state.now.registers }
 {
@@ -102,8 +105,8 @@ pub(crate) fn call_misfit(insn: &Insn, state: &AbsState) -> Option<Sentence>
     arguments_misfit(helper, state, helper::arguments(helper))
 }
 
-/// Returns the sentence that says that no helper has the number that an instruction calls. Returns `None` if the
-/// instruction is not a call.
+/// Returns the sentence that says that no helper has the number that an instruction calls. It is not checked that none
+/// has. Returns `None` if the instruction is not a call.
 pub(crate) fn no_helper(insn: &Insn) -> Option<Sentence>
     ensures { result ≡ no_helper insn.now }
 {

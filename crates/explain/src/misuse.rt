@@ -124,7 +124,8 @@ fn store_misuse(state: &AbsState, base: Reg, source: Option<Reg>) -> Option<Sent
     }
 }
 
-/// Returns the sentence that says that an instruction misuses a pointer. Returns `None` if it does not.
+/// Returns the sentence that says how an instruction misuses a pointer, if the verifier rejects it for this reason. For
+/// other instructions the sentence can be wrong. Returns `None` if no sentence fits the instruction.
 pub(crate) fn pointer_misuse(insn: &Insn, state: &AbsState) -> Option<Sentence>
     ensures { result ≡ pointer_misuse insn.now state.now.registers }
 {

@@ -95,8 +95,9 @@ fn far(pointer: Start, operand: Operand, numbers: NumberSet) -> Option<Sentence>
     Some(Sentence::Register(RegisterMisuse::Far(pointer.dst, pointer.region, span)))
 }
 
-/// Returns the sentence that says that a sum or difference of a pointer and a number is rejected. Returns `None` if the
-/// operation is not one, or its operands are not a pointer and then a number.
+/// Returns the sentence that says that a sum or difference of a pointer and a number is rejected. It is not checked
+/// that it is. Returns `None` if the operation is not one, if its operands are not a pointer and then a number, or if
+/// the number may be above or below 0 and is not in a register.
 pub(crate) fn sum_misuse(
     how: (Width, Operation),
     dst: Reg,

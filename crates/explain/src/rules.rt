@@ -169,8 +169,8 @@ fn is_operand(r: Reg, operand: Operand) -> bool
     }
 }
 
-/// Returns why the verifier learns nothing about register `r` from an instruction that tests or copies it. Returns
-/// `None` if it learns something, or the instruction does neither. `value` is what is known of `r`.
+/// Returns why the verifier learns nothing about register `r` from an instruction: it is a test for which the number
+/// may be too great, or a copy of `r`. Returns `None` if it is neither. `value` is what is known of `r`.
 pub(crate) fn passed_by(r: Reg, insn: &Insn, value: AbsVal) -> Option<Passing>
     ensures { result ≡ passed_by r insn.now value }
 {

@@ -11,8 +11,8 @@ use helper::reads::{numbered, read_by};
 use insn::Insn;
 use verify::{AbsState, Reason};
 
-/// Returns the sentence that says that an instruction accesses bytes outside a region, or `None` if it makes no access
-/// by a pointer.
+/// Returns the sentence that says that an instruction accesses bytes outside a region. It is not checked that it does.
+/// Returns `None` if it makes no access by a pointer.
 fn outside_of(insn: &Insn, state: &AbsState) -> Option<Sentence>
     ensures { result ≡ reached outside insn.now state.now.registers }
 {
@@ -29,7 +29,8 @@ fn empty_of(insn: &Insn, state: &AbsState) -> Option<Sentence>
     empty_cell(&state.stack, reach, state.known(reach.base))
 }
 
-/// Returns the sentence that says that an instruction stores to the context, or `None` if it makes no access.
+/// Returns the sentence that says that an instruction stores to the context. It is not checked that it does. Returns
+/// `None` if it makes no access.
 fn written_of(insn: &Insn, state: &AbsState) -> Option<Sentence>
     ensures { result ≡ reached context_written insn.now state.now.registers }
 {

@@ -13,7 +13,8 @@ pub fn texts_are_visible()
     ensures { TextsAreVisible }
 {}
 
-/// States that each part of a page, such as a heading or a table, is well-formed XML content, whatever text it shows.
+/// States that each part of a page, such as a heading or a table, is well-formed XML content if the parts inside it
+/// are. The text that it shows may be any text.
 pub fn parts_are_content()
     ensures { PartsAreContent }
 {}

@@ -4,7 +4,8 @@ use Rattle.std.specs.Prelude.{ℕ, suc, ◌+◌, ◌-◌, ◌*◌, ◌<◌, ◌�
 use Rattle.label.specs.Labels.{on, others, labels}
 use Rattle.label.specs.Oral.{IsLabel, Messages, taken, om}
 
--- States that the list of labels of k generals contains exactly the labels of this length that p is not on.
+-- States that the list of labels of k generals contains exactly the labels of this length that the lieutenant p is not
+-- on.
 pub record LabelsAreExact : Type 0 where
   pub only : (n c p k r : ℕ) (w : List ℕ) → c < n → p < n → p ≢ c → slice_get (labels n c p k) r ≡ Some w →
       IsLabel n c w × (on w p ≡ false) × (length w ≡ k)

@@ -2,7 +2,7 @@
 //! contract is the law.
 ghost use Rattle.label.specs.Laws.{ChildrenStand, DecisionsReadOwn, LabelsAreCounted, LabelsAreExact, LabelsAscend, LabelsDiffer, LevelsDecide};
 
-/// States that the list of labels of a given length contains exactly the labels of this length that a given general
+/// States that the list of labels of a given length contains exactly the labels of this length that a given lieutenant
 /// is not on.
 pub fn labels_are_exact()
     ensures { LabelsAreExact }

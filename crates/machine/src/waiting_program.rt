@@ -54,7 +54,8 @@ impl Waiting {
         self.machine.steps()
     }
 
-    /// Continues the program with the board's reply. It must have as many words as the request asks for.
+    /// Gives the program the board's reply to its request, and returns it as an activation that can be run further. The
+    /// reply must have as many words as the request asks for.
     pub fn answer(self, reply: Reply) -> Activation
         requires fits { fits self.request (words_in reply) ≡ true }
         ensures relay { result.relay ≡ self.standing.relay }

@@ -11,7 +11,7 @@ use std::alloc::{AllocError, Global};
 
 /// Replaces `bytes` by the context of a general in one round of a campaign with this bound. `shape` has the general,
 /// the round and the other numbers of the campaign. `values` are the orders that he took for the labels that he relays,
-/// in the order of their ranks.
+/// in the order of their ranks. There may be at most 1,000 of them.
 ///
 /// The vector must have room for 4,096 bytes, so that nothing is allocated. A general relays at most 990 labels, with
 /// 13 generals in round 5 (11 * 10 * 9), and there is room for 1,016 orders.
@@ -40,8 +40,8 @@ pub fn write_context(bytes: &mut Vec<u8>, shape: Shape, bound: u8, values: &[u32
     };
 }
 
-/// Returns a context that begins with the eight numbers of `header`, then has `numbers`, and then zeros up to 4,096
-/// bytes. All numbers take 4 bytes.
+/// Returns a context that begins with the eight numbers of `header`, then has the at most 1,000 numbers of `numbers`,
+/// and then zeros up to 4,096 bytes. All numbers take 4 bytes.
 ///
 /// # Errors
 ///

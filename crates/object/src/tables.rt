@@ -133,7 +133,8 @@ fn lines_section(object: &[u8]) -> usize
     section_named(object, b".debug_line")
 }
 
-/// Returns the bytes of the section .debug_line, or no bytes if there is no such section or it has more than 65,536.
+/// Returns the bytes of the section .debug_line, or no bytes if it has more than 65,536. If there is no such section,
+/// returns those of section 0, which has none in a valid object.
 pub fn lines_in(object: &[u8]) -> &[u8]
     ensures read { result.now ≡ lines_in object.now }
     ensures bound { length result.now ≤ 65536 }
@@ -141,15 +142,16 @@ pub fn lines_in(object: &[u8]) -> &[u8]
     bytes_of(object, lines_section(object))
 }
 
-/// Returns the bytes of the section .debug_line_str, or no bytes if there is no such section or it has more than
-/// 65,536.
+/// Returns the bytes of the section .debug_line_str, or no bytes if it has more than 65,536. If there is no such
+/// section, returns those of section 0, which has none in a valid object.
 pub fn line_strings_in(object: &[u8]) -> &[u8]
     ensures { result.now ≡ line_strings_in object.now }
 {
     bytes_of(object, section_named(object, b".debug_line_str"))
 }
 
-/// Returns the bytes of the section .debug_str, or no bytes if there is no such section or it has more than 65,536.
+/// Returns the bytes of the section .debug_str, or no bytes if it has more than 65,536. If there is no such section,
+/// returns those of section 0, which has none in a valid object.
 pub fn strings_in(object: &[u8]) -> &[u8]
     ensures { result.now ≡ strings_in object.now }
 {

@@ -30,8 +30,8 @@ impl Model for Signing {
 }
 
 impl Signing {
-    /// Returns the contents without entries, for a general who holds chains with these signers. Fails with `AllocError`
-    /// if it runs out of memory.
+    /// Returns a signed outbox without entries. Each number of `held` has the signers of one chain that the general
+    /// holds: bit `g` is for general `g`. Fails with `AllocError` if it runs out of memory.
     pub fn new(alloc: Global, held: &[u16]) -> Result<Signing, AllocError>
         ensures { IfOk result (λ signing. signing ≡ record { held = held.now; entries = [] }) }
     {

@@ -1,6 +1,6 @@
 -- What a conditional jump implies about the two numbers that it compared, which are in the intervals p and q. There
--- is one edge on which the jump is taken, and one on which it is not. The result is None if no pair of numbers goes
--- along the edge.
+-- is one edge on which the jump is taken, and one on which it is not. None means that no pair of numbers goes along the
+-- edge.
 use Rattle.std.specs.Prelude.{ℕ, ◌+◌, ◌-◌, ◌^◌, min, max, Bool, true, false, not, ◌&&◌, ◌==◌, nat_lt, nat_le, if◌then◌else◌, Option, Some, None}
 use Rattle.word.specs.Arithmetic.{bits_of}
 use Rattle.word.specs.declared.Width.{Width}

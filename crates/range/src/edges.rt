@@ -108,7 +108,7 @@ fn edge_where(condition: Condition, a: Range, b: Range) -> Option<(Range, Range)
     }
 }
 
-/// Exchanges the two ranges of a pair.
+/// Exchanges the two ranges of a pair. Returns `None` if there is no pair.
 fn turned(pair: Option<(Range, Range)>) -> Option<(Range, Range)>
     ensures exact { result ≡ exchanged pair }
     ensures holds { (x y : ℕ) → HoldBoth pair y x → HoldBoth result x y }
@@ -148,7 +148,8 @@ fn where_different(a: Range, b: Range) -> Option<(Range, Range)>
     Some((less_number(a, b), less_number(b, a)))
 }
 
-/// Removes the only number of `b` from `a`, if it is an end of `a`. Returns `a` if `b` has several numbers.
+/// Removes the only number of `b` from `a`, if it is an end of `a`. Returns `a` if `b` has several numbers, or if its
+/// only number is not an end of `a`. The two ranges must not be the same single number.
 #[inline(always)]
 fn less_number(a: Range, b: Range) -> Range
     requires { a.0 ≡ b.1 → b.0 ≢ a.1 }

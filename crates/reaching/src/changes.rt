@@ -13,7 +13,8 @@ use insn::{Insn, Program};
 use std::alloc::{AllocError, Global};
 use verify::AbsState;
 
-/// For one cell of the stack, a flag for each unit of a program: whether the instruction at this unit sets the cell.
+/// For one cell of the stack, a flag for each unit of a program: whether the instruction at this unit sets the cell,
+/// which means that it changes what is known of the cell.
 #[derive(Drop)]
 pub struct Column {
     pub changed: Vec<bool>,
@@ -87,8 +88,8 @@ fn changed_in(cell: u16, state: Option<&AbsState>, behind: Option<&AbsStack>) ->
     !held_at(&state.stack, place).is_same(held_at(behind, place))
 }
 
-/// Checks whether the instruction at a unit sets a cell. `stacks` has an entry for each unit: the abstract stack after
-/// its instruction.
+/// Checks whether the instruction at a unit sets a cell, which means that it changes what is known of the cell.
+/// `stacks` has an entry for each unit: the abstract stack after its instruction.
 fn sets_cell(
     program: &Program,
     states: &[Option<AbsState>],
@@ -124,7 +125,8 @@ fn flags_of(
 }
 
 /// Returns a column for each of the 512 cells of the stack, from the lowest on. It says for each unit of the program
-/// whether its instruction sets the cell. `states` has what is known before each unit. Fails if memory runs out.
+/// whether its instruction sets the cell, which means that it changes what is known of the cell. `states` has what is
+/// known before each unit. Fails if memory runs out.
 pub fn columns(
     alloc: Global,
     program: &Program,

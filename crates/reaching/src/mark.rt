@@ -9,7 +9,7 @@ pub enum UnitMark {
     /// The value before this unit can reach the given unit: the instruction keeps it, and a path leads there on which
     /// it is kept.
     Open,
-    /// The instruction of this unit sets the register or cell, and a path leads to the given unit on which this value
-    /// is kept.
+    /// The instruction of this unit writes the register or changes what is known of the cell, and a path leads to the
+    /// given unit on which this value is kept.
     Sets,
 }

@@ -39,7 +39,8 @@ fn changes(insn: &Insn, cell: u16, state: &AbsState) -> bool
 }
 
 impl Subject {
-    /// Checks whether an instruction sets the register or cell. `state` is known before the instruction.
+    /// Checks whether an instruction sets the register or cell: whether it writes the register, or changes what is
+    /// known of the cell. A call writes r0 to r5. `state` is known before the instruction.
     pub fn is_set_by(&self, insn: &Insn, state: &AbsState) -> bool
         ensures { result ≡ sets self.now insn.now state.now }
     {

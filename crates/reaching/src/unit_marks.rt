@@ -79,7 +79,7 @@ pub fn marks(
 }
 
 /// Returns the mark of a unit, which says what its instruction does to a cell of the stack. `changed` says whether it
-/// sets the cell, and `behind` has the marks of all later units.
+/// changes what is known of the cell, and `behind` has the marks of all later units.
 fn cell_mark_of(
     cell: u16,
     changed: bool,

@@ -40,8 +40,9 @@ fn is_spent(files: &[LoadedFile], table: &Table, key: &str) -> bool
         && program(files, table, "elf").is_some()
 }
 
-/// Copies an entry of the traitor's table `table` into `done`. If the entry names a file, copies the program instead.
-/// If it is `generals` and a general is given, copies the key `general` with him instead.
+/// Copies an entry of the traitor's table `table` into `done`. If the entry names a file that was read, copies its
+/// program instead. Copies nothing for the key `entry` of an object file that was read. If the key is `generals` and a
+/// general is given, copies the key `general` with him instead.
 ///
 /// # Errors
 ///

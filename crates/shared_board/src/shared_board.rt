@@ -71,8 +71,8 @@ pub struct SharedBoard<J: Room> {
 }
 
 impl<J: Room> SharedBoard<J> {
-    /// Shares a board under the name `J`. Returns the shared board, and one witness (a permission to make accesses)
-    /// for each of the `threads` threads.
+    /// Shares a board. The type `J` names it, so that no witness of another board fits. Returns the shared board, and
+    /// one witness (a permission to make accesses) for each of the `threads` threads.
     ///
     /// # Errors
     ///

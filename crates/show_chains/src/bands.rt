@@ -169,8 +169,9 @@ fn put_row_text(out: &mut String, stroke: &ChainStroke) -> Result<(), AllocError
     put_text_end(out)
 }
 
-/// Appends a stroke's row in the list of what the receiver received. The list begins at height `top`. Fails with
-/// `AllocError` if memory runs out.
+/// Appends the row of a stroke to the list of what its receiver received. A stroke shows all chains with one order that
+/// one general sent or withheld from another in a round. The list begins at height `top`. Fails with `AllocError` if
+/// memory runs out.
 fn put_row(out: &mut String, top: u128, stroke: &ChainStroke) -> Result<(), AllocError>
     requires { top < 2 ^ 100 }
     ensures { OnOk result (string_bytes out.new ≡ string_bytes out.old ++ row top stroke.now) }

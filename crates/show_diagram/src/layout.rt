@@ -82,7 +82,8 @@ pub(crate) fn access_top(before: usize, place: usize) -> u128
     16 + 20 * place.saturating_sub(before) as u128
 }
 
-/// Returns the y coordinate within a round's band at which its strokes begin, below its accesses.
+/// Returns the y coordinate, from the top of a round's band, at which the lines for its messages begin. They are below
+/// its accesses.
 pub fn fan_top(accesses: &[Access], round: u32) -> u128
     ensures value { result ≡ fan_top accesses.now round }
     ensures small { result < 2 ^ 80 }

@@ -85,7 +85,8 @@ pub fn put_mores(
     Ok(())
 }
 
-/// Appends how many strokes of round `before + 1` are left out, below each list of that round.
+/// Appends, below each receiver's list of round `before + 1`, how many strokes of this list are not drawn. Appends
+/// nothing below a list of which all strokes are drawn.
 fn put_mores_in(
     out: &mut String,
     generals: u8,

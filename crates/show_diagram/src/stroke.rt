@@ -1,6 +1,7 @@
 //! Defines the strokes of a diagram, which show what one general sent another in a round.
 
-/// A stroke, drawn as a line: equal messages that one general sent another in one round.
+/// A stroke, drawn as a line: the equal messages from one general to another in one round. All have the same order, or
+/// none of them was sent, and all have the same `differs`.
 #[derive(Clone, Copy, Drop)]
 pub struct Stroke {
     /// The round, counted from 1.

@@ -145,7 +145,8 @@ program_if room g (Some program) = program_told room g program
 abbrev pub program_part : ℕ → Scenario → ℕ → List ℕ
 program_part room s g = program_if room g (program_of s g)
 
--- Writes the programs of all traitors. The explanation of each program may have `room` bytes.
+-- Writes the programs of all traitors. If the explanation of a program has more than `room` bytes, a paragraph in its
+-- place says where to find it.
 abbrev pub each_program : ℕ → Scenario → List ℕ
 each_program room s = flat_map (program_part room s) (range_with_len 0 s.generals)
 
@@ -187,7 +188,8 @@ abbrev pub diagram_section : MessageTable → Chronicle → Section
 diagram_section t c = picture_section (is_wide c.scenario c.accesses) (svg_text t c)
 
 -- Returns how a page shows the trees of the lieutenants: with two levels of labels below the commander's. The labels
--- below a label are left out if the lieutenant received the same for all of them.
+-- below a label are left out if the lieutenant received the same for it and for all of them, and none is known to be a
+-- lie.
 abbrev pub view_of : Scenario → View
 view_of s = record { depth = 2; folds = true; order = Some s.order }
 

@@ -72,7 +72,8 @@ fn programs_shared(alloc: Global, scenario: &Scenario, bytes: usize) -> Result<S
     each_program(alloc, scenario, share(scenario.generals()))
 }
 
-/// Returns the HTML of all traitors' programs. The explanation of each program may have `room` bytes.
+/// Returns the HTML of all traitors' programs. If the explanation of a program has more than `room` bytes, a paragraph
+/// in its place says where to find it.
 fn each_program(alloc: Global, scenario: &Scenario, room: usize) -> Result<String, AllocError>
     ensures { IfOk result (λ told. string_bytes told ≡ each_program room scenario.now) }
 {
@@ -89,7 +90,8 @@ fn no_programs() -> &'static str
     "None: all generals are loyal."
 }
 
-/// Appends the HTML of all traitors' programs. The explanation of each program may have `room` bytes.
+/// Appends the HTML of all traitors' programs. If the explanation of a program has more than `room` bytes, a paragraph
+/// in its place says where to find it.
 fn put_each_program(
     alloc: Global,
     out: &mut String,
@@ -105,8 +107,8 @@ fn put_each_program(
     Ok(())
 }
 
-/// Appends the HTML of a traitor's program, whose explanation may have `room` bytes. Appends nothing for a loyal
-/// general.
+/// Appends the HTML of a traitor's program. If its explanation has more than `room` bytes, a paragraph in its place
+/// says where to find it. Appends nothing for a loyal general.
 fn put_program_of(
     alloc: Global,
     out: &mut String,
@@ -123,7 +125,8 @@ fn put_program_of(
     }
 }
 
-/// Appends the HTML of this general's program, whose explanation may have `room` bytes.
+/// Appends the HTML of this general's program. If its explanation has more than `room` bytes, a paragraph in its place
+/// says where to find it.
 fn put_program(
     alloc: Global,
     out: &mut String,
@@ -259,7 +262,8 @@ fn put_lieutenant_of<H: Heard>(
 }
 
 /// Returns how a page shows the trees of the lieutenants: with two levels of labels below the commander's, and with the
-/// commander's order. The labels below a label are left out if the lieutenant received the same for all of them.
+/// commander's order. The labels below a label are left out if the lieutenant received the same for it and for all of
+/// them, and none is known to be a lie.
 fn view_of(scenario: &Scenario) -> View
     ensures { result ≡ view_of scenario.now }
 {

@@ -16,7 +16,8 @@ use Rattle.show_tree.specs.declared.node.View.{View}
 use Rattle.show_tree.specs.Shown.{nodes_of}
 use Rattle.show_tree.specs.Words.{words}
 
--- Writes the attributes of a box that is a lie, or whose sender is a commander named as a traitor.
+-- Writes the attributes of a box that is a lie, or whose sender is a commander who is named as a traitor and whose
+-- given order is not known.
 abbrev pub mark_style : Trust → List ℕ
 mark_style Honest = []
 mark_style Traitor = codes ", shape=octagon"

@@ -11,7 +11,7 @@ use Rattle.show_tree.specs.declared.node.Node.{Node}
 use Rattle.show_tree.specs.Facts.{is_honest}
 use Rattle.show_tree.specs.Rows.{row_end, row_start, shape}
 
--- Returns whether a message is from a commander who is named as a traitor, whose order is not known.
+-- Returns whether a message is from a commander who is named as a traitor and whose given order is not known.
 abbrev pub is_word : Trust → Bool
 is_word Traitor = true
 is_word _ = false
@@ -30,7 +30,8 @@ is_divided _ = false
 abbrev pub has_circle : Node → Bool
 has_circle node = is_honest node.mark
 
--- Returns whether a label is drawn as a square: its message is from a commander who is named as a traitor.
+-- Returns whether a label is drawn as a square: its message is from a commander who is named as a traitor and whose
+-- given order is not known.
 abbrev pub has_square : Node → Bool
 has_square node = is_word node.mark
 

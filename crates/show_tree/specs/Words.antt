@@ -24,7 +24,8 @@ abbrev pub outcome_words : List ℕ → Option Outcome → List ℕ
 outcome_words stop None = []
 outcome_words stop (Some outcome) = stop ++ list_words outcome
 
--- Writes that a message is a lie, or from a commander named as a traitor, or nothing if no lie is known.
+-- Writes that a message is a lie, or that it is by a traitor, if it is from a commander who is named as a traitor and
+-- whose given order is not known. Writes nothing if no lie is known.
 abbrev pub mark_words : List ℕ → Trust → List ℕ
 mark_words stop Honest = []
 mark_words stop Traitor = stop ++ codes "by a traitor"

@@ -11,8 +11,9 @@ use combine::Outcome;
 use std::alloc::{AllocError, Global};
 
 /// Returns the tree of what the lieutenant `general` received, as a graph for Graphviz. Each label that is shown is a
-/// box. A lie is an octagon, and so is the message of a commander who is named as a traitor. The outline is dashed if
-/// no order has a majority in the label's list, and doubled if labels that extend it are not shown.
+/// box. A lie is an octagon. So is the message of a commander who is named as a traitor, if it is not known which order
+/// he was given. The outline is dashed if no order has a majority in the label's list, and doubled if labels that
+/// extend it are not shown.
 ///
 /// # Errors
 ///
@@ -117,8 +118,8 @@ fn put_edge(out: &mut String, label: &[u8]) -> Result<(), AllocError>
     out.push_str("\";\n")
 }
 
-/// Returns the attributes of a box whose message is a lie, or is from a commander named as a traitor. They are empty
-/// for other messages.
+/// Returns the attributes of a box whose message is a lie, or is from a commander who is named as a traitor and whose
+/// given order is not known. They are empty for other messages.
 fn mark_style(mark: Trust) -> &'static str
     ensures { result.now ≡ mark_style mark }
 {

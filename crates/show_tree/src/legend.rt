@@ -28,8 +28,8 @@ fn any_circle(nodes: &[Node]) -> bool
     nodes.iter().any(|node| has_circle(node))
 }
 
-/// Checks whether any of these labels is drawn as a square: its message is from a commander who is named as a
-/// traitor.
+/// Checks whether any of these labels is drawn as a square: its message is from a commander who is named as a traitor,
+/// and it is not known which order he was given.
 fn any_square(nodes: &[Node]) -> bool
     ensures { result ≡ list_any has_square nodes.now }
 {
@@ -85,8 +85,8 @@ fn has_dashed_circle(node: &Node) -> bool
     has_dashes(node) && has_circle(node)
 }
 
-/// Checks whether a label is drawn as a dashed square: a commander named as a traitor sent it, and no order has a
-/// majority.
+/// Checks whether a label is drawn as a dashed square: its message is from a commander who is named as a traitor, it is
+/// not known which order he was given, and no order has a majority.
 fn has_dashed_square(node: &Node) -> bool
     ensures { result ≡ has_dashed_square node.now }
 {
@@ -100,7 +100,8 @@ fn has_circle(node: &Node) -> bool
     is_honest(node.mark)
 }
 
-/// Checks whether a label is drawn as a square: its message is from a commander who is named as a traitor.
+/// Checks whether a label is drawn as a square: its message is from a commander who is named as a traitor, and it is
+/// not known which order he was given.
 fn has_square(node: &Node) -> bool
     ensures { result ≡ has_square node.now }
 {

@@ -8,7 +8,8 @@ use label::Label;
 pub struct DrawnMarks {
     /// Whether any label is drawn as a circle: its message is not known to be a lie.
     pub circle: bool,
-    /// Whether any label is drawn as a square: its message is from a commander who is named as a traitor.
+    /// Whether any label is drawn as a square: its message is from a commander who is named as a traitor, and it is not
+    /// known which order he was given.
     pub square: bool,
     /// Whether any label is drawn as a diamond: its message is a lie.
     pub diamond: bool,

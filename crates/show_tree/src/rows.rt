@@ -180,8 +180,8 @@ pub(crate) fn put_shape(
     )
 }
 
-/// Returns the CSS class of a shape: `told` if no lie is known, `word` for a commander named as a traitor, and `lie`
-/// for a lie.
+/// Returns the CSS class of a shape: `told` if no lie is known, and `lie` for a lie. It is `word` for a commander who
+/// is named as a traitor if it is not known which order he was given.
 fn kind(mark: Trust) -> &'static str
     ensures { result.now ≡ kind mark }
 {
@@ -203,8 +203,8 @@ fn outcome_class(outcome: Option<Outcome>) -> &'static str
     }
 }
 
-/// Returns the path data of a shape: a circle if no lie is known, a square for a commander named as a traitor, and a
-/// diamond for a lie.
+/// Returns the path data of a shape: a circle if no lie is known, and a diamond for a lie. It is a square for a
+/// commander who is named as a traitor if it is not known which order he was given.
 fn outline(mark: Trust) -> &'static str
     ensures { result.now ≡ outline mark }
 {

@@ -12,9 +12,10 @@ use std::alloc::{AllocError, Global};
 /// The least width of a picture in SVG units, which leaves room for the heading and the legend.
 const LEAST: u128 = 300;
 
-/// Returns the tree of what the lieutenant `general` received, in SVG. Each label that is shown is a circle. A square
-/// is the message of a commander who is named as a traitor, and a diamond is a lie. The outline is dashed if no order
-/// has a majority in the label's list.
+/// Returns the tree of what the lieutenant `general` received, in SVG. Each label that is shown is a circle if no lie
+/// is known, and a diamond if its message is a lie. It is a square if its message is from a commander who is named as a
+/// traitor, and it is not known which order he was given. The outline is dashed if no order has a majority in the
+/// label's list.
 ///
 /// # Errors
 ///

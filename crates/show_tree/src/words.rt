@@ -67,8 +67,8 @@ fn put_outcome(out: &mut String, stop: &str, outcome: Option<Outcome>) -> Result
     write!(out, "{stop}{head}{order}")
 }
 
-/// Appends that a message is a lie, or from a commander who is named as a traitor. Appends nothing if no lie is
-/// known.
+/// Appends that a message is a lie, or that it is by a traitor, if it is from a commander who is named as a traitor and
+/// whose given order is not known. Appends nothing if no lie is known.
 fn put_mark(out: &mut String, stop: &str, mark: Trust) -> Result<(), AllocError>
     ensures { OnOk result (string_bytes out.new ≡ string_bytes out.old ++ mark_words stop.now mark) }
 {

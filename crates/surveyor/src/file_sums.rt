@@ -157,7 +157,7 @@ fn ends(all: &[Finding]) -> Option<(u64, u64)>
 }
 
 /// Returns the first and the last seed that the files should contain: the ends of `--seeds` or, if it is not given, the
-/// least and the greatest seed that they contain. Returns `None` if they contain no campaign.
+/// least and the greatest seed that they contain. Returns `None` if it is not given and they contain no campaign.
 fn asked_for(seeds: Option<(u64, u64)>, all: &[Finding]) -> Option<(u64, u64)>
     ensures { IsAskedFor seeds all.now result }
 {

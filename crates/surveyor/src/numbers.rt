@@ -106,8 +106,8 @@ pub fn orders(word: &str) -> Option<u8>
     from_zero(least, most)
 }
 
-/// Returns `most` as the greatest order of a range of orders. Returns `None` unless the range begins with 0 and `most`
-/// is greater than 0.
+/// Returns `most`, which must be below 256, as the greatest order of a range of orders. Returns `None` unless the range
+/// begins with 0 and `most` is greater than 0.
 fn from_zero(least: u64, most: u64) -> Option<u8>
     requires { most < 256 }
     ensures { result ≡ cond (least == 0) (cond (most == 0) None (Some most)) None }

@@ -59,7 +59,8 @@ said_by true v drawn = Parity
 said_by false v drawn = Number (drawn / 4 % (v + 1))
 
 -- Returns the statement of traitor `g` to a receiver in an oral campaign. In one of four cases he sends nothing, in one
--- the order that he took, and in two an order from 0 to `v`.
+-- the order that he took, and in two another value: the parity of the board's count if `counts` is true, and otherwise
+-- an order from 0 to `v`.
 abbrev pub oral_lies : Bool → ℕ → ℕ → ℕ → ℕ → List Lie
 oral_lies counts v g receiver drawn =
     cond (receiver == g) []
@@ -68,7 +69,8 @@ oral_lies counts v g receiver drawn =
     (Sway receiver (said_by counts v drawn) ∷ [])))
 
 -- Returns a statement of traitor `g` in a signed campaign, or none in one of four cases. The commander `c` signs an
--- order from 0 to `v`, and a lieutenant passes on a chain.
+-- order from 0 to `v`, and a lieutenant passes on the chain with index 0 or 1. If `counts` is true, the parity of the
+-- board's count is this order or index.
 abbrev pub signed_lies : Bool → ℕ → ℕ → ℕ → ℕ → List Lie
 signed_lies counts v c g drawn =
     cond (drawn % 4 == 0) []

@@ -98,7 +98,7 @@ pub fn breaches<R: Threads + Sync>(
 }
 
 /// Returns the lesser of two reduced campaigns by `is_before`, or the first if neither is less. If only one is given,
-/// returns that one.
+/// returns that one, and if neither is, `None`.
 pub fn better(first: Option<Breach>, second: Option<Breach>) -> Option<Breach>
     ensures { result ≡ better first second }
 {
@@ -125,7 +125,7 @@ pub fn least(found: Vec<Option<Breach>>) -> Option<Breach>
 }
 
 /// Returns the least of the reduced campaigns of the seeds from `first` to `end` - 1, by `is_before`. Returns `None` if
-/// no campaign of these seeds is broken.
+/// IC1 and IC2 hold in all campaigns of these seeds.
 ///
 /// # Errors
 ///
@@ -145,7 +145,8 @@ pub fn least_breach<R: Threads + Sync>(
 }
 
 /// Returns the lesser of the earlier result and the reduced campaign `breach`, which was found with `traitors`
-/// traitors. Returns the earlier result if neither is less. If only one is given, returns that one.
+/// traitors. Returns the earlier result if neither is less. If only one is given, returns that one, and if neither is,
+/// `None`.
 fn least_so_far(traitors: u8, breach: Option<Breach>, earlier: Option<Breaking>) -> Option<Breaking>
     ensures { result ≡ least_so_far traitors breach earlier }
 {

@@ -26,7 +26,7 @@ fn first_line(bytes: &[u8]) -> Option<(&[u8], &[u8])>
 }
 
 /// Stores `line` as the head that all parts of the survey share. If a head is already stored, fails with `Family(1)`
-/// unless `line` is the same.
+/// unless `line` is the same. Fails with `Memory` if it runs out of memory.
 fn take_head(head: &mut Vec<u8>, line: &[u8]) -> Result<(), PartError>
     ensures taken { OnOk result (head.new.items ≡ line.now) }
     ensures same { OnOk result (head.old.items ≢ [] → head.new.items ≡ head.old.items) }

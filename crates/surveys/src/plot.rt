@@ -22,7 +22,8 @@ impl Model for Traitor {
     ghost view = { λ t. record { general = t.general; counts = t.counts; lies = t.lies.items } };
 }
 
-/// A campaign that a seed draws from a family.
+/// A campaign of a survey, made from a seed. The survey's family (the generals, bounds, rule and so on that it allows)
+/// says which campaigns are possible.
 #[derive(Drop)]
 pub struct Plot {
     /// The number of generals.

@@ -78,7 +78,8 @@ fn said_by(counts: bool, most: u8, drawn: u64) -> LieValue
 }
 
 /// Appends the statement of traitor `general` to `receiver` in an oral campaign, if there is one. The random number
-/// `drawn` selects whether he sends nothing, the order that he took, or some order from 0 to `orders`.
+/// `drawn` selects whether he sends nothing, the order that he took, or another value: the parity of the board's count
+/// if `counts` is true, and otherwise some order from 0 to `orders`.
 fn push_oral(
     lies: &mut Vec<Lie>,
     counts: bool,
@@ -101,7 +102,8 @@ fn push_oral(
 }
 
 /// Appends a statement of traitor `general` in a signed campaign, if `drawn`, a random number, selects one. The
-/// commander signs an order from 0 to `orders`, and a lieutenant passes on a chain.
+/// commander signs an order from 0 to `orders`, and a lieutenant passes on the chain with index 0 or 1. If `counts` is
+/// true, the parity of the board's count is this order or index.
 fn push_signed(
     lies: &mut Vec<Lie>,
     counts: bool,

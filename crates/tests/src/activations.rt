@@ -75,8 +75,8 @@ fn first_request(alloc: Global, verified: &Verified, context: &Context) -> Optio
     }
 }
 
-/// Cancels a request, which takes back its step, and runs the program until it makes the request again. Returns `None`
-/// if it does not.
+/// Cancels a request, and runs the program until it makes the request again. Returns `None` if the steps are not back
+/// at 5 after the cancelling, or if the program makes no request by its sixth step.
 fn second_request(waiting: Waiting, verified: &Verified, context: &Context) -> Option<Waiting>
     requires { IsAskOfRun verified.now context.now waiting.request waiting.standing }
     ensures { IfSome result (λ again. IsAskOfRun verified.now context.now again.request again.standing) }

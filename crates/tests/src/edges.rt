@@ -13,7 +13,7 @@ type Pair = ((u64, u64), (u64, u64));
 /// ranges after it. The last are `None` if the jump cannot go this way.
 type Row = (Width, Condition, bool, (u64, u64), (u64, u64), Option<Pair>);
 
-/// Rows for equality, and for tests of single bits, from which the verifier learns nothing.
+/// Rows for equality and inequality, and for tests of bits (`AnyBit`). From a test of bits the verifier learns nothing.
 const EQUALITIES: &[Row] = &[
     (Width::W64, Condition::Equal, true, (7, 9), (5, 6), None),
     (

@@ -19,7 +19,7 @@ pub fn find(stop: Stop, bytes: &[u8]) -> usize
 }
 
 /// Cuts a text before its first stop: the first byte of the kind that `stop` names. Returns the bytes before it, and
-/// the bytes from it on.
+/// the bytes from it on. If there is no such byte, returns the whole text and no bytes.
 pub fn cut(stop: Stop, bytes: &[u8]) -> (&[u8], &[u8])
     ensures front { result.0.now ≡ before stop bytes.now }
     ensures back { result.1.now ≡ from stop bytes.now }

@@ -170,7 +170,8 @@ fn as_array(orders: &[u32]) -> ArrayVec<u32, 12>
 }
 
 /// Returns the chronicle of a campaign: its accesses, its letters by round and the lieutenants' decisions. The accesses
-/// must account for the letters, so the chronicle is the same as that of the replay of the accesses.
+/// must be legal and account for the letters, so the chronicle is the same as that of the replay of the accesses.
+/// `orders` must be the decisions to which the letters lead, ascending by lieutenant.
 pub(crate) fn conclude(
     scenario: Scenario,
     accesses: Vec<Access>,

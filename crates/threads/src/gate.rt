@@ -69,7 +69,8 @@ impl<'a, R, G: Gate, J: Room, T: Session> Model for Gated<'a, R, G, J, T> {
 
 impl<'a, R, G: Gate, J: Room, T: Session> Gated<'a, R, G, J, T> {
     /// Returns the board as the general with the witness `me` uses it for his next task. The witness must have been
-    /// used for as many accesses as `T::before` has, and the board's history that it has seen must contain these.
+    /// used for as many accesses as `T::before` has, and the board's history that it has seen must contain these in
+    /// this order. `T::passed` must hold for every access for which `Gate::passed` holds.
     pub(crate) fn new(
         rt: &'a R,
         alloc: Global,

@@ -7,7 +7,8 @@ use crossbeam_queue::protocol::{Join, Lesson, Outcome, Protocol, Split};
 use round::Letter;
 use std::marker::PhantomData;
 
-/// The queue of a post. Its type guarantees that every operation obeys the post's rule.
+/// The queue through which the generals' threads give their letters to the collector. Its type guarantees that every
+/// operation obeys the rule of this file.
 pub(crate) type Queue<C> = RuledArrayQueue<Letter, Known, Delivery<C>>;
 
 /// The rule of the post. For each general, the letters already taken, followed by those still queued, are exactly the

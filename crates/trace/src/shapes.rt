@@ -170,7 +170,8 @@ fn is_told(line: &[u8]) -> bool
         || is_row(line)
 }
 
-/// Returns whether `words` is exactly `count` numbers, separated by spaces.
+/// Returns whether `words` is exactly `count` numbers, separated by spaces. If `words` is `None`, returns whether
+/// `count` is 0.
 fn is_count(count: u128, words: Option<&[u8]>) -> bool
     ensures { result ≡ is_count (Some count) (left space words.entry) }
 {

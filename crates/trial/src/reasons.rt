@@ -21,8 +21,8 @@ pub struct HelperCall {
     pub third: u64,
 }
 
-/// Checks whether `r0`, which the helper returned, means that it set no order. It is false for helpers that set no
-/// orders.
+/// Checks whether `r0`, which the helper returned, says that this call set no order. Returns false for a helper that
+/// can never set an order.
 pub fn says_none(helper: Helper, r0: u64) -> bool
     ensures { result ≡ says_none helper r0 }
 {

@@ -41,7 +41,7 @@ entry_known =
 abbrev pub joined_all : List AbsVal → List AbsVal → List AbsVal
 joined_all known other = table 11 (λ r. joined (known_at known r) (known_at other r))
 
--- ---- Conditional jumps. `way` says whether the jump is taken. There is no result if that is impossible.
+-- ---- Conditional jumps. `way` says whether the jump is taken. No result means that this is impossible.
 
 -- Narrows two compared values. Only numbers are narrowed.
 abbrev pub refined_known : Width → Condition → Bool → AbsVal → AbsVal → Option (AbsVal × AbsVal)

@@ -108,7 +108,7 @@ transfer i a = a
 abbrev pub stepped : Insn → AbsState → Result AbsState Reason
 stepped i a = unless (straight_reason i a) (transfer i a)
 
--- Returns what is known if a conditional jump is taken, or if it is not. There is no result if that is impossible.
+-- Returns what is known if a conditional jump is taken, or if it is not. No result means that this is impossible.
 abbrev pub narrowed : Comparison → Bool → AbsState → Option AbsState
 narrowed c taken a =
     option_map (λ known. record { registers = known; stack = a.stack }) (edge_known c taken a.registers)
@@ -117,7 +117,7 @@ narrowed c taken a =
 abbrev pub Edge : Type 0
 Edge = ℤ × AbsState
 
--- Returns the edge to a unit, if it is possible.
+-- Returns the edge to a unit, or no edge if nothing is given as known along it.
 abbrev pub edge_to : ℤ → Option AbsState → List Edge
 edge_to unit None = []
 edge_to unit (Some a) = (unit, a) ∷ []

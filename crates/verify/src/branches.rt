@@ -20,7 +20,7 @@ pub struct Followed {
 }
 
 /// Narrows two compared values to the case that the condition holds (`taken`) or does not hold. Returns what each can
-/// still be, or `None` if the case is impossible. Only numbers are narrowed.
+/// still be, or `None` if the case is known to be impossible. Only numbers are narrowed.
 #[inline(always)]
 fn refine_values(
     width: Width,
@@ -54,7 +54,8 @@ fn used_number(width: Width, number: i32) -> u64
 }
 
 /// Narrows what is known of register `dst`, which a jump compares with a number, to the case that the jump is `taken`
-/// or not. Returns whether this case is possible. If it is not, the registers are unchanged.
+/// or not. Returns false, and leaves the registers unchanged, if this case is known to be impossible. Otherwise returns
+/// true.
 #[inline(always)]
 fn refine_by_number(
     registers: &mut [AbsVal; 11],
@@ -80,8 +81,8 @@ fn refine_by_number(
 }
 
 /// Narrows what is known of registers `dst` and `src`, which a jump compares, to the case that the jump is `taken` or
-/// not. Returns whether this case is possible. If it is not, the registers are unchanged. Nothing is learned about a
-/// register that is compared with itself.
+/// not. Returns false, and leaves the registers unchanged, if this case is known to be impossible. Otherwise returns
+/// true. If a register is compared with itself, nothing is learned, and the result is true.
 #[inline(always)]
 fn refine_registers(
     registers: &mut [AbsVal; 11],
@@ -109,7 +110,7 @@ fn refine_registers(
 }
 
 /// Narrows two copies of one abstract state at a conditional jump: `state` to the case that the jump is taken, and
-/// `other` to the case that it is not. Returns which of these cases are possible.
+/// `other` to the case that it is not. Returns for each case whether it may happen: false means that it cannot.
 pub fn refine(state: &mut AbsState, other: &mut AbsState, compared: &Comparison) -> Followed
     requires { other.old ≡ state.old }
     ensures taken { (if result.taken then Some state.new else None) ≡ narrowed compared.now true state.old }

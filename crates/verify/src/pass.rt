@@ -23,9 +23,9 @@ use crate::{branches, registers, steps};
 use insn::{Insn, Program};
 use std::alloc::{AllocError, Global};
 
-/// Checks an instruction that always continues with the next one, and returns what is known at the next unit. The
-/// result of a wide instruction, which has two units, is kept in `pending` for the unit after both. Fails with the
-/// instruction's fault.
+/// Checks an instruction that always continues with the next one, and returns what is known at the next unit, or
+/// `None` if no path leads there. The result of a wide instruction, which has two units, is kept in `pending` for the
+/// unit after both. Fails with the instruction's fault.
 fn pass_straight(
     unit: usize,
     insn: &Insn,

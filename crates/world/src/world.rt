@@ -154,8 +154,8 @@ impl World {
 
     /// Closes the open round: delivers its letters to the lieutenants, and begins the next round if there is one.
     ///
-    /// All memory is allocated before anything changes: for the letters, for their drafts, for the list of closed
-    /// rounds, and for the next round. After that, nothing can fail.
+    /// All memory is allocated before anything changes: for the letters and the drafts from which they are made, for
+    /// the list of closed rounds, and for the next round. After that, nothing can fail.
     ///
     /// # Errors
     ///

@@ -215,7 +215,7 @@ fn exchanged<R: Wait + Abort>(
     (post, ends)
 }
 
-/// Ends the post, and returns the letters that it still had.
+/// Closes the queue of letters, and returns the letters that were still in it.
 fn left_in<R: Wait + Abort>(
     rt: &R,
     alloc: Global,
