@@ -7,4 +7,4 @@ mod texts;
 
 pub use line::Line;
 pub use passage::Passage;
-pub use texts::{line_text, lines_text, push_lines};
+pub use texts::{line_text, lines_text, mark, push_lines};

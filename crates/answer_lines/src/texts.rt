@@ -25,7 +25,7 @@ fn perhaps(value: Option<bool>) -> &'static str
 
 /// Returns the text between a lieutenant's number and his order: ` traitor ` if he is named as a traitor, and otherwise
 /// a space.
-fn mark(traitor: bool) -> &'static str
+pub fn mark(traitor: bool) -> &'static str
     ensures { result.now ≡ mark traitor }
 {
     if traitor { " traitor " } else { " " }

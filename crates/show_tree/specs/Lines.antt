@@ -1,9 +1,11 @@
 -- The tree of a lieutenant as lines of text.
 use Rattle.std.specs.Prelude.{ℕ, ◌-◌, List, [], ◌∷◌, ◌++◌, length, codes}
 use Rattle.std.specs.List.{flat_map, range_with_len}
+use Rattle.answer_lines.specs.Text.{ended}
+use Rattle.answer_lines.specs.declared.line.Line.TheVariants.{Decision}
 use Rattle.label.specs.Labels.{on}
 use Rattle.book.specs.Decisions.{decision_of}
-use Rattle.book.specs.Explained.{head_line, decision_line}
+use Rattle.book.specs.Explained.{head_line}
 use Rattle.book.specs.Table.{MessageTable}
 use Rattle.show_tree.specs.declared.node.Branch.{Branch}
 use Rattle.show_tree.specs.declared.node.Branch.TheVariants.{Tee, Corner, Bar, Gap}
@@ -42,4 +44,4 @@ node_lines style n p nodes = flat_map (node_line style n p) nodes
 -- Writes the tree of lieutenant p as text: his name, a line for each label that is shown, and his decision.
 unfoldable pub tree_text : MessageTable → List ℕ → View → Style → ℕ → List ℕ
 tree_text t traitors view style p = head_line p ++ node_lines style t.generals p (nodes_of t traitors view p)
-    ++ decision_line p (on traitors p) (decision_of t p)
+    ++ ended (Decision p (on traitors p) (decision_of t p))

@@ -1,6 +1,7 @@
 //! Draws a lieutenant's tree as indented lines of text.
 ghost use Rattle.std.specs.Prelude.{◌≡◌, ◌≢◌, ◌<◌, ◌++◌, string_bytes, IfOk, OnOk};
-ghost use Rattle.book.specs.Explained.{decision_line, mark};
+ghost use Rattle.answer_lines.specs.Text.{ended};
+ghost use Rattle.answer_lines.specs.declared.line.Line.TheVariants.{Decision};
 ghost use Rattle.show_tree.specs.Lines.{branch_text, branches_text, node_line, node_lines, tree_text};
 
 use crate::facts::is_named;
@@ -8,6 +9,7 @@ use crate::node::{Branch, Node, Style, View};
 use crate::places::branch_at;
 use crate::shown_labels::nodes;
 use crate::words::put_said;
+use answer_lines::mark;
 use book::{Heard, decision};
 use std::alloc::{AllocError, Global};
 
@@ -115,15 +117,8 @@ fn branch_text(style: Style, branch: Branch) -> &'static str
 /// Appends the line with the lieutenant's decision, such as `decision 2 1`. If he is named as a traitor, the line
 /// says so.
 fn put_decision(out: &mut String, general: u8, is_named: bool, order: u32) -> Result<(), AllocError>
-    ensures { OnOk result (string_bytes out.new ≡ string_bytes out.old ++ decision_line general is_named order) }
+    ensures { OnOk result (string_bytes out.new ≡ string_bytes out.old ++ ended (Decision general is_named order)) }
 {
     let mark = mark(is_named);
     write!(out, "decision {general}{mark}{order}\n")
-}
-
-/// Returns the word `traitor` between spaces if `named` is true, and otherwise a space.
-fn mark(named: bool) -> &'static str
-    ensures { result.now ≡ mark named }
-{
-    if named { " traitor " } else { " " }
 }

@@ -4,6 +4,7 @@
 use Rattle.std.specs.Prelude.{ℕ, zero, suc, ◌==◌, ◌&&◌, not, nat_lt, count_by, Bool, true, false, if◌then◌else◌, List, [], ◌∷◌, ◌++◌, codes, Option, None, Some}
 use Rattle.std.specs.Fmt.{decimal}
 use Rattle.std.specs.List.{flat_map}
+use Rattle.answer_lines.specs.Text.{mark}
 use Rattle.label.specs.Labels.{generals}
 use Rattle.label.specs.Lieutenants.{lieutenants}
 use Rattle.book.specs.declared.conditions.Obedience.{Obedience}
@@ -38,10 +39,6 @@ abbrev pub choice_words : List ℕ → List ℕ
 choice_words [] = codes ": no order, so 0\n"
 choice_words (v ∷ []) = codes ": one order\n"
 choice_words (v ∷ w ∷ vs) = codes ": several orders, so 0\n"
-
--- Returns the text between the lieutenant's number and his order: ` traitor ` if he is a traitor, and otherwise a space.
-abbrev pub mark : Bool → List ℕ
-mark traitor = if traitor then codes " traitor " else codes " "
 
 -- Returns the line of a lieutenant's decision. It says whether he is a traitor, on which order he decides, and whether
 -- he accepted no order, one or several.

@@ -7,13 +7,14 @@ ghost use Rattle.label.specs.Lieutenants.{lieutenants};
 ghost use Rattle.book.specs.Explained.{alike_line, dotted, few_words, obedience_line, yes_no};
 ghost use Rattle.signed.specs.Accepted.{decided};
 ghost use Rattle.signed.specs.Chains.{orders};
-ghost use Rattle.signed.specs.Explained.{acceptance_lines, acceptance_of, accepted_line, choice_line, choice_words, mark, obedience_of, signed_explained, traitors_line, verdict_lines};
+ghost use Rattle.signed.specs.Explained.{acceptance_lines, acceptance_of, accepted_line, choice_line, choice_words, obedience_of, signed_explained, traitors_line, verdict_lines};
 ghost use Rattle.signed.specs.Sending.{lent};
 
 use crate::acceptance::decided;
 use crate::accepted_chains::bringing;
 use crate::chain::Chain;
 use crate::chronicle::SignedChronicle;
+use answer_lines::mark;
 use round::Scenario;
 use std::alloc::{AllocError, Global};
 use world::Verdict;
@@ -86,13 +87,6 @@ fn choice_words(chains: &[&Chain]) -> &'static str
         [_] => ": one order\n",
         _ => ": several orders, so 0\n",
     }
-}
-
-/// Returns ` traitor ` if the lieutenant is a traitor, and a space if he is loyal.
-fn mark(is_traitor: bool) -> &'static str
-    ensures { result.now ≡ mark is_traitor }
-{
-    if is_traitor { " traitor " } else { " " }
 }
 
 /// Writes the line of a lieutenant's decision, such as `decision 1 0: no order, so 0`. `chains` are those by which he
