@@ -1,6 +1,6 @@
 -- The JSON objects of printed lines have no floats.
 use Rattle.std.proofs.Common.{◌≡◌, ℕ, Bool, true, false, List, [], ◌∷◌, Option, None, Some, Ordering, Less, Equal, Greater, option_map, option_and_then, bytes_eq, codes, refl}
-use Rattle.std.specs.Prelude.{if◌then◌else◌, ◌||◌, ◌==◌, is_some, length, slice_get}
+use Rattle.std.specs.Prelude.{if◌then◌else◌, ◌||◌, ◌==◌, is_some, slice_get, unwrap_or}
 use Rattle.std.specs.Str.Lossy.{utf8_lossy}
 use Rattle.std.specs.Cmp.Lexicographic.{slice_cmp}
 use Rattle.std.specs.Ordering.{match_ordering, nat_cmp}
@@ -9,18 +9,18 @@ use Rattle.serde_json.specs.Written.{has_float, items_have_float, members_have_f
 use Rattle.combine.specs.Names.{rule_named}
 use Rattle.text.specs.Parts.{before, lines_of, pieces}
 use Rattle.text.specs.Stop.{dot, feed, space}
-use Rattle.cli_answers.specs.declared.position.Held.{Held}
-use Rattle.cli_answers.specs.declared.shape.Within.{Within}
-use Rattle.cli_answers.specs.declared.shape.Within.TheVariants.{Nothing, Round, Letter}
 use Rattle.answer_lines.specs.declared.line.Line.{Line}
 use Rattle.answer_lines.specs.declared.line.Line.TheVariants.{Accepted, Run, Put, Word as BoardWord, Sound, Decision, Verdict, Text}
 use Rattle.cli_answers.specs.Members.{members, of_two, perhaps}
-use Rattle.cli_answers.specs.Printing.{outcome_in, outcome_object}
-use Rattle.cli_answers.specs.Labels.{at_first, held_by, label_of, number_at, numbers, placed, with_label, with_number}
+use Rattle.cli_answers.specs.Printing.{final, outcome_object}
+use Rattle.cli_answers.specs.Record.{verdict_of}
+use Rattle.cli_tasks.specs.Openings.{Opening}
+use Rattle.cli_tasks.specs.Openings as opening
+use Rattle.cli_answers.specs.Labels.{held_by, label_of, numbers, with_label, with_number}
 use Rattle.cli_answers.specs.Lines.{with_file}
-use Rattle.cli_answers.specs.Objects.{called, first_by, first_shaped, line_object, or, shaped, told_by, unshaped, with_mark, with_name}
+use Rattle.cli_answers.specs.Objects.{called, first_by, first_shaped, line_object, or, shaped, told_by, unshaped, with_name}
 use Rattle.cli_answers.specs.Refusals.{behind_stop, class_of, fault_object, namer, namer_of, refusal_object, refused_object, reported, sentence_of, with_namer, with_sentence, with_text}
-use Rattle.cli_answers.specs.Shapes.{Row, accesses, shapes}
+use Rattle.cli_answers.specs.Shapes.{Row, shapes}
 use Rattle.cli_answers.specs.Values.{Word, all, joined, number_of, place_of, places, rule_of, small, told, yes_no_of}
 
 abbrev IsClean : Option Data → Type 0
@@ -131,12 +131,9 @@ told_by_clean (p ∷ ps) (w ∷ ws) ms b =
     (star_clean p.1 ms (places (w ∷ ws)) b (places_clean (w ∷ ws)))
     (then_clean p.1 ms (told p.0 w) (told_by ps ws) b (told_clean p.0 w) (λ next c. told_by_clean ps ws next c))
 
-mark_clean : (r : Row) (ms : Members) → NoFloat ms → NoFloat (with_mark r ms)
-mark_clean r ms b = either NoFloat (length r.mark == 0) ms (put r.mark (boolean r.holds) ms) b (put_clean r.mark (boolean r.holds) ms refl b)
-
 shaped_clean : (r : Row) (ws : List Word) → HaveClean (shaped r ws)
 unfolding shaped
-shaped_clean r ws = told_by_clean r.parts ws (with_mark r (called r.line)) (mark_clean r (called r.line) refl)
+shaped_clean r ws = told_by_clean r.parts ws (called r.line) refl
 
 numbers_clean : (ns : List ℕ) → items_have_float (numbers ns) ≡ false
 numbers_clean [] = refl
@@ -149,25 +146,13 @@ label_clean (Some w) ms b = put_clean (codes "label") (array (numbers w)) ms (nu
 within_clean : (name : List ℕ) (n : ℕ) (ms : Members) → NoFloat ms → NoFloat (with_number name n ms)
 within_clean name n ms b = put_clean name (number (unsigned n)) ms refl b
 
-placed_clean : (place : Within) (h : Held) (ms : Members) → NoFloat ms → NoFloat (placed place h ms)
-placed_clean Nothing h ms b = b
-placed_clean Round h ms b = within_clean (codes "round") h.round ms b
-placed_clean Letter h ms b =
-    let inner = with_number (codes "round") h.round ms in
-    label_clean (option_and_then (label_of h) (number_at (codes "rank") ms)) (with_number (codes "general") h.general inner)
-    (within_clean (codes "general") h.general inner (within_clean (codes "round") h.round ms b))
-
-first_step : (place : Within) (h : Held) (o rest : Option Members) → HaveClean o → HaveClean rest → HaveClean (first_by (option_map (λ ms. placed place h ms) o) rest)
-first_step place h None rest a b = b
-first_step place h (Some ms) rest a b = placed_clean place h ms a
-
-first_shaped_clean : (h : Held) (rs : List Row) (ws : List Word) → HaveClean (first_shaped h rs ws)
-first_shaped_clean h [] ws = tt
-first_shaped_clean h (r ∷ rs) ws = first_step r.within h (shaped r ws) (first_shaped h rs ws) (shaped_clean r ws) (first_shaped_clean h rs ws)
-
 by_clean : (o rest : Option Members) → HaveClean o → HaveClean rest → HaveClean (first_by o rest)
 by_clean None rest a b = b
 by_clean (Some ms) rest a b = a
+
+first_shaped_clean : (rs : List Row) (ws : List Word) → HaveClean (first_shaped rs ws)
+first_shaped_clean [] ws = tt
+first_shaped_clean (r ∷ rs) ws = by_clean (shaped r ws) (first_shaped rs ws) (shaped_clean r ws) (first_shaped_clean rs ws)
 
 or_clean : (o : Option Members) (ms : Members) → HaveClean o → NoFloat ms → NoFloat (or o ms)
 or_clean None ms a b = b
@@ -176,13 +161,11 @@ or_clean (Some found) ms a b = a
 pub unshaped_clean : (line : List ℕ) → NoFloat (unshaped line)
 unshaped_clean line = put_clean (codes "text") (string (utf8_lossy line)) (called (codes "text")) refl refl
 
--- Proves that no object of a line has a float.
-pub line_clean : (h : Held) (line : List ℕ) → members_have_float (line_object h line) ≡ false
+-- Proves that no object of a line of text has a float.
+pub line_clean : (line : List ℕ) → members_have_float (line_object line) ≡ false
 unfolding line_object
-line_clean h line =
-    let words = pieces space line in
-    or_clean (first_by (first_shaped h accesses words) (first_shaped h shapes words)) (unshaped line)
-    (by_clean (first_shaped h accesses words) (first_shaped h shapes words) (first_shaped_clean h accesses words) (first_shaped_clean h shapes words)) (unshaped_clean line)
+line_clean line =
+    or_clean (first_shaped shapes (pieces space line)) (unshaped line) (first_shaped_clean shapes (pieces space line)) (unshaped_clean line)
 
 -- Proves that no object of a line that is a value has a float.
 two_clean : (kind first : List ℕ) (m : ℕ) (second : List ℕ) (n : ℕ) → NoFloat (of_two kind first m second n)
@@ -215,9 +198,15 @@ members_clean (Decision general traitor order) =
 members_clean (Text passage) = unshaped_clean (before feed passage)
 
 -- Proves that the object of the line that says how a task ended has no float.
-pub outcome_clean : (line : Option Line) (front : List ℕ) → members_have_float (outcome_object line front) ≡ false
-outcome_clean None front = line_clean at_first (outcome_in front)
-outcome_clean (Some line) front = members_clean line
+final_clean : (line : Option Line) → members_have_float (unwrap_or (option_map members line) (unshaped [])) ≡ false
+final_clean None = unshaped_clean []
+final_clean (Some line) = members_clean line
+
+pub outcome_clean : (front : Opening) (lines : List Line) → members_have_float (outcome_object front lines) ≡ false
+outcome_clean (opening.Oral c) lines = members_clean (verdict_of c)
+outcome_clean (opening.Signed c) lines = members_clean (verdict_of c)
+outcome_clean (opening.Bytes []) lines = final_clean (final lines)
+outcome_clean (opening.Bytes (byte ∷ bytes)) lines = line_clean (before feed (byte ∷ bytes))
 
 -- Proves that no object that says why a task was not done has a float.
 text_clean : (name t : List ℕ) (ms : Members) → NoFloat ms → NoFloat (with_text name t ms)

@@ -8,6 +8,7 @@ use Rattle.serde_json.proofs.Views.{view-Array}
 use Rattle.text.specs.declared.stop.Stop.{Stop}
 use Rattle.text.specs.Parts.{GivesPieces, left, pieces}
 use Rattle.cli_answers.specs.Labels.{numbers}
+use Rattle.cli_answers.specs.Record.{or_null, or_nulls}
 use Rattle.cli_answers.specs.Values.{Word, all}
 
 -- Returns the elements of both lists.
@@ -72,3 +73,19 @@ no_numbers (suc i) (n ∷ ns) l = no_numbers i ns (omega arith)
 
 pub numbers_done : (i : ℕ) (ns : List ℕ) (old total : Items) → length ns ≤ i → join old (numbers (drop i ns)) ≡ total → old ≡ total
 numbers_done i ns old total l so_far = sym (join_none old) ∙ rw (no_numbers i ns l) at so_far
+
+-- Proves that one more order is one more element.
+pub nulls_further : (old new : List Value) (v : Value) (i : ℕ) (os : List (Option ℕ)) (o d : Option ℕ) (total : Items) → i < length os → o ≡ get_or os i d → new ≡ old ++ v ∷ [] → view v ≡ or_null o
+    → join (items_view old) (or_nulls (drop i os)) ≡ total → join (items_view new) (or_nulls (drop (i + 1) os)) ≡ total
+nulls_further old new v i os o d total l e pushed seen so_far =
+    let first : or_nulls (drop i os) ≡ item (or_null o) (or_nulls (drop (i + 1) os)) = rw (drop_more os i d l, ← e) refl in
+    rw (pushed, join_last old v (or_nulls (drop (i + 1) os)), seen) (rw first at so_far)
+
+no_nulls : (i : ℕ) (os : List (Option ℕ)) → length os ≤ i → or_nulls (drop i os) ≡ no_items
+no_nulls zero [] l = refl
+no_nulls zero (o ∷ os) l = absurd (omega arith)
+no_nulls (suc i) [] l = refl
+no_nulls (suc i) (o ∷ os) l = no_nulls i os (omega arith)
+
+pub nulls_done : (i : ℕ) (os : List (Option ℕ)) (old total : Items) → length os ≤ i → join old (or_nulls (drop i os)) ≡ total → old ≡ total
+nulls_done i os old total l so_far = sym (join_none old) ∙ rw (no_nulls i os l) at so_far

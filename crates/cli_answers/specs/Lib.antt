@@ -3,6 +3,7 @@ pub mod Shapes
 pub mod Labels
 pub mod Objects
 pub mod Members
+pub mod Record
 pub mod Lines
 pub mod Refusals
 pub mod Printing

@@ -1,12 +1,10 @@
 -- A line as a JSON object: its words, each with its name (RFC 8259; own).
-use Rattle.std.specs.Prelude.{ℕ, ◌==◌, Bool, true, false, if◌then◌else◌, List, [], ◌∷◌, length, Option, None, Some, option_and_then, option_map, bytes_eq, codes}
+use Rattle.std.specs.Prelude.{ℕ, Bool, true, false, if◌then◌else◌, List, [], ◌∷◌, Option, None, Some, option_and_then, option_map, bytes_eq, codes}
 use Rattle.std.specs.Str.Lossy.{utf8_lossy}
-use Rattle.serde_json.specs.Data.{Data, boolean, string, Members, no_members, put}
+use Rattle.serde_json.specs.Data.{Data, string, Members, no_members, put}
 use Rattle.text.specs.Parts.{pieces}
 use Rattle.text.specs.Stop.{space}
-use Rattle.cli_answers.specs.declared.position.Held.{Held}
-use Rattle.cli_answers.specs.Labels.{placed}
-use Rattle.cli_answers.specs.Shapes.{Row, accesses, shapes}
+use Rattle.cli_answers.specs.Shapes.{Row, shapes}
 use Rattle.cli_answers.specs.Values.{Word, places, told}
 
 -- Adds a value to an object as the member `name`, or nothing if the name is a dash.
@@ -32,26 +30,19 @@ found false ms = None
 abbrev pub called : List ℕ → Members
 called line = put (codes "line") (string line) no_members
 
--- Adds the mark of a shape to an object, a member that is true or false for all lines of the shape. Adds nothing if
--- the shape has no mark.
-abbrev pub with_mark : Row → Members → Members
-with_mark r ms = if length r.mark == 0 then ms else put r.mark (boolean r.holds) ms
-
 -- Returns the members of a line's object if the line fits this shape (a pattern of words), else None.
 unfoldable pub shaped : Row → List Word → Option Members
-shaped r words = told_by r.parts words (with_mark r (called r.line))
+shaped r words = told_by r.parts words (called r.line)
 
 -- Returns the first object if there is one, else the second.
 abbrev pub first_by : Option Members → Option Members → Option Members
 first_by None later = later
 first_by (Some ms) later = Some ms
 
--- Returns the members of a line's object by the first of these shapes that fits, and where the line belongs. Returns
--- None if no shape fits.
-abbrev pub first_shaped : Held → List Row → List Word → Option Members
-first_shaped h [] words = None
-first_shaped h (r ∷ rs) words =
-    first_by (option_map (λ ms. placed r.within h ms) (shaped r words)) (first_shaped h rs words)
+-- Returns the members of a line's object by the first of these shapes that fits, or None if no shape fits.
+abbrev pub first_shaped : List Row → List Word → Option Members
+first_shaped [] words = None
+first_shaped (r ∷ rs) words = first_by (shaped r words) (first_shaped rs words)
 
 -- Returns the object of a line that fits no shape: its member `text` is the line.
 abbrev pub unshaped : List ℕ → Members
@@ -62,8 +53,6 @@ abbrev pub or : Option Members → Members → Members
 or None ms = ms
 or (Some found) ms = found
 
--- Returns the JSON object of a line: of an access or another shape that fits, or else of the line as text.
-unfoldable pub line_object : Held → List ℕ → Members
-line_object h line =
-    let words = pieces space line in
-    or (first_by (first_shaped h accesses words) (first_shaped h shapes words)) (unshaped line)
+-- Returns the JSON object of a line of text: of a shape that fits, or else of the line as text.
+unfoldable pub line_object : List ℕ → Members
+line_object line = or (first_shaped shapes (pieces space line)) (unshaped line)

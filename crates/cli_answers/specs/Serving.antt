@@ -4,6 +4,7 @@ use Rattle.std.specs.Io.KnownBytes.{Appends}
 use Rattle.cli_words.specs.declared.tasks.TaskRequest.{TaskRequest}
 use Rattle.cli_tasks.specs.TaskFaults.{Prevents}
 use Rattle.cli_tasks.specs.Faults.{fault_text, status_of}
+use Rattle.cli_tasks.specs.Openings.{Opening}
 use Rattle.answer_lines.specs.declared.line.Line.{Line}
 use Rattle.cli_tasks.specs.Serving.{Files, IsLinedAnswer, Tells}
 use Rattle.cli_tasks.specs.declared.failure.TaskFailure.{TaskFailure}
@@ -13,7 +14,7 @@ use Rattle.cli_answers.specs.Printing.{answer_as, refusal_as}
 -- States that the task's answer on the files was appended to the output, in the requested form.
 abbrev pub IsShown : TaskRequest → Files → Option (List ℕ) → Option (List ℕ) → Type 0
 IsShown request files old new =
-    (front : List ℕ) × ((lines : List Line) × IsLinedAnswer request.task files front lines
+    (front : Opening) × ((lines : List Line) × IsLinedAnswer request.task files front lines
     × IfSome (answer_as request front lines) (Appends old new))
 
 -- States that the output failed while these lines were written. Only a prefix of them was written, and an error
@@ -33,7 +34,7 @@ IsRefusalShown quiet unwritten tells request old new text =
 -- States that the output failed while the task's answer was written in the requested form.
 abbrev pub IsAnswerUnwritten : Type 0 → (List ℕ → Type 0) → TaskRequest → Files → Option (List ℕ) → Option (List ℕ) → Type 0
 IsAnswerUnwritten unwritten tells request files old new =
-    (front : List ℕ) × ((lines : List Line) × IsLinedAnswer request.task files front lines
+    (front : Opening) × ((lines : List Line) × IsLinedAnswer request.task files front lines
     × IsUnwritten unwritten tells (answer_as request front lines) old new)
 
 -- States that the task has no answer, and that memory did not run out. If the text of the reason is specified, it is

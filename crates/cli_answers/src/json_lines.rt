@@ -5,14 +5,15 @@ ghost use Rattle.serde_json.specs.Data.{object};
 ghost use Rattle.serde_json.specs.View.{members_view};
 ghost use Rattle.serde_json.specs.Written.{members_have_float};
 ghost use Rattle.text.specs.Parts.{lines_of};
-ghost use Rattle.cli_answers.specs.Lines.{json_answer, json_line, json_text, object_line, object_lines};
+ghost use Rattle.cli_tasks.specs.Openings.{opening_of};
+ghost use Rattle.cli_answers.specs.Lines.{json_answer, json_line, json_opening, json_text, object_line, object_lines};
 ghost use Rattle.cli_answers.specs.Objects.{unshaped};
 
 use crate::members::members;
 use crate::objects::{line_object, unshaped};
-use crate::position::Held;
+use crate::record_lines::{push_oral, push_signed};
 use answer_lines::Line;
-use cli_tasks::Answer;
+use cli_tasks::{Answer, Front};
 use serde_json::{Map, Value};
 use std::alloc::{AllocError, Global};
 use streams::{Escaped, Kept};
@@ -53,7 +54,7 @@ fn push_passage(alloc: Global, out: &mut Vec<u8>, passage: &[u8]) -> Result<(), 
 }
 
 /// Appends the object of a line as a line of JSON, or for a text an object for each of its lines.
-fn push_line(alloc: Global, out: &mut Vec<u8>, line: &Line) -> Result<(), AllocError>
+pub(crate) fn push_line(alloc: Global, out: &mut Vec<u8>, line: &Line) -> Result<(), AllocError>
     ensures { OnOk result (out.new.items ≡ out.old.items ++ json_line line.now) }
 {
     match line {
@@ -75,21 +76,29 @@ fn push_lines(alloc: Global, out: &mut Vec<u8>, lines: &[Line]) -> Result<(), Al
     Ok(())
 }
 
-/// Appends a text as JSON Lines, with an object for each of its lines. The members of an object are the words of the
-/// line, each with its name. For a line of a chronicle, the object also has the round, general or label to which the
-/// line belongs, as earlier lines name it.
+/// Appends a text as JSON Lines, with an object for each of its lines. The members of the object of a message table's
+/// line are the words of the line, each with its name.
 fn push_text(alloc: Global, out: &mut Vec<u8>, text: &[u8]) -> Result<(), AllocError>
     ensures { OnOk result (out.new.items ≡ out.old.items ++ json_text text.now) }
 {
-    let mut held = Held::at_first();
     let mut rest = text;
     while let Some((first, behind)) = line(rest) {
-        let object = line_object(alloc, held, first)?;
-        held = held.behind(&object);
+        let object = line_object(alloc, first)?;
         push_object(alloc, out, object)?;
         rest = behind;
     }
     Ok(())
+}
+
+/// Appends what an answer begins with as JSON Lines.
+fn push_front(alloc: Global, out: &mut Vec<u8>, front: &Front) -> Result<(), AllocError>
+    ensures { OnOk result (out.new.items ≡ out.old.items ++ json_opening (opening_of front.now)) }
+{
+    match front {
+        Front::Bytes(text) => push_text(alloc, out, text.as_slice()),
+        Front::Oral(chronicle) => push_oral(alloc, out, chronicle),
+        Front::Signed(chronicle) => push_signed(alloc, out, chronicle),
+    }
 }
 
 /// Returns an answer as JSON Lines, with an object for each line.
@@ -98,10 +107,10 @@ fn push_text(alloc: Global, out: &mut Vec<u8>, text: &[u8]) -> Result<(), AllocE
 ///
 /// Fails with `AllocError` if there is not enough memory.
 pub fn answer(alloc: Global, answer: &Answer) -> Result<Vec<u8>, AllocError>
-    ensures { IfOk result (λ out. out.items ≡ json_answer answer.now.front.items answer.now.lines.items) }
+    ensures { IfOk result (λ out. out.items ≡ json_answer (opening_of answer.now.front) answer.now.lines.items) }
 {
     let mut out = Vec::new(alloc);
-    push_text(alloc, &mut out, answer.front.as_slice())?;
+    push_front(alloc, &mut out, &answer.front)?;
     push_lines(alloc, &mut out, answer.lines.as_slice())?;
     Ok(out)
 }

@@ -1,11 +1,10 @@
-//! Adds to a line's JSON object where the line belongs: the round, the general, and the label with a given rank.
-ghost use Rattle.std.specs.Prelude.{◌≡◌, ◌==◌, false, true, IfOk, OnOk, option_and_then, slice_get};
+//! Adds to a line's JSON object the label with a given rank.
+ghost use Rattle.std.specs.Prelude.{◌≡◌, ◌==◌, false, true, IfOk, OnOk, slice_get};
 ghost use Rattle.label.specs.Relay.{IsShape, relay};
 ghost use Rattle.serde_json.specs.View.{items_view, members_view};
-ghost use Rattle.cli_answers.specs.Labels.{is_possible, label_of, numbers, own_label, placed, shape_of, with_label};
+ghost use Rattle.cli_answers.specs.Labels.{is_possible, label_of, numbers, own_label, shape_of, with_label};
 
-use crate::position::{Held, number_at};
-use crate::shape::Within;
+use crate::position::Held;
 use label::{Label, Space, count, unrank};
 use serde_json::{Map, Value, put};
 use std::alloc::{AllocError, Global};
@@ -42,7 +41,7 @@ fn relayed(held: Held, rank: u64) -> Option<Label>
 }
 
 /// Returns the numbers of generals as JSON numbers.
-fn numbers(alloc: Global, generals: &[u8]) -> Result<Vec<Value>, AllocError>
+pub(crate) fn numbers(alloc: Global, generals: &[u8]) -> Result<Vec<Value>, AllocError>
     ensures { IfOk result (λ all. items_view all.items ≡ numbers generals.now) }
 {
     let mut all = Vec::new(alloc);
@@ -105,43 +104,4 @@ pub(crate) fn put_label(
         return put_own(alloc, object, held.round, rank);
     }
     put_relayed(alloc, object, relayed(held, rank))
-}
-
-/// Adds the label with this rank to the object. Nothing is added if `rank` is `None`, or if the general relays no
-/// such label.
-fn put_label_of(
-    alloc: Global,
-    object: &mut Map<String, Value>,
-    held: Held,
-    rank: Option<u64>,
-) -> Result<(), AllocError>
-    ensures { OnOk result (members_view object.new.entries
-        ≡ with_label (option_and_then (label_of held) rank) (members_view object.old.entries)) }
-{
-    match rank {
-        Some(rank) => put_label(alloc, object, held, rank),
-        None => Ok(()),
-    }
-}
-
-/// Adds to a line's object where the line belongs. `within` says what lines of this kind need, and `held` has the
-/// campaign, round and general that earlier lines name.
-pub(crate) fn put_place(
-    alloc: Global,
-    object: &mut Map<String, Value>,
-    held: Held,
-    within: Within,
-) -> Result<(), AllocError>
-    ensures { OnOk result (members_view object.new.entries ≡ placed within held (members_view object.old.entries)) }
-{
-    match within {
-        Within::Nothing => Ok(()),
-        Within::Round => put(object, alloc, "round", Value::from(held.round)),
-        Within::Letter => {
-            let rank = number_at(object, "rank");
-            put(object, alloc, "round", Value::from(held.round))?;
-            put(object, alloc, "general", Value::from(held.general))?;
-            put_label_of(alloc, object, held, rank)
-        }
-    }
 }

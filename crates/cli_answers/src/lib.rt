@@ -11,6 +11,8 @@ mod outcome;
 mod position;
 mod printed_lines;
 mod printer;
+mod record;
+mod record_lines;
 mod refusals;
 mod service;
 mod shape;

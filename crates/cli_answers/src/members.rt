@@ -15,7 +15,7 @@ use serde_json::{Map, Value, put};
 use std::alloc::{AllocError, Global};
 
 /// Adds a number to the object as its member `name`.
-fn put_number(
+pub(crate) fn put_number(
     alloc: Global,
     object: &mut Map<String, Value>,
     name: &str,

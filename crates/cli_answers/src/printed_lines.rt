@@ -1,10 +1,10 @@
 //! Lays out an answer, or the reason why a task was not done, in the requested form: as text, as JSON, or as one
 //! line.
 ghost use Rattle.std.specs.Prelude.{◌≡◌, IfOk, IfSome};
-ghost use Rattle.cli_answers.specs.Printing.{answer_as, final, named_line, outcome, refusal_as};
+ghost use Rattle.cli_tasks.specs.Openings.{opening_of};
+ghost use Rattle.cli_answers.specs.Printing.{answer_as, named_line, outcome, refusal_as};
 
-use crate::outcome::{final_line, first_line, judged, outcome_in};
-use answer_lines::line_text;
+use crate::outcome::{first_line, judged, outcome};
 use cli_tasks::Answer;
 use cli_words::TaskRequest;
 use std::alloc::{AllocError, Global};
@@ -24,18 +24,11 @@ fn named_line(alloc: Global, name: &str, line: &[u8]) -> Result<Vec<u8>, AllocEr
 /// Returns the line that says how the task ended, with its file's name before it.
 fn named_outcome(alloc: Global, name: &str, answer: &Answer) -> Result<Vec<u8>, AllocError>
     ensures { IfOk result
-        (λ all. IfSome
-        (named_line name.now
-        (outcome (final answer.now.front.items answer.now.lines.items) answer.now.front.items))
+        (λ all. IfSome (named_line name.now (outcome (opening_of answer.now.front) answer.now.lines.items))
         (λ known. all.items ≡ known)) }
 {
-    match final_line(answer) {
-        None => named_line(alloc, name, outcome_in(answer.front.as_slice())),
-        Some(line) => {
-            let text = line_text(alloc, line)?;
-            named_line(alloc, name, first_line(text.as_bytes()))
-        }
-    }
+    let line = outcome(alloc, answer)?;
+    named_line(alloc, name, line.as_slice())
 }
 
 /// Returns the text of an answer in the requested form.
@@ -45,7 +38,8 @@ pub(crate) fn answer_as(
     answer: Answer,
 ) -> Result<Vec<u8>, AllocError>
     ensures { IfOk result
-        (λ all. IfSome (answer_as request.now answer.front.items answer.lines.items) (λ known. all.items ≡ known)) }
+        (λ all. IfSome (answer_as request.now (opening_of answer.front) answer.lines.items)
+        (λ known. all.items ≡ known)) }
 {
     let name = judged(&request.task);
     match (request.json, request.verdicts) {

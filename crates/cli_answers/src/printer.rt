@@ -1,6 +1,7 @@
 //! Prints an answer, or the reason why a task was not done, in the requested form. Returns the exit status.
 ghost use Rattle.std.specs.Prelude.{◌≡◌, ◌⊎◌, IfSome, codes};
 ghost use Rattle.std.specs.Io.KnownBytes.{Appends};
+ghost use Rattle.cli_tasks.specs.Openings.{opening_of};
 ghost use Rattle.cli_tasks.specs.Serving.{Tells};
 ghost use Rattle.cli_answers.specs.Printing.{answer_as};
 ghost use Rattle.cli_answers.specs.Serving.{IsRefusalShown, IsUnwritten};
@@ -39,12 +40,12 @@ pub(crate) fn show_answer<O: Output, F: Output>(
 ) -> u8
     ensures status { (result ≡ 0) ⊎ ((result ≡ 1) ⊎ (result ≡ 3)) }
     ensures done { result ≡ 0 →
-        IfSome (answer_as request.now answer.front.items answer.lines.items)
+        IfSome (answer_as request.now (opening_of answer.front) answer.lines.items)
         (Appends (O.contents out.old) (O.contents out.new)) }
     ensures quiet { result ≡ 0 → fault.new ≡ fault.old }
     ensures unwritten { result ≡ 1 →
         IsUnwritten (O.fails out.old) (Tells (F.fails fault.old) (F.contents fault.old) (F.contents fault.new))
-        (answer_as request.now answer.front.items answer.lines.items) (O.contents out.old) (O.contents out.new) }
+        (answer_as request.now (opening_of answer.front) answer.lines.items) (O.contents out.old) (O.contents out.new) }
     ensures unprinted { result ≡ 3 → out.new ≡ out.old }
     ensures memory { result ≡ 3 →
         Tells (F.fails fault.old) (F.contents fault.old) (F.contents fault.new) (codes "out of memory") }

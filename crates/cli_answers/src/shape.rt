@@ -1,20 +1,6 @@
-//! Lists the shapes of the lines that are printed: patterns of words, and the names of these words in JSON.
+//! Lists the shapes of the lines of a message table: patterns of words, and the names of these words in JSON.
 ghost use Rattle.std.specs.Prelude.{◌≡◌, map};
-ghost use Rattle.board.specs.Wording as asking;
-ghost use Rattle.cli_answers.specs.Shapes.{access_row, row_of, shapes};
-
-use board::Wording;
-
-/// What a line's JSON object gets in addition to the line's words, to say where in a chronicle the line belongs.
-#[derive(Clone, Copy, PartialEq, Eq)]
-pub(crate) enum Within {
-    /// The object gets nothing more.
-    Nothing,
-    /// The object gets the round.
-    Round,
-    /// The object gets the round, the general whose letter the line is in, and the label with the line's rank.
-    Letter,
-}
+ghost use Rattle.cli_answers.specs.Shapes.{row_of, shapes};
 
 /// A shape of lines: what each of their words is, and its name in JSON.
 #[derive(Clone, Copy)]
@@ -25,160 +11,11 @@ pub(crate) struct Shape {
     /// a number or a dash, `A` yes, no or a dash, `S` numbers joined by dots or a dash, and `C` the word of a rule.
     /// `*` is any number of further words, each a number or a dash. Anything else is the word itself.
     pub parts: &'static [(&'static str, &'static str)],
-    /// The mark: the name of a member that is true, or false, in the objects of all these lines. It is empty if there
-    /// is no mark.
-    pub mark: &'static str,
-    /// The value of the mark, or false if there is no mark.
-    pub holds: bool,
-    /// What the object gets in addition, to say where the line belongs.
-    pub within: Within,
 }
 
-/// The shapes of all lines except accesses. The first shape that fits a line describes it.
+/// The shapes of the lines of a message table. The first shape that fits a line describes it.
 const SHAPES: &[Shape] = &[
     Shape {
-        line: "version",
-        parts: &[("chronicle", "-"), ("N", "version")],
-        mark: "",
-        holds: false,
-        within: Within::Nothing,
-    },
-    Shape {
-        line: "campaign",
-        parts: &[
-            ("generals", "-"),
-            ("N", "generals"),
-            ("bound", "-"),
-            ("N", "bound"),
-            ("commander", "-"),
-            ("N", "commander"),
-            ("order", "-"),
-            ("N", "order"),
-        ],
-        mark: "",
-        holds: false,
-        within: Within::Nothing,
-    },
-    Shape {
-        line: "campaign",
-        parts: &[
-            ("generals", "-"),
-            ("N", "generals"),
-            ("bound", "-"),
-            ("N", "bound"),
-            ("commander", "-"),
-            ("N", "commander"),
-            ("order", "-"),
-            ("N", "order"),
-            ("patience", "-"),
-            ("P", "patience"),
-            ("rule", "-"),
-            ("C", "rule"),
-        ],
-        mark: "",
-        holds: false,
-        within: Within::Nothing,
-    },
-    Shape {
-        line: "campaign",
-        parts: &[
-            ("signed", "messages"),
-            ("generals", "-"),
-            ("N", "generals"),
-            ("bound", "-"),
-            ("N", "bound"),
-            ("commander", "-"),
-            ("N", "commander"),
-            ("order", "-"),
-            ("N", "order"),
-            ("patience", "-"),
-            ("P", "patience"),
-        ],
-        mark: "",
-        holds: false,
-        within: Within::Nothing,
-    },
-    Shape {
-        line: "round",
-        parts: &[("round", "-"), ("N", "round")],
-        mark: "",
-        holds: false,
-        within: Within::Nothing,
-    },
-    Shape {
-        line: "letter",
-        parts: &[("letter", "-"), ("N", "general"), ("loyal", "-")],
-        mark: "loyal",
-        holds: true,
-        within: Within::Round,
-    },
-    Shape {
-        line: "letter",
-        parts: &[
-            ("letter", "-"),
-            ("N", "general"),
-            ("steps", "-"),
-            ("N", "steps"),
-        ],
-        mark: "loyal",
-        holds: false,
-        within: Within::Round,
-    },
-    Shape {
-        line: "row",
-        parts: &[("row", "-"), ("N", "rank"), ("*", "orders")],
-        mark: "",
-        holds: false,
-        within: Within::Letter,
-    },
-    Shape {
-        line: "chain",
-        parts: &[
-            ("chain", "-"),
-            ("N", "order"),
-            ("S", "signers"),
-            ("to", "-"),
-            ("S", "receivers"),
-        ],
-        mark: "",
-        holds: false,
-        within: Within::Letter,
-    },
-    Shape {
-        line: "decision",
-        parts: &[("decision", "-"), ("N", "general"), ("N", "decision")],
-        mark: "traitor",
-        holds: false,
-        within: Within::Nothing,
-    },
-    Shape {
-        line: "decision",
-        parts: &[
-            ("decision", "-"),
-            ("N", "general"),
-            ("traitor", "-"),
-            ("N", "decision"),
-        ],
-        mark: "traitor",
-        holds: true,
-        within: Within::Nothing,
-    },
-    Shape {
-        line: "verdict",
-        parts: &[
-            ("verdict", "-"),
-            ("alike", "-"),
-            ("A", "alike"),
-            ("obeyed", "-"),
-            ("A", "obeyed"),
-            ("bound", "-"),
-            ("A", "bound"),
-        ],
-        mark: "",
-        holds: false,
-        within: Within::Nothing,
-    },
-    Shape {
         line: "table",
         parts: &[
             ("generals", "-"),
@@ -188,9 +25,6 @@ const SHAPES: &[Shape] = &[
             ("commander", "-"),
             ("N", "commander"),
         ],
-        mark: "",
-        holds: false,
-        within: Within::Nothing,
     },
     Shape {
         line: "table",
@@ -204,9 +38,6 @@ const SHAPES: &[Shape] = &[
             ("rule", "-"),
             ("C", "rule"),
         ],
-        mark: "",
-        holds: false,
-        within: Within::Nothing,
     },
     Shape {
         line: "message",
@@ -216,26 +47,10 @@ const SHAPES: &[Shape] = &[
             ("N", "receiver"),
             ("N", "order"),
         ],
-        mark: "",
-        holds: false,
-        within: Within::Nothing,
     },
 ];
 
-/// Returns the shape of lines that describe an access, where `wording` gives the words of the request.
-pub(crate) fn access_shape(wording: &Wording) -> Shape
-    ensures { row_of result ≡ access_row (asking.row_of wording.now) }
-{
-    Shape {
-        line: "access",
-        parts: wording.parts,
-        mark: "",
-        holds: false,
-        within: Within::Round,
-    }
-}
-
-/// Returns the shapes of all lines except accesses.
+/// Returns the shapes of the lines of a message table.
 #[tactic(auto, unfolding(crate::specs::Shapes::shapes))]
 pub(crate) fn shapes() -> &'static [Shape]
     ensures { map row_of result.now ≡ shapes }

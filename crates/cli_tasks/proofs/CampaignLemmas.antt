@@ -14,7 +14,6 @@ use Rattle.show_table.specs.Retold.{Explains, IsWhole}
 use Rattle.show_table.proofs.Rounds.{played_whole, replayed_whole}
 use Rattle.trace.specs.Laws.{IsSoundText}
 use Rattle.trace.specs.Names.{chronicle_told, names_of}
-use Rattle.trace.specs.Text.{chronicle_text}
 use Rattle.cli_tasks.specs.AuditLines.{sound_lines}
 use Rattle.world.specs.KindLists.{IsComplete, replayed}
 use Rattle.world.specs.Lists.{listed, names_in}
@@ -25,13 +24,14 @@ use Rattle.signed.specs.Kind.{signed_kind}
 use Rattle.signed.specs.Promises.{AgreeUnderSignedBound, IsSignedVerdictOn}
 use Rattle.signed.proofs.Worlds.{signed_campaigns}
 use Rattle.trace.specs.SignedAudit.{IsSoundSignedText, signed_chronicle_told}
-use Rattle.trace.specs.SignedText.{signed_text}
 use Rattle.cli_tasks.specs.Campaigns.{IsAccount, IsBehind, IsMustered, IsOralAudited, IsOralPlayed, IsSignedAudited, IsSignedPlayed, asked, blank, signed_behind}
+use Rattle.cli_tasks.specs.Openings.{Opening}
+use Rattle.cli_tasks.specs.Openings as opening
 use Rattle.cli_tasks.specs.Promises.{IsCompleteRun}
 use Rattle.cli_tasks.specs.Schedules.{played, signed_played}
 
 -- What `play` prints, from its parts: the chronicle or table, the explanation, and the facts about the run.
-pub is_played : (s : Scenario) (schedule : List (List Repeat)) (account : Account) (explained : Option Lieutenants) (chronicle : Chronicle) (front : List ℕ) (lines : List Line) → chronicle ≡ played s schedule
+pub is_played : (s : Scenario) (schedule : List (List Repeat)) (account : Account) (explained : Option Lieutenants) (chronicle : Chronicle) (front : Opening) (lines : List Line) → chronicle ≡ played s schedule
     → IsComplete oral_kind s (listed s (lines_by schedule)) → AreSafeThroughout oral_kind s (listed s (lines_by schedule)) → AreWhole oral_kind s chronicle.accesses chronicle.letters
     → AgreeUnderBound s chronicle.decisions → IsVerdictOn s chronicle.decisions chronicle.verdict → IsWellUnderBound chronicle.verdict
     → IsAccount account chronicle front → IsBehind explained chronicle lines → IsOralPlayed s schedule account explained front lines
@@ -58,7 +58,7 @@ unfolding chronicle_told
 told_wholly s bytes c inside is = replayed_whole s (names_of bytes) c inside is
 
 -- What `muster` prints, from its parts: the chronicle, the explanation, and the facts about the run.
-pub is_mustered : (s : Scenario) (explained : Option Lieutenants) (c : Chronicle) (front : List ℕ) (lines : List Line) → front ≡ chronicle_text c → IsBehind explained c lines
+pub is_mustered : (s : Scenario) (explained : Option Lieutenants) (c : Chronicle) (front : Opening) (lines : List Line) → front ≡ opening.Oral c → IsBehind explained c lines
     → c ≡ chronicle_of (replay_of s c.accesses) → IsComplete oral_kind s (replayed oral_kind s (names_in 1 c.accesses (suc s.bound)))
     → AreSafeThroughout oral_kind s (replayed oral_kind s (names_in 1 c.accesses (suc s.bound))) → AreWhole oral_kind s c.accesses c.letters
     → AgreeUnderBound s c.decisions → IsVerdictOn s c.decisions c.verdict → IsWellUnderBound c.verdict → IsMustered s explained front lines
@@ -115,13 +115,13 @@ pub is_behind : (who : Lieutenants) (c : Chronicle) (why lines : List Line) → 
 is_behind who c why lines explains is = (why, is, explains)
 
 -- What `play` prints for a signed campaign, from its parts: the chronicle, the explanation, and the facts about the run.
-pub is_signed_played : (s : Scenario) (schedule : List (List Repeat)) (explained : Option Lieutenants) (chronicle : Chronicle) (front : List ℕ) (lines : List Line) → chronicle ≡ signed_played s schedule
+pub is_signed_played : (s : Scenario) (schedule : List (List Repeat)) (explained : Option Lieutenants) (chronicle : Chronicle) (front : Opening) (lines : List Line) → chronicle ≡ signed_played s schedule
     → IsComplete signed_kind s (listed s (lines_by schedule))
     → AreSafeThroughout signed_kind s (listed s (lines_by schedule)) → AreWhole signed_kind s chronicle.accesses chronicle.letters
     → AgreeUnderSignedBound s chronicle.decisions → IsSignedVerdictOn s chronicle.decisions chronicle.verdict → IsWellUnderBound chronicle.verdict
-    → front ≡ signed_text chronicle → lines ≡ signed_behind explained chronicle → IsSignedPlayed s schedule explained front lines
+    → front ≡ opening.Signed chronicle → lines ≡ signed_behind explained chronicle → IsSignedPlayed s schedule explained front lines
 is_signed_played s schedule explained chronicle front lines listed complete safe whole agree verdict well told behind = record {
-  told = told ∙ ap (λ (c : Chronicle). signed_text c) listed;
+  told = told ∙ ap (λ (c : Chronicle). opening.Signed c) listed;
   behind = behind ∙ ap (λ (c : Chronicle). signed_behind explained c) listed;
   run = record { complete = complete; safe = safe; whole = subst (λ (c : Chronicle). AreWhole signed_kind s c.accesses c.letters) listed whole };
   agree = subst (λ (c : Chronicle). AgreeUnderSignedBound s c.decisions) listed agree;

@@ -8,6 +8,7 @@ use Rattle.answer_lines.specs.Text.{text_of}
 use Rattle.answer_lines.specs.declared.line.Line.{Line}
 use Rattle.world.specs.declared.schedule.Repeat.{Repeat}
 use Rattle.trace.specs.Schedules.{schedule_told}
+use Rattle.cli_tasks.specs.Openings.{Opening, opening_text}
 use Rattle.cli_tasks.specs.TaskAnswers.{ComesTo, GoesOn, IsUnfinished}
 use Rattle.cli_tasks.specs.Whys.{is_explained}
 use Rattle.cli_tasks.specs.TaskFaults.{Prevents}
@@ -41,8 +42,8 @@ goes_on task first (answer.Page c text) comes unfinished = comes
 goes_on task first (answer.PageRecorded c text) comes unfinished = comes
 goes_on task first (answer.Retrace s) comes unfinished = comes
 
--- The text of an answer, from the text before its lines and the lines.
-pub answer_there : (task : Task) (files : Files) (front : List ℕ) (lines : List Line) (text : List ℕ) → IsLinedAnswer task files front lines → text ≡ front ++ text_of lines → IsAnswer task files text
+-- The text of an answer, from what it begins with and its lines.
+pub answer_there : (task : Task) (files : Files) (front : Opening) (lines : List Line) (text : List ℕ) → IsLinedAnswer task files front lines → text ≡ opening_text front ++ text_of lines → IsAnswer task files text
 answer_there task files front lines text is told = (front, (lines, is, told))
 
 -- If the first file is accepted, what stops the task later prevents its answer.

@@ -24,17 +24,17 @@ use Rattle.signed.specs.Promises.{AgreeUnderSignedBound, IsSignedVerdictOn}
 use Rattle.trace.specs.Names.{chronicle_told, names_of}
 use Rattle.trace.specs.Laws.{IsSoundText}
 use Rattle.trace.specs.SignedAudit.{IsSoundSignedText, signed_chronicle_told}
-use Rattle.trace.specs.SignedText.{signed_text}
-use Rattle.trace.specs.Text.{chronicle_text}
 use Rattle.cli_tasks.specs.AuditLines.{sound_lines}
+use Rattle.cli_tasks.specs.Openings.{Opening}
+use Rattle.cli_tasks.specs.Openings as opening
 use Rattle.cli_tasks.specs.Promises.{IsCompleteRun}
 use Rattle.cli_tasks.specs.Schedules.{played, signed_played}
 
--- States that `text` is the chronicle of an oral campaign or, if `Table` is asked for, the message table that its
+-- States that `front` is the chronicle of an oral campaign or, if `Table` is asked for, the message table that its
 -- letters give. By this table the lieutenants decide as in the chronicle.
-abbrev pub IsAccount : Account → Chronicle → List ℕ → Type 0
-IsAccount accounts.Chronicle c text = text ≡ chronicle_text c
-IsAccount accounts.Table c text = IsRetold c text
+abbrev pub IsAccount : Account → Chronicle → Opening → Type 0
+IsAccount accounts.Chronicle c front = front ≡ opening.Oral c
+IsAccount accounts.Table c front = (text : List ℕ) × IsRetold c text × (front ≡ opening.Bytes text)
 
 -- Returns the number of the lieutenant whose decision is explained, or `None` if the decisions of all lieutenants are.
 abbrev pub asked : Lieutenants → Option ℕ
@@ -61,7 +61,7 @@ IsFollowed explained c front lines = (behind : List Line) × (lines ≡ front ++
 -- or takes more steps than its program has instructions, and each letter is complete. If the bound holds, the decisions
 -- agree. The verdict describes them correctly.
 pub record IsOralPlayed (s : Scenario) (schedule : List (List Repeat)) (account : Account)
-    (explained : Option Lieutenants) (front : List ℕ) (lines : List Line) : Type 0 where
+    (explained : Option Lieutenants) (front : Opening) (lines : List Line) : Type 0 where
   pub told : IsAccount account (played s schedule) front
   pub behind : IsBehind explained (played s schedule) lines
   pub run : IsCompleteRun oral_kind s (listed s (lines_by schedule)) (played s schedule)
@@ -80,8 +80,8 @@ signed_behind (Some who) c = Text (10 ∷ signed_explained c (asked who)) ∷ []
 -- steps than its program has instructions, and each letter is complete. The decisions agree if there are at most m
 -- traitors among n generals, with n at least m + 2. The verdict describes them correctly.
 pub record IsSignedPlayed (s : Scenario) (schedule : List (List Repeat)) (explained : Option Lieutenants)
-    (front : List ℕ) (lines : List Line) : Type 0 where
-  pub told : front ≡ signed_text (signed_played s schedule)
+    (front : Opening) (lines : List Line) : Type 0 where
+  pub told : front ≡ opening.Signed (signed_played s schedule)
   pub behind : lines ≡ signed_behind explained (signed_played s schedule)
   pub run : IsCompleteRun signed_kind s (listed s (lines_by schedule)) (signed_played s schedule)
   pub agree : AgreeUnderSignedBound s (signed_played s schedule).decisions
@@ -89,7 +89,7 @@ pub record IsSignedPlayed (s : Scenario) (schedule : List (List Repeat)) (explai
   pub well : IsWellUnderBound (signed_played s schedule).verdict
 
 -- States that `front`, followed by `lines`, is what `play` prints about the campaign when it is played by the schedule.
-abbrev pub IsPlayed : Campaign → List (List Repeat) → Account → Option Lieutenants → List ℕ → List Line → Type 0
+abbrev pub IsPlayed : Campaign → List (List Repeat) → Account → Option Lieutenants → Opening → List Line → Type 0
 IsPlayed (Oral s) schedule account explained front lines = IsOralPlayed s schedule account explained front lines
 IsPlayed (Signed s) schedule account explained front lines = IsSignedPlayed s schedule explained front lines
 
@@ -97,10 +97,9 @@ IsPlayed (Signed s) schedule account explained front lines = IsSignedPlayed s sc
 -- explanation of the decisions if it is asked for. The run is the replay of its own accesses, no activation in it traps
 -- or takes more steps than its program has instructions, and each letter is complete. If the bound holds, the decisions
 -- agree. The verdict describes them correctly.
-pub record IsMustered (s : Scenario) (explained : Option Lieutenants) (front : List ℕ) (lines : List Line) :
-    Type 0 where
+pub record IsMustered (s : Scenario) (explained : Option Lieutenants) (front : Opening) (lines : List Line) : Type 0 where
   pub chronicle : Chronicle
-  pub told : front ≡ chronicle_text chronicle
+  pub told : front ≡ opening.Oral chronicle
   pub behind : IsBehind explained chronicle lines
   pub replay : chronicle ≡ chronicle_of (replay_of s chronicle.accesses)
   pub run : IsCompleteRun oral_kind s (replayed oral_kind s (names_in 1 chronicle.accesses (suc s.bound))) chronicle

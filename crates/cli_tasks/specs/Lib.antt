@@ -18,6 +18,7 @@ pub mod Picturing
 pub mod TableRefusals
 pub mod Strangers
 pub mod Explained
+pub mod Openings
 pub mod Campaigns
 pub mod Exploring
 pub mod AuditLines

@@ -21,6 +21,8 @@ use Rattle.cli_tasks.specs.declared.first_answer.FirstAnswer.TheVariants as answ
 use Rattle.cli_tasks.specs.TaskAnswers.{ComesTo, GoesOn}
 use Rattle.cli_tasks.specs.Answers.{IsTriedBy}
 use Rattle.cli_tasks.specs.Campaigns.{IsAudited, IsMustered, IsPlayed}
+use Rattle.cli_tasks.specs.Openings.{Opening, nothing, opening_text}
+use Rattle.cli_tasks.specs.Openings as opening
 use Rattle.cli_tasks.specs.Schedules.{IsSchedule}
 use Rattle.cli_tasks.specs.Diagrams.{IsCampaignDrawn, IsRecordDrawn}
 use Rattle.cli_tasks.specs.Pages.{IsCampaignPaged, IsRecordTold}
@@ -75,7 +77,7 @@ IsScheduleOf known schedule = (second : Option (List ℕ)) × AreSecond known se
 
 -- States that `front`, followed by `lines`, is what `play` prints about the campaign when it is played by the schedule in
 -- the second file.
-abbrev pub IsPlayedBy : Option (Option (List ℕ)) → Campaign → Account → Option Lieutenants → List ℕ → List Line → Type 0
+abbrev pub IsPlayedBy : Option (Option (List ℕ)) → Campaign → Account → Option Lieutenants → Opening → List Line → Type 0
 IsPlayedBy known c account explained front lines =
     (schedule : List (List Repeat)) × IsScheduleOf known schedule × IsPlayed c schedule account explained front lines
 
@@ -126,18 +128,20 @@ IsTextAfter known _ text = ⊥
 
 -- States that `front`, followed by `lines`, is the answer of a task whose result on its first file is `more`. `known` are
 -- the bytes of its second file.
-abbrev pub EndsIn : Task → List ℕ → Option (Option (List ℕ)) → FirstAnswer → List ℕ → List Line → Type 0
-EndsIn task first known (answer.Lines all) front lines = (front ≡ []) × (lines ≡ all.items)
+abbrev pub EndsIn : Task → List ℕ → Option (Option (List ℕ)) → FirstAnswer → Opening → List Line → Type 0
+EndsIn task first known (answer.Lines all) front lines = (front ≡ nothing) × (lines ≡ all.items)
 EndsIn task first known (answer.Trial program told) front lines =
-    (front ≡ []) × IsTrialOf known told (explained_in task) first program lines
-EndsIn task first known (answer.Audit c explained) front lines = (front ≡ []) × IsAuditOf known c explained lines
+    (front ≡ nothing) × IsTrialOf known told (explained_in task) first program lines
+EndsIn task first known (answer.Audit c explained) front lines =
+    (front ≡ nothing) × IsAuditOf known c explained lines
 EndsIn task first known (answer.Play c account explained) front lines =
     IsPlayedBy known c account explained front lines
 EndsIn task first known (answer.Muster s explained) front lines = IsMustered s explained front lines
-EndsIn task first known more front lines = IsTextAfter known more front × (lines ≡ [])
+EndsIn task first known more front lines =
+    (text : List ℕ) × IsTextAfter known more text × (front ≡ opening.Bytes text) × (lines ≡ [])
 
--- States that the answer of the task for these files is the text or the bytes `front`, followed by `lines`.
-abbrev pub IsLinedAnswer : Task → Files → List ℕ → List Line → Type 0
+-- States that the answer of the task for these files is `front`, followed by `lines`.
+abbrev pub IsLinedAnswer : Task → Files → Opening → List Line → Type 0
 IsLinedAnswer task files front lines =
     (first : List ℕ) × AreBytes files.first first
     × ((more : FirstAnswer) × ComesTo task first more × EndsIn task first files.second more front lines)
@@ -145,7 +149,8 @@ IsLinedAnswer task files front lines =
 -- States that the task prints `text` for these files.
 abbrev pub IsAnswer : Task → Files → List ℕ → Type 0
 IsAnswer task files text =
-    (front : List ℕ) × ((lines : List Line) × IsLinedAnswer task files front lines × (text ≡ front ++ text_of lines))
+    (front : Opening) × ((lines : List Line) × IsLinedAnswer task files front lines
+    × (text ≡ opening_text front ++ text_of lines))
 
 -- States that the task has an answer for these files, and that `stands` holds of its text.
 abbrev pub HasAnswer : (List ℕ → Type 0) → Task → Files → Type 0

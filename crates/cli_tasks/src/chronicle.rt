@@ -5,8 +5,9 @@ ghost use Rattle.trace.specs.SignedText.{signed_text};
 ghost use Rattle.trace.specs.Text.{chronicle_text};
 ghost use Rattle.show_table.specs.Retold.{IsWhole};
 ghost use Rattle.cli_tasks.specs.Campaigns.{IsAccount, IsBehind, IsOralPlayed, IsPlayed, IsSignedPlayed, asked, blank, signed_behind};
+ghost use Rattle.cli_tasks.specs.Openings.{opening_of};
 
-use crate::lined_answer::Answer;
+use crate::lined_answer::{Answer, Front};
 use answer_lines::{Line, Passage};
 use cli_words::{Account, Lieutenants};
 use round::Scenario;
@@ -32,7 +33,7 @@ pub fn played(
     explained: Option<Lieutenants>,
 ) -> Result<Answer, AllocError>
     ensures { IfOk result
-        (λ answer. IsPlayed campaign schedule.now account explained answer.front.items answer.lines.items) }
+        (λ answer. IsPlayed campaign schedule.now account explained (opening_of answer.front) answer.lines.items) }
 {
     match campaign {
         Campaign::Oral(scenario) => oral_played(alloc, scenario, schedule, account, explained),
@@ -51,27 +52,27 @@ fn oral_played(
     explained: Option<Lieutenants>,
 ) -> Result<Answer, AllocError>
     ensures { IfOk result
-        (λ answer. IsOralPlayed scenario schedule.now account explained answer.front.items answer.lines.items) }
+        (λ answer. IsOralPlayed scenario schedule.now account explained (opening_of answer.front) answer.lines.items) }
 {
     scenario.recall();
     let chronicle = play(alloc, scenario, schedule)?;
-    let front = account_text(alloc, &chronicle, account)?;
     let lines = explained_decisions(alloc, &chronicle, explained)?;
+    let front = account_of(alloc, chronicle, account)?;
     Ok(Answer { front, lines })
 }
 
-/// Returns an oral campaign as text: its chronicle or its message table, as `account` says.
-fn account_text(
+/// Returns the account of an oral campaign: its chronicle or its message table, as `account` says.
+fn account_of(
     alloc: Global,
-    chronicle: &Chronicle,
+    chronicle: Chronicle,
     account: Account,
-) -> Result<Vec<u8>, AllocError>
-    requires { IsWhole chronicle.now }
-    ensures { IfOk result (λ text. IsAccount account chronicle.now text.items) }
+) -> Result<Front, AllocError>
+    requires { IsWhole chronicle }
+    ensures { IfOk result (λ front. IsAccount account chronicle (opening_of front)) }
 {
     match account {
-        Account::Chronicle => chronicle_text(alloc, chronicle),
-        Account::Table => Ok(table(alloc, chronicle)?.into_bytes()),
+        Account::Chronicle => Ok(Front::Oral(chronicle)),
+        Account::Table => Ok(Front::Bytes(table(alloc, &chronicle)?.into_bytes())),
     }
 }
 
@@ -84,12 +85,14 @@ fn signed_played(
     explained: Option<Lieutenants>,
 ) -> Result<Answer, AllocError>
     ensures { IfOk result
-        (λ answer. IsSignedPlayed scenario schedule.now explained answer.front.items answer.lines.items) }
+        (λ answer. IsSignedPlayed scenario schedule.now explained (opening_of answer.front) answer.lines.items) }
 {
     let chronicle = play_signed(alloc, scenario, schedule)?;
-    let front = signed_chronicle_text(alloc, &chronicle)?;
     let lines = explained_signed_decisions(alloc, &chronicle, explained)?;
-    Ok(Answer { front, lines })
+    Ok(Answer {
+        front: Front::Signed(chronicle),
+        lines,
+    })
 }
 
 /// Returns the text of an oral campaign's chronicle.
@@ -171,7 +174,7 @@ fn asked(who: Lieutenants) -> Option<u8>
 }
 
 /// Returns the text of a signed campaign's chronicle.
-fn signed_chronicle_text(alloc: Global, chronicle: &SignedChronicle) -> Result<Vec<u8>, AllocError>
+pub(crate) fn signed_chronicle_text(alloc: Global, chronicle: &SignedChronicle) -> Result<Vec<u8>, AllocError>
     ensures { IfOk result (λ text. text.items ≡ signed_text chronicle.now) }
 {
     let mut latch = Latch::new(Vec::new(alloc));

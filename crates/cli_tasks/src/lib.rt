@@ -59,7 +59,7 @@ pub use folder::Folder;
 pub use forms::{filled, formed};
 pub use hint::Hint;
 pub use likeness::{Likeness, seems};
-pub use lined_answer::Answer;
+pub use lined_answer::{Answer, Front};
 pub use muster::mustered;
 pub use named_files::FileProblem;
 pub use pages::{paged, record_paged};

@@ -1,10 +1,11 @@
-//! Runs a campaign with a thread for each general, and writes its chronicle (subcommand `muster`).
+//! Runs a campaign with a thread for each general, and returns its chronicle (subcommand `muster`).
 ghost use Rattle.std.specs.Prelude.{IfOk, IfErr};
 ghost use Rattle.cli_tasks.specs.Campaigns.{IsMustered};
 ghost use Rattle.cli_tasks.specs.CampaignRefusals.{RefusesMuster};
+ghost use Rattle.cli_tasks.specs.Openings.{opening_of};
 
-use crate::chronicle::{chronicle_text, explained_decisions};
-use crate::lined_answer::Answer;
+use crate::chronicle::explained_decisions;
+use crate::lined_answer::{Answer, Front};
 use crate::refusal::InputRefusal;
 use cli_words::Lieutenants;
 use round::Scenario;
@@ -13,7 +14,7 @@ use std::sync::Wait;
 use std::thread::Threads;
 use threads::{Open, muster};
 
-/// Runs an oral campaign with a thread for each general, and waits for the threads. Returns its chronicle as text.
+/// Runs an oral campaign with a thread for each general, and waits for the threads. Returns its chronicle.
 /// If `explained` names lieutenants, the explanation of their decisions follows.
 ///
 /// # Errors
@@ -28,12 +29,14 @@ pub fn mustered<T: Threads + Wait + Sync>(
     explained: Option<Lieutenants>,
 ) -> Result<Answer, InputRefusal>
     ensures mustered { IfOk result
-        (λ answer. IsMustered scenario explained answer.front.items answer.lines.items) }
+        (λ answer. IsMustered scenario explained (opening_of answer.front) answer.lines.items) }
     ensures refused { IfErr result RefusesMuster }
 {
     scenario.recall();
     let chronicle = muster(rt, alloc, scenario, &Open)?;
-    let front = chronicle_text(alloc, &chronicle)?;
     let lines = explained_decisions(alloc, &chronicle, explained)?;
-    Ok(Answer { front, lines })
+    Ok(Answer {
+        front: Front::Oral(chronicle),
+        lines,
+    })
 }

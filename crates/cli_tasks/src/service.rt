@@ -5,6 +5,7 @@ ghost use Rattle.std.specs.Io.KnownBytes.{Appends};
 ghost use Rattle.cli_tasks.specs.Faults.{IsToldIf, Stops, fault_text, status_of};
 ghost use Rattle.cli_tasks.specs.TaskFaults.{Undoes, Prevents};
 ghost use Rattle.cli_tasks.specs.TaskAnswers.{IsUnfinished};
+ghost use Rattle.cli_tasks.specs.Openings.{opening_of, opening_text};
 ghost use Rattle.cli_tasks.specs.TaskHints.{explained_in};
 ghost use Rattle.cli_tasks.specs.Whys.{Nothing, TellsWhyOf, is_explained};
 ghost use Rattle.cli_tasks.specs.Serving.{EndsIn, IsAuditOf, IsFault, IsLinedAnswer, IsPlayedBy, IsPrinted, IsScheduleOf, IsScheduleTold, IsToldLater, IsTrialOf, Tells, files};
@@ -122,7 +123,7 @@ where
 
 /// Returns the bytes that are printed of an answer.
 fn printed<'a>(alloc: Global, answer: Answer) -> Result<Vec<u8>, TaskFailure<'a>>
-    ensures text { IfOk result (λ text. text.items ≡ answer.front.items ++ text_of answer.lines.items) }
+    ensures text { IfOk result (λ text. text.items ≡ opening_text (opening_of answer.front) ++ text_of answer.lines.items) }
     ensures fault { IfErr result (λ fault. fault ≡ TaskFailure.Memory) }
 {
     match answer.into_bytes(alloc) {
@@ -147,7 +148,8 @@ where
     T: Threads + Wait + Sync,
     R: Source,
     ensures answer { IfOk result
-        (λ answer. IsLinedAnswer task.entry.now (files R.bytes first second) answer.front.items answer.lines.items) }
+        (λ answer. IsLinedAnswer task.entry.now (files R.bytes first second) (opening_of answer.front)
+        answer.lines.items) }
     ensures fault { IfErr result
         (Prevents (R.fails first) (IsSomeAnd second R.fails) task.entry.now (files R.bytes first second)) }
 {
@@ -174,7 +176,8 @@ where
     T: Threads + Wait + Sync,
     R: Source,
     ensures answer { IfOk result
-        (λ answer. EndsIn task.now first.now (option_map R.bytes second) more answer.front.items answer.lines.items) }
+        (λ answer. EndsIn task.now first.now (option_map R.bytes second) more (opening_of answer.front)
+        answer.lines.items) }
     ensures fault { IfErr result
         (λ fault. IsUnfinished more
         × Stops (IsSomeAnd second R.fails)
@@ -287,7 +290,7 @@ fn play_by<'a, R: Source>(
     second: Option<R>,
 ) -> Result<Answer, TaskFailure<'a>>
     ensures played { IfOk result
-        (λ answer. IsPlayedBy (option_map R.bytes second) campaign account explained answer.front.items
+        (λ answer. IsPlayedBy (option_map R.bytes second) campaign account explained (opening_of answer.front)
         answer.lines.items) }
     ensures fault { IfErr result
         (Stops (IsSomeAnd second R.fails)

@@ -1,10 +1,10 @@
 //! Writes chronicles to a sink.
-ghost use Rattle.std.specs.Prelude.{◌≡◌, ◌∷◌, [], IfErr, OnOk, false, is_err};
+ghost use Rattle.std.specs.Prelude.{◌≡◌, IfErr, OnOk, false, is_err};
 ghost use Rattle.std.specs.Io.KnownBytes.{Appends};
 ghost use Rattle.label.specs.Lieutenants.{lieutenants};
 ghost use Rattle.trace.specs.declared.fault.TraceError.TheVariants.{Write as unwritten};
 ghost use Rattle.trace.specs.Sinks.{Wrote};
-ghost use Rattle.trace.specs.Text.{campaign_words, decision_lines, further, further_words, head_lines, round_lines, spaced, text, text_in, chronicle_text, verdict_line};
+ghost use Rattle.trace.specs.Text.{campaign_words, decision_lines, further, further_words, head_lines, round_lines, spaced, text, text_in, chronicle_text};
 
 use crate::fault::TraceError;
 use crate::heading::{put_campaign, put_further, put_version};
@@ -14,7 +14,7 @@ use crate::sink::Sink;
 use crate::version::{Version, version_by};
 use crate::writer::put_all;
 use round::Scenario;
-use world::{Chronicle, Verdict};
+use world::Chronicle;
 
 /// Writes the numbers in the second line of a chronicle: the number of generals, the bound, the commander and his
 /// order.
@@ -104,23 +104,6 @@ pub fn write_chronicle<S: Sink>(chronicle: &Chronicle, sink: &mut S) -> Result<(
     ensures exactly { is_err result ≡ S.has_failed sink.new }
 {
     put_whole(sink, chronicle);
-    written(sink)
-}
-
-/// Writes the line of a verdict, which ends with an LF. It allocates no memory.
-///
-/// # Errors
-///
-/// `Write` exactly if the sink has failed when the function returns. Then at most a beginning of the line was written.
-pub fn write_verdict<S: Sink>(verdict: Verdict, sink: &mut S) -> Result<(), TraceError>
-    ensures written { OnOk result
-        (Appends (S.contents sink.old) (S.contents sink.new) (text (verdict_line verdict ∷ []))) }
-    ensures beginning { Wrote (S.contents sink.old) (S.has_failed sink.old) (text (verdict_line verdict ∷ []))
-        (S.contents sink.new) (S.has_failed sink.new) }
-    ensures fault { IfErr result (λ e. e ≡ unwritten) }
-    ensures exactly { is_err result ≡ S.has_failed sink.new }
-{
-    put_verdict(sink, verdict);
     written(sink)
 }
 

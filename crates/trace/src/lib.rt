@@ -26,12 +26,13 @@ mod version;
 mod writer;
 
 pub use audit::{check, sound_chronicle};
-pub use chronicles::{write_chronicle, write_verdict};
+pub use chronicles::write_chronicle;
 pub use fault::{TraceError, TraceFault};
 pub use laws::{
     names_are_told, signed_names_are_told, signed_texts_are_replays, sound_signed_texts_are_runs,
     sound_texts_are_runs,
 };
+pub use receivers::named;
 pub use replacement::{signed_told_again, told_again};
 pub use schedule_reader::{MOST_SCHEDULE_BYTES, read_schedule};
 pub use signed_audit::{check_signed, sound_signed_chronicle};

@@ -6,4 +6,4 @@ use Rattle.cli_answers.specs.Shapes.{row_of}
 use Rattle.cli_answers.proofs.objects.first_shaped.Given as goal
 
 abbrev pub invariant-loop-shape : goal.invariant-loop-shape
-invariant-loop-shape l = first_shaped l.held (map row_of (drop l.shape-index l.shapes)) (pieces space l.line) ≡ first_shaped l.held (map row_of l.shapes) (pieces space l.line)
+invariant-loop-shape l = first_shaped (map row_of (drop l.shape-index l.shapes)) (pieces space l.line) ≡ first_shaped (map row_of l.shapes) (pieces space l.line)
