@@ -135,15 +135,15 @@ shaped_clean : (r : Row) (ws : List Word) → HaveClean (shaped r ws)
 unfolding shaped
 shaped_clean r ws = told_by_clean r.parts ws (called r.line) refl
 
-numbers_clean : (ns : List ℕ) → items_have_float (numbers ns) ≡ false
+pub numbers_clean : (ns : List ℕ) → items_have_float (numbers ns) ≡ false
 numbers_clean [] = refl
 numbers_clean (n ∷ ns) = numbers_clean ns
 
-label_clean : (o : Option (List ℕ)) (ms : Members) → NoFloat ms → NoFloat (with_label o ms)
+pub label_clean : (o : Option (List ℕ)) (ms : Members) → NoFloat ms → NoFloat (with_label o ms)
 label_clean None ms b = b
 label_clean (Some w) ms b = put_clean (codes "label") (array (numbers w)) ms (numbers_clean w) b
 
-within_clean : (name : List ℕ) (n : ℕ) (ms : Members) → NoFloat ms → NoFloat (with_number name n ms)
+pub within_clean : (name : List ℕ) (n : ℕ) (ms : Members) → NoFloat ms → NoFloat (with_number name n ms)
 within_clean name n ms b = put_clean name (number (unsigned n)) ms refl b
 
 by_clean : (o rest : Option Members) → HaveClean o → HaveClean rest → HaveClean (first_by o rest)

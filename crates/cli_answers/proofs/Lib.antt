@@ -1,6 +1,7 @@
 mod CleanLemmas
 mod ItemLemmas
 mod LabelLemmas
+mod RecordClean
 mod RecordLemmas
 mod ValueLemmas
 mod WhyLemmas

@@ -6,6 +6,7 @@ ghost use Rattle.label.specs.Lieutenants.{lieutenants};
 ghost use Rattle.outbox.specs.Told.{orders_told};
 ghost use Rattle.signed.specs.Sending.{dispatch_of};
 ghost use Rattle.signed.specs.Sent.{sent_in};
+ghost use Rattle.trace.specs.declared.version.Version.TheVariants.{First, Second};
 ghost use Rattle.trace.specs.Text.{steps_of, version_of};
 ghost use Rattle.cli_answers.specs.Lines.{json_line, object_line, object_lines};
 ghost use Rattle.cli_answers.specs.Record.{access_object, author_object, chain_object, decided, decided_one, head_objects, held_in, last_lines, letter_objects, oral_objects, round_objects, rounds_objects, row_object, signed_head_objects, signed_letter_objects, signed_objects};
@@ -27,22 +28,46 @@ use std::alloc::{AllocError, Global};
 use trace::{Version, version_by};
 use world::{Chronicle, Verdict};
 
+/// Appends the objects of the first two lines of an oral campaign's chronicle in the first version.
+fn push_first_head(
+    alloc: Global,
+    out: &mut Vec<u8>,
+    scenario: &Scenario,
+) -> Result<(), AllocError>
+    ensures { OnOk result (out.new.items ≡ out.old.items ++ object_lines (head_objects First scenario.now)) }
+{
+    let version = version_object(alloc, 1)?;
+    push_object(alloc, out, version)?;
+    let campaign = campaign_object(alloc, scenario)?;
+    push_object(alloc, out, campaign)
+}
+
+/// Appends the objects of the first two lines of an oral campaign's chronicle in the second version.
+fn push_second_head(
+    alloc: Global,
+    out: &mut Vec<u8>,
+    scenario: &Scenario,
+) -> Result<(), AllocError>
+    ensures { OnOk result (out.new.items ≡ out.old.items ++ object_lines (head_objects Second scenario.now)) }
+{
+    let version = version_object(alloc, 2)?;
+    push_object(alloc, out, version)?;
+    let mut campaign = campaign_object(alloc, scenario)?;
+    put_patience(alloc, &mut campaign, scenario)?;
+    let rule = Value::try_from_str(alloc, scenario.rule().name())?;
+    put(&mut campaign, alloc, "rule", rule)?;
+    push_object(alloc, out, campaign)
+}
+
 /// Appends the objects of the first two lines of an oral campaign's chronicle.
 fn push_head(alloc: Global, out: &mut Vec<u8>, scenario: &Scenario) -> Result<(), AllocError>
     ensures { OnOk result (out.new.items ≡ out.old.items
         ++ object_lines (head_objects (version_of scenario.now) scenario.now)) }
 {
-    let mut campaign = campaign_object(alloc, scenario)?;
     match version_by(scenario.patience(), scenario.rule()) {
-        Version::First => push_object(alloc, out, version_object(alloc, 1)?)?,
-        Version::Second => {
-            push_object(alloc, out, version_object(alloc, 2)?)?;
-            put_patience(alloc, &mut campaign, scenario)?;
-            let rule = Value::try_from_str(alloc, scenario.rule().name())?;
-            put(&mut campaign, alloc, "rule", rule)?;
-        }
+        Version::First => push_first_head(alloc, out, scenario),
+        Version::Second => push_second_head(alloc, out, scenario),
     }
-    push_object(alloc, out, campaign)
 }
 
 /// Appends the objects of the first two lines of a signed campaign's chronicle.
@@ -53,7 +78,8 @@ fn push_signed_head(
 ) -> Result<(), AllocError>
     ensures { OnOk result (out.new.items ≡ out.old.items ++ object_lines (signed_head_objects scenario.now)) }
 {
-    push_object(alloc, out, version_object(alloc, 3)?)?;
+    let version = version_object(alloc, 3)?;
+    push_object(alloc, out, version)?;
     let mut campaign = campaign_object(alloc, scenario)?;
     let signed = Value::try_from_str(alloc, "signed")?;
     put(&mut campaign, alloc, "messages", signed)?;

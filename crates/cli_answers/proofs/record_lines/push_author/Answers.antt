@@ -1,0 +1,5 @@
+use Rattle.cli_answers.proofs.RecordClean.{author_clean}
+use Rattle.cli_answers.proofs.record_lines.push_author.Goals as goal
+
+pub push_object-requires : goal.push_object-requires
+push_object-requires c = rw c.in_ok-object.ensures (author_clean _ _ _)
