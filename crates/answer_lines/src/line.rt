@@ -36,8 +36,8 @@ pub enum Line {
         traitor: bool,
         order: u32,
     },
-    /// The verdict on a campaign: whether the loyal lieutenants decide alike, whether they obey the commander, and whether
-    /// the bound holds. `obeyed` is `None` if the commander is a traitor.
+    /// The verdict on a campaign: whether the loyal lieutenants decide alike, whether they obey the commander, and
+    /// whether the bound holds. `obeyed` is `None` if the commander is a traitor.
     Verdict {
         alike: bool,
         obeyed: Option<bool>,

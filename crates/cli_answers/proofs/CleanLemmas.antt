@@ -1,6 +1,6 @@
 -- The JSON objects of printed lines have no floats.
 use Rattle.std.proofs.Common.{◌≡◌, ℕ, Bool, true, false, List, [], ◌∷◌, Option, None, Some, Ordering, Less, Equal, Greater, option_map, option_and_then, bytes_eq, codes, refl}
-use Rattle.std.specs.Prelude.{if◌then◌else◌, ◌||◌, ◌==◌, is_some, slice_get, unwrap_or}
+use Rattle.std.specs.Prelude.{if◌then◌else◌, ◌||◌, is_some, slice_get, unwrap_or}
 use Rattle.std.specs.Str.Lossy.{utf8_lossy}
 use Rattle.std.specs.Cmp.Lexicographic.{slice_cmp}
 use Rattle.std.specs.Ordering.{match_ordering, nat_cmp}

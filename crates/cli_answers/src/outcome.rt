@@ -70,8 +70,8 @@ pub(crate) fn verdict_of(verdict: Verdict) -> Line
     }
 }
 
-/// Returns the line that says how a task ended whose answer begins with these bytes: the first line of their text or, if
-/// there are no bytes, the first verdict or the first line.
+/// Returns the line that says how a task ended whose answer begins with these bytes: the first line of their text or,
+/// if there are no bytes, the first verdict or the first line.
 fn outcome_in(alloc: Global, bytes: &[u8], lines: &[Line]) -> Result<Vec<u8>, AllocError>
     ensures { IfOk result (λ line. line.items ≡ outcome (Bytes bytes.now) lines.now) }
 {

@@ -30,7 +30,8 @@ fn unwritten<F: Output>(fault: &mut F) -> u8
     1
 }
 
-/// Prints an answer on `out` in the requested form. Returns the exit status: 0 if the answer was printed, 1 if the output failed, and 3 if memory ran out.
+/// Prints an answer on `out` in the requested form. Returns the exit status: 0 if the answer was printed, 1 if the
+/// output failed, and 3 if memory ran out.
 pub(crate) fn show_answer<O: Output, F: Output>(
     alloc: Global,
     request: &TaskRequest,

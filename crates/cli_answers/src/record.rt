@@ -181,7 +181,8 @@ pub(crate) fn author_object(
     Ok(object)
 }
 
-/// Returns the object of the orders for the label with this rank in a letter. `held` has the letter's general and round.
+/// Returns the object of the orders for the label with this rank in a letter. `held` has the letter's general and
+/// round.
 pub(crate) fn row_object(
     alloc: Global,
     held: Held,

@@ -127,7 +127,8 @@ fn push_round(
     round: u64,
     accesses: &[Access],
 ) -> Result<(), AllocError>
-    ensures { OnOk result (out.new.items ≡ out.old.items ++ object_lines (round_objects (λ _ _. []) accesses.now round [])) }
+    ensures { OnOk result (out.new.items ≡ out.old.items
+        ++ object_lines (round_objects (λ _ _. []) accesses.now round [])) }
 {
     let first = in_round(alloc, "round", round)?;
     push_object(alloc, out, first)?;

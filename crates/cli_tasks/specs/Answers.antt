@@ -58,8 +58,9 @@ AreSlipsBehind (Some notation) bytes program s told text =
     (places : List (String Global)) × ArePlaces notation bytes (map string_bytes places)
     × (text ≡ told ++ slips_on places s.board program (context_in s) (oral s.shape))
 
--- States that `text` is what follows the lines of the program's trial in this setting: the steps if `traced` is set. If
--- an explanation is asked for, it follows, with a note for each call that should set orders in the outbox but sets none.
+-- States that `text` is what follows the lines of the program's trial in this setting: the steps if `traced` is set.
+-- If an explanation is asked for, it follows, with a note for each call that should set orders in the outbox but sets
+-- none.
 abbrev pub IsTextOfTrial : Setting → Bool → Option Notation → List ℕ → List Insn → List ℕ → Type 0
 IsTextOfTrial s traced asked bytes program text =
     (told : List ℕ) × IsBehind asked bytes program (steps_behind traced program s) told

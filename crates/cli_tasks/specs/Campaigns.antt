@@ -97,7 +97,8 @@ IsPlayed (Signed s) schedule account explained front lines = IsSignedPlayed s sc
 -- explanation of the decisions if it is asked for. The run is the replay of its own accesses, no activation in it traps
 -- or takes more steps than its program has instructions, and each letter is complete. If the bound holds, the decisions
 -- agree. The verdict describes them correctly.
-pub record IsMustered (s : Scenario) (explained : Option Lieutenants) (front : Opening) (lines : List Line) : Type 0 where
+pub record IsMustered (s : Scenario) (explained : Option Lieutenants) (front : Opening) (lines : List Line) :
+    Type 0 where
   pub chronicle : Chronicle
   pub told : front ≡ opening.Oral chronicle
   pub behind : IsBehind explained chronicle lines

@@ -75,9 +75,10 @@ AreSecondBytes (Some known) bytes = AreBytes known bytes
 abbrev pub IsScheduleOf : Option (Option (List ℕ)) → List (List Repeat) → Type 0
 IsScheduleOf known schedule = (second : Option (List ℕ)) × AreSecond known second × IsSchedule second schedule
 
--- States that `front`, followed by `lines`, is what `play` prints about the campaign when it is played by the schedule in
--- the second file.
-abbrev pub IsPlayedBy : Option (Option (List ℕ)) → Campaign → Account → Option Lieutenants → Opening → List Line → Type 0
+-- States that `front`, followed by `lines`, is what `play` prints about the campaign when it is played by the schedule
+-- in the second file.
+abbrev pub IsPlayedBy : Option (Option (List ℕ)) → Campaign → Account → Option Lieutenants → Opening → List Line →
+    Type 0
 IsPlayedBy known c account explained front lines =
     (schedule : List (List Repeat)) × IsScheduleOf known schedule × IsPlayed c schedule account explained front lines
 
@@ -126,8 +127,8 @@ IsTextAfter known (answer.PageRecorded c scenario) text = IsPagedAs known c (str
 IsTextAfter known (answer.Retrace s) text = IsRetracedBy known s text
 IsTextAfter known _ text = ⊥
 
--- States that `front`, followed by `lines`, is the answer of a task whose result on its first file is `more`. `known` are
--- the bytes of its second file.
+-- States that `front`, followed by `lines`, is the answer of a task whose result on its first file is `more`. `known`
+-- are the bytes of its second file.
 abbrev pub EndsIn : Task → List ℕ → Option (Option (List ℕ)) → FirstAnswer → Opening → List Line → Type 0
 EndsIn task first known (answer.Lines all) front lines = (front ≡ nothing) × (lines ≡ all.items)
 EndsIn task first known (answer.Trial program told) front lines =

@@ -123,7 +123,8 @@ where
 
 /// Returns the bytes that are printed of an answer.
 fn printed<'a>(alloc: Global, answer: Answer) -> Result<Vec<u8>, TaskFailure<'a>>
-    ensures text { IfOk result (λ text. text.items ≡ opening_text (opening_of answer.front) ++ text_of answer.lines.items) }
+    ensures text { IfOk result
+        (λ text. text.items ≡ opening_text (opening_of answer.front) ++ text_of answer.lines.items) }
     ensures fault { IfErr result (λ fault. fault ≡ TaskFailure.Memory) }
 {
     match answer.into_bytes(alloc) {

@@ -44,8 +44,8 @@ pub fn checked_in(
 
 /// Tries a verified program in the setting that the second file describes. `first` and `second` are the bytes of the
 /// two files. Returns the lines of the trial, and then a text. This text has the steps if `traced` is set. If `asked`
-/// says how the program is written in the first file, the explanation follows, with a note for each call that should set
-/// orders in the outbox but sets none.
+/// says how the program is written in the first file, the explanation follows, with a note for each call that should
+/// set orders in the outbox but sets none.
 ///
 /// # Errors
 ///

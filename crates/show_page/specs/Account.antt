@@ -208,7 +208,8 @@ elsewhere_words g =
     ++ codes "or byzlab audit of the chronicle prints them with --explain --of " ++ (decimal g ++ codes ".")
 
 abbrev pub why_part : MessageTable → List ℕ → ℕ → List ℕ
-why_part t traitors g = if nat_lt t.bound 4 then lines (text_of (explained_one t traitors g)) else paragraph (elsewhere_words g)
+why_part t traitors g =
+    if nat_lt t.bound 4 then lines (text_of (explained_one t traitors g)) else paragraph (elsewhere_words g)
 
 abbrev pub lieutenant_told : MessageTable → List ℕ → View → ℕ → List ℕ
 lieutenant_told t traitors view g =

@@ -1,4 +1,4 @@
-use Rattle.std.proofs.Common.{◌≡◌, ◌==◌, ◌∙◌, [], ◌∷◌, ℕ, List, get_or, false, true, ap, arith, refl, sym, length}
+use Rattle.std.proofs.Common.{◌≡◌, ◌==◌, ◌∙◌, [], ◌∷◌, ℕ, get_or, false, true, ap, arith, refl, sym, length}
 use Rattle.std.proofs.lemmas.Bool.{or_from, or_left, ne_eqb, eq-eqb}
 use Rattle.answer_lines.specs.declared.line.Line.{Line}
 use Rattle.label.specs.Labels.{on}
