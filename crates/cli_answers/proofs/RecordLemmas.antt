@@ -1,16 +1,18 @@
 -- The objects of a chronicle, pushed one after another.
-use Rattle.std.proofs.Common.{◌≡◌, ◌≢◌, ◌∙◌, ℕ, zero, suc, ◌+◌, ◌-◌, ◌<◌, ◌≤◌, List, [], ◌∷◌, ◌++◌, Option, ap, append_assoc, append-nil, arith, drop, get_or, length, map, refl, subst, sym, take}
+use Rattle.std.proofs.Common.{◌≡◌, ◌≢◌, ◌∙◌, ℕ, zero, suc, ◌+◌, ◌-◌, ◌<◌, ◌≤◌, List, [], ◌∷◌, ◌++◌, Bool, Option, ap, append_assoc, append-nil, arith, drop, filter, get_or, length, map, refl, subst, sym, take}
 use Rattle.std.specs.Prelude.{slice_get}
 use Rattle.std.specs.List.{enumerate_from, flat_map}
 use Rattle.std.proofs.lemmas.Grind.{flat_map-append}
-use Rattle.std.proofs.lemmas.List.{take_more, length-take-le}
+use Rattle.std.proofs.lemmas.List.{length-take-le, map-append, take_more}
+use Rattle.std.proofs.lemmas.List.Elements.{filter-append}
 use Rattle.label.specs.Lieutenants.{lieutenants}
 use Rattle.answer_lines.specs.declared.line.Line.{Line}
+use Rattle.board.specs.Board.{Access}
 use Rattle.round.specs.Scenario.{Scenario}
 use Rattle.serde_json.specs.Data.{Members}
 use Rattle.world.proofs.Counted.{from, from_commander, from_lieutenant}
 use Rattle.cli_answers.specs.Lines.{json_line, object_line, object_lines}
-use Rattle.cli_answers.specs.Record.{decided, decided_one}
+use Rattle.cli_answers.specs.Record.{access_object, decided, decided_one}
 
 -- Proves that objects after objects are printed one after another.
 pub lines-append : (xs ys : List Members) → object_lines (xs ++ ys) ≡ object_lines xs ++ object_lines ys
@@ -26,14 +28,6 @@ pub further : (old text new : List ℕ) (so_far more all : List Members) → all
 further old text new so_far more all joined is pushed =
     pushed ∙ (ap (λ t. t ++ object_lines more) is ∙ (append_assoc old (object_lines so_far) (object_lines more) ∙ ap (λ t. old ++ t) (sym (lines-append so_far more) ∙ ap object_lines (sym joined))))
 
--- Proves that one more element of a list is one more object.
-pub one_more : {X : Type 0} (f : X → Members) (xs : List X) (i : ℕ) (x : X) → i < length xs → x ≡ get_or xs i x → map f (take (i + 1) xs) ≡ map f (take i xs) ++ f x ∷ []
-one_more {X} f xs i x lt is = ap (map f) (take_more xs i x lt) ∙ (mapped f (take i xs) (get_or xs i x) ∙ ap (λ y. map f (take i xs) ++ f y ∷ []) (sym is))
-where
-  mapped : {X : Type 0} (f : X → Members) (ys : List X) (y : X) → map f (ys ++ y ∷ []) ≡ map f ys ++ f y ∷ []
-  mapped f [] y = refl
-  mapped f (z ∷ ys) y = ap (λ t. f z ∷ t) (mapped f ys y)
-
 -- Proves that the elements of a list with their indices are those so far and one more.
 pub indexed : {X Y : Type 0} (f : ℕ × X → List Y) (n : ℕ) (xs : List X) (x : X) → flat_map f (enumerate_from n (xs ++ x ∷ [])) ≡ flat_map f (enumerate_from n xs) ++ f (n + length xs, x)
 indexed {X} {Y} f n [] x = append-nil (f (n, x)) ∙ ap (λ k. f (k, x)) (omega arith)
@@ -45,6 +39,32 @@ pub indexed_more : {X Y : Type 0} (f : ℕ × X → List Y) (n : ℕ) (xs : List
 indexed_more {X} {Y} f n xs i d lt =
     ap (λ ys. flat_map f (enumerate_from n ys)) (take_more xs i d lt) ∙ (indexed f n (take i xs) (get_or xs i d)
     ∙ ap (λ k. flat_map f (enumerate_from n (take i xs)) ++ f (k, get_or xs i d)) (let e = length-take-le i xs (omega arith) in omega arith))
+
+-- Proves that the elements of a list with their indices are as many objects, and one more.
+listed : {X : Type 0} (f : ℕ × X → Members) (n : ℕ) (xs : List X) (x : X) → map f (enumerate_from n (xs ++ x ∷ [])) ≡ map f (enumerate_from n xs) ++ f (n + length xs, x) ∷ []
+listed {X} f n [] x = ap (λ k. f (k, x) ∷ []) (omega arith)
+listed {X} f n (y ∷ xs) x = ap (λ t. f (n, y) ∷ t) (listed f (suc n) xs x ∙ ap (λ k. map f (enumerate_from (suc n) xs) ++ f (k, x) ∷ []) (omega arith))
+
+pub listed_more : {X : Type 0} (f : ℕ × X → Members) (xs : List X) (i : ℕ) (d : X) → i < length xs → map f (enumerate_from 0 (take (i + 1) xs)) ≡ map f (enumerate_from 0 (take i xs)) ++ f (i, get_or xs i d) ∷ []
+listed_more {X} f xs i d lt =
+    ap (λ ys. map f (enumerate_from 0 ys)) (take_more xs i d lt) ∙ (listed f 0 (take i xs) (get_or xs i d)
+    ∙ ap (λ k. map f (enumerate_from 0 (take i xs)) ++ f (k, get_or xs i d) ∷ []) (let e = length-take-le i xs (omega arith) in omega arith))
+
+-- Proves that one more access is one more object, if it was made in the round.
+pub one_access : (p : Access → Bool) (xs : List Access) (i : ℕ) (a : Access) → i < length xs → a ≡ get_or xs i a
+    → map access_object (filter p (take (i + 1) xs)) ≡ map access_object (filter p (take i xs)) ++ map access_object (filter p (a ∷ []))
+one_access p xs i a lt is =
+    ap (λ ys. map access_object (filter p ys)) (take_more xs i a lt)
+    ∙ (ap (map access_object) (filter-append p (take i xs) (get_or xs i a ∷ []))
+    ∙ (map-append access_object (filter p (take i xs)) (filter p (get_or xs i a ∷ []))
+    ∙ ap (λ b. map access_object (filter p (take i xs)) ++ map access_object (filter p (b ∷ []))) (sym is)))
+
+-- Proves that one more chain with its receivers is one more object.
+pub one_chain : {X Y : Type 0} (g : X → Y) (f : Y → Members) (xs : List X) (i : ℕ) (x : X) → i < length xs → x ≡ get_or xs i x → map f (map g (take (i + 1) xs)) ≡ map f (map g (take i xs)) ++ f (g x) ∷ []
+one_chain {X} {Y} g f xs i x lt is =
+    ap (λ ys. map f (map g ys)) (take_more xs i x lt)
+    ∙ (ap (map f) (map-append g (take i xs) (get_or xs i x ∷ []))
+    ∙ (map-append f (map g (take i xs)) (g (get_or xs i x) ∷ []) ∙ ap (λ y. map f (map g (take i xs)) ++ f (g y) ∷ []) (sym is)))
 
 -- States that the lines of the lieutenants below `g` have been printed, and that the next lieutenant's decision is at
 -- index `place`.

@@ -1,5 +1,7 @@
 //! Turns the lines of a chronicle into JSON objects, all except the decisions and the verdict at its end.
-ghost use Rattle.std.specs.Prelude.{◌≡◌, [], ◌∷◌, IfOk, OnOk};
+ghost use Rattle.std.specs.Prelude.{◌≡◌, IfOk, OnOk, codes};
+ghost use Rattle.combine.specs.Rule.{rule_name};
+ghost use Rattle.serde_json.specs.Data.{put, string};
 ghost use Rattle.serde_json.specs.View.{items_view, members_view, view};
 ghost use Rattle.cli_answers.specs.Labels.{numbers};
 ghost use Rattle.cli_answers.specs.Record.{access_object, author_object, campaign_object, chain_object, in_round, names_asked, of_general, or_null, or_nulls, row_object, version_object, with_numbers, with_patience};
@@ -85,7 +87,7 @@ pub(crate) fn campaign_object(
 }
 
 /// Adds the patience of a campaign to the object, or null if it has none.
-pub(crate) fn put_patience(
+fn put_patience(
     alloc: Global,
     object: &mut Map<String, Value>,
     scenario: &Scenario,
@@ -94,6 +96,38 @@ pub(crate) fn put_patience(
         ≡ with_patience scenario.now (members_view object.old.entries)) }
 {
     put(object, alloc, "patience", or_null(scenario.patience()))
+}
+
+/// Returns the object of the line that describes an oral campaign with its patience and rule.
+pub(crate) fn ruled_object(
+    alloc: Global,
+    scenario: &Scenario,
+) -> Result<Map<String, Value>, AllocError>
+    ensures { IfOk result (λ object. members_view object.entries
+        ≡ put (codes "rule") (string (rule_name scenario.now.rule))
+        (with_patience scenario.now (campaign_object scenario.now))) }
+{
+    let mut object = campaign_object(alloc, scenario)?;
+    put_patience(alloc, &mut object, scenario)?;
+    let rule = Value::try_from_str(alloc, scenario.rule().name())?;
+    put(&mut object, alloc, "rule", rule)?;
+    Ok(object)
+}
+
+/// Returns the object of the line that describes a signed campaign.
+pub(crate) fn signed_object(
+    alloc: Global,
+    scenario: &Scenario,
+) -> Result<Map<String, Value>, AllocError>
+    ensures { IfOk result (λ object. members_view object.entries
+        ≡ with_patience scenario.now
+        (put (codes "messages") (string (codes "signed")) (campaign_object scenario.now))) }
+{
+    let mut object = campaign_object(alloc, scenario)?;
+    let signed = Value::try_from_str(alloc, "signed")?;
+    put(&mut object, alloc, "messages", signed)?;
+    put_patience(alloc, &mut object, scenario)?;
+    Ok(object)
 }
 
 /// Returns the object of a line of this kind in a round.

@@ -1,28 +1,28 @@
 //! Prints a campaign's chronicle as JSON Lines, with an object for each of its lines.
-ghost use Rattle.std.specs.Prelude.{◌≡◌, ◌==◌, ◌<◌, ◌+◌, ◌++◌, [], ◌∷◌, ℕ, IfOk, OnOk, filter, length, map, slice_index_or};
+ghost use Rattle.std.specs.Prelude.{◌≡◌, ◌==◌, ◌<◌, ◌+◌, ◌++◌, [], ◌∷◌, ℕ, IfOk, OnOk, codes, filter, length, map, slice_index_or};
 ghost use Rattle.std.specs.List.{enumerate_from, flat_map};
 ghost use Rattle.answer_lines.specs.declared.line.Line.TheVariants.{Verdict as VerdictLine};
 ghost use Rattle.label.specs.Lieutenants.{lieutenants};
-ghost use Rattle.outbox.specs.Told.{orders_told};
+ghost use Rattle.serde_json.specs.View.{members_view};
 ghost use Rattle.signed.specs.Sending.{dispatch_of};
 ghost use Rattle.signed.specs.Sent.{sent_in};
 ghost use Rattle.trace.specs.declared.version.Version.TheVariants.{First, Second};
 ghost use Rattle.trace.specs.Text.{steps_of, version_of};
 ghost use Rattle.cli_answers.specs.Lines.{json_line, object_line, object_lines};
-ghost use Rattle.cli_answers.specs.Record.{access_object, author_object, chain_object, decided, decided_one, head_objects, held_in, last_lines, letter_objects, oral_objects, round_objects, rounds_objects, row_object, signed_head_objects, signed_letter_objects, signed_objects};
+ghost use Rattle.cli_answers.specs.Record.{access_object, author_object, chain_object, decided, decided_one, head_objects, held_in, in_round, last_lines, letter_objects, oral_objects, round_objects, rounds_objects, row_object, signed_head_objects, signed_letter_objects, signed_objects};
 
 use crate::json_lines::{push_line, push_object};
 use crate::outcome::verdict_of;
 use crate::position::Held;
 use crate::record::{
-    access_object, author_object, campaign_object, chain_object, in_round, put_patience, row_object,
-    version_object,
+    access_object, author_object, campaign_object, chain_object, in_round, row_object, ruled_object,
+    signed_object, version_object,
 };
 use answer_lines::Line;
 use board::Access;
 use outbox::{Outbox, ReceiverOrders};
-use round::{Letter, Scenario};
-use serde_json::{Value, put};
+use round::{Letter, Round, Scenario};
+use serde_json::{Map, Value};
 use signed::{Chain, SignedChronicle};
 use std::alloc::{AllocError, Global};
 use trace::{Version, version_by};
@@ -52,10 +52,7 @@ fn push_second_head(
 {
     let version = version_object(alloc, 2)?;
     push_object(alloc, out, version)?;
-    let mut campaign = campaign_object(alloc, scenario)?;
-    put_patience(alloc, &mut campaign, scenario)?;
-    let rule = Value::try_from_str(alloc, scenario.rule().name())?;
-    put(&mut campaign, alloc, "rule", rule)?;
+    let campaign = ruled_object(alloc, scenario)?;
     push_object(alloc, out, campaign)
 }
 
@@ -80,10 +77,7 @@ fn push_signed_head(
 {
     let version = version_object(alloc, 3)?;
     push_object(alloc, out, version)?;
-    let mut campaign = campaign_object(alloc, scenario)?;
-    let signed = Value::try_from_str(alloc, "signed")?;
-    put(&mut campaign, alloc, "messages", signed)?;
-    put_patience(alloc, &mut campaign, scenario)?;
+    let campaign = signed_object(alloc, scenario)?;
     push_object(alloc, out, campaign)
 }
 
@@ -128,7 +122,8 @@ fn push_round(
     accesses: &[Access],
 ) -> Result<(), AllocError>
     ensures { OnOk result (out.new.items ≡ out.old.items
-        ++ object_lines (round_objects (λ _ _. []) accesses.now round [])) }
+        ++ object_lines (in_round (codes "round") round
+        ∷ map access_object (filter (λ a. a.round == round) accesses.now))) }
 {
     let first = in_round(alloc, "round", round)?;
     push_object(alloc, out, first)?;
@@ -159,14 +154,28 @@ fn push_row(
     ensures { OnOk result (out.new.items ≡ out.old.items
         ++ object_line (row_object held rank (slice_index_or outbox.now.rows rank []))) }
 {
-    let object = match outbox.told(rank) {
+    let object = row_in(alloc, held, outbox, rank)?;
+    push_object(alloc, out, object)
+}
+
+/// Returns the object of the orders for the label with this rank in an outbox.
+fn row_in(
+    alloc: Global,
+    held: Held,
+    outbox: &Outbox,
+    rank: u32,
+) -> Result<Map<String, Value>, AllocError>
+    requires { rank < length outbox.now.rows }
+    ensures { IfOk result (λ object. members_view object.entries
+        ≡ row_object held rank (slice_index_or outbox.now.rows rank [])) }
+{
+    match outbox.told(rank) {
         ReceiverOrders::Alike { order, times } => {
             let orders = [order; 13];
-            row_object(alloc, held, rank, &orders[..times as usize])?
+            row_object(alloc, held, rank, &orders[..times as usize])
         }
-        ReceiverOrders::Apart(orders) => row_object(alloc, held, rank, orders.as_slice())?,
-    };
-    push_object(alloc, out, object)
+        ReceiverOrders::Apart(orders) => row_object(alloc, held, rank, orders.as_slice()),
+    }
 }
 
 /// Appends the objects of a letter of this round: that of its first line, and one for each label.
@@ -341,6 +350,14 @@ fn push_end(
     push_line(alloc, out, &verdict_of(verdict))
 }
 
+/// Returns the letters of a round, counted from 0.
+fn letters_of(rounds: &[Round], number: usize) -> &[Letter]
+    requires { number < length rounds.now }
+    ensures { result.now ≡ slice_index_or rounds.now number [] }
+{
+    rounds[number].letters()
+}
+
 /// Appends the objects of all rounds of an oral campaign's chronicle.
 fn push_rounds(alloc: Global, out: &mut Vec<u8>, chronicle: &Chronicle) -> Result<(), AllocError>
     ensures { OnOk result (out.new.items ≡ out.old.items
@@ -350,7 +367,8 @@ fn push_rounds(alloc: Global, out: &mut Vec<u8>, chronicle: &Chronicle) -> Resul
     for number in 0..rounds.len() {
         let round = number as u64 + 1;
         push_round(alloc, out, round, chronicle.accesses())?;
-        push_letters(alloc, out, chronicle.scenario(), round, rounds[number].letters())?;
+        let letters = letters_of(rounds, number);
+        push_letters(alloc, out, chronicle.scenario(), round, letters)?;
     }
     Ok(())
 }
@@ -368,7 +386,8 @@ fn push_signed_rounds(
     let rounds = chronicle.letters();
     for number in 0..rounds.len() {
         push_round(alloc, out, number as u64 + 1, chronicle.accesses())?;
-        push_signed_letters(alloc, out, chronicle, number + 1, rounds[number].letters())?;
+        let letters = letters_of(rounds, number);
+        push_signed_letters(alloc, out, chronicle, number + 1, letters)?;
     }
     Ok(())
 }
