@@ -11,7 +11,7 @@ use Rattle.serde_json.specs.Written.{has_float, items_have_float, members_have_f
 use Rattle.cli_answers.specs.declared.position.Held.{Held}
 use Rattle.cli_answers.specs.Labels.{label_of, numbers, with_number}
 use Rattle.cli_answers.specs.Objects.{called}
-use Rattle.cli_answers.specs.Record.{access_object, author_object, campaign_object, chain_object, in_round, names_asked, of_general, or_null, or_nulls, row_object, version_object, with_numbers, with_patience}
+use Rattle.cli_answers.specs.Record.{access_object, author_object, campaign_object, chain_object, in_round, names_asked, of_general, or_null, or_nulls, row_object, ruled_object, signed_object, version_object, with_numbers, with_patience}
 use Rattle.cli_answers.proofs.CleanLemmas.{label_clean, numbers_clean, put_clean, within_clean}
 
 abbrev Clean : Members → Type 0
@@ -41,10 +41,10 @@ pub patience_clean : (s : Scenario) (ms : Members) → Clean ms → Clean (with_
 patience_clean s ms b = put_clean (codes "patience") (or_null s.patience) ms (null_clean s.patience) b
 
 -- Proves that no object of the second line of a chronicle has a float.
-pub ruled_clean : (s : Scenario) → Clean (put (codes "rule") (string (rule_name s.rule)) (with_patience s (campaign_object s)))
+pub ruled_clean : (s : Scenario) → Clean (ruled_object s)
 ruled_clean s = put_clean (codes "rule") (string (rule_name s.rule)) (with_patience s (campaign_object s)) refl (patience_clean s (campaign_object s) (campaign_clean s))
 
-pub signed_clean : (s : Scenario) → Clean (with_patience s (put (codes "messages") (string (codes "signed")) (campaign_object s)))
+pub signed_clean : (s : Scenario) → Clean (signed_object s)
 signed_clean s =
     let told = put (codes "messages") (string (codes "signed")) (campaign_object s) in
     patience_clean s told (put_clean (codes "messages") (string (codes "signed")) (campaign_object s) refl (campaign_clean s))

@@ -46,17 +46,22 @@ campaign_object s =
 abbrev pub with_patience : Scenario → Members → Members
 with_patience s ms = put (codes "patience") (or_null s.patience) ms
 
+-- Returns the object of the line that describes an oral campaign with its patience and rule.
+abbrev pub ruled_object : Scenario → Members
+ruled_object s = put (codes "rule") (string (rule_name s.rule)) (with_patience s (campaign_object s))
+
+-- Returns the object of the line that describes a signed campaign.
+abbrev pub signed_object : Scenario → Members
+signed_object s = with_patience s (put (codes "messages") (string (codes "signed")) (campaign_object s))
+
 -- Returns the objects of the first two lines of an oral campaign's chronicle in this version.
 abbrev pub head_objects : Version → Scenario → List Members
 head_objects First s = version_object 1 ∷ campaign_object s ∷ []
-head_objects Second s =
-    version_object 2 ∷ put (codes "rule") (string (rule_name s.rule)) (with_patience s (campaign_object s)) ∷ []
+head_objects Second s = version_object 2 ∷ ruled_object s ∷ []
 
 -- Returns the objects of the first two lines of a signed campaign's chronicle.
 abbrev pub signed_head_objects : Scenario → List Members
-signed_head_objects s =
-    version_object 3
-    ∷ with_patience s (put (codes "messages") (string (codes "signed")) (campaign_object s)) ∷ []
+signed_head_objects s = version_object 3 ∷ signed_object s ∷ []
 
 -- Returns the object of a line of this kind in a round.
 abbrev pub in_round : List ℕ → ℕ → Members

@@ -1,10 +1,8 @@
 //! Turns the lines of a chronicle into JSON objects, all except the decisions and the verdict at its end.
-ghost use Rattle.std.specs.Prelude.{◌≡◌, IfOk, OnOk, codes};
-ghost use Rattle.combine.specs.Rule.{rule_name};
-ghost use Rattle.serde_json.specs.Data.{put, string};
+ghost use Rattle.std.specs.Prelude.{◌≡◌, IfOk, OnOk};
 ghost use Rattle.serde_json.specs.View.{items_view, members_view, view};
 ghost use Rattle.cli_answers.specs.Labels.{numbers};
-ghost use Rattle.cli_answers.specs.Record.{access_object, author_object, campaign_object, chain_object, in_round, names_asked, of_general, or_null, or_nulls, row_object, version_object, with_numbers, with_patience};
+ghost use Rattle.cli_answers.specs.Record.{access_object, author_object, campaign_object, chain_object, in_round, names_asked, of_general, or_null, or_nulls, row_object, ruled_object, signed_object, version_object, with_numbers, with_patience};
 ghost use Rattle.board.specs.Wording.{numbers_asked};
 ghost use Rattle.semantics.specs.Replies.{words_in};
 ghost use Rattle.signed.specs.Sending.{dispatch_of};
@@ -103,9 +101,7 @@ pub(crate) fn ruled_object(
     alloc: Global,
     scenario: &Scenario,
 ) -> Result<Map<String, Value>, AllocError>
-    ensures { IfOk result (λ object. members_view object.entries
-        ≡ put (codes "rule") (string (rule_name scenario.now.rule))
-        (with_patience scenario.now (campaign_object scenario.now))) }
+    ensures { IfOk result (λ object. members_view object.entries ≡ ruled_object scenario.now) }
 {
     let mut object = campaign_object(alloc, scenario)?;
     put_patience(alloc, &mut object, scenario)?;
@@ -119,9 +115,7 @@ pub(crate) fn signed_object(
     alloc: Global,
     scenario: &Scenario,
 ) -> Result<Map<String, Value>, AllocError>
-    ensures { IfOk result (λ object. members_view object.entries
-        ≡ with_patience scenario.now
-        (put (codes "messages") (string (codes "signed")) (campaign_object scenario.now))) }
+    ensures { IfOk result (λ object. members_view object.entries ≡ signed_object scenario.now) }
 {
     let mut object = campaign_object(alloc, scenario)?;
     let signed = Value::try_from_str(alloc, "signed")?;
