@@ -199,13 +199,12 @@ pub(crate) fn author_object(
     ensures { IfOk result (λ object. members_view object.entries ≡ author_object round general steps) }
 {
     let mut object = of_general(alloc, "letter", round, u64::from(general))?;
-    match steps {
-        None => put(&mut object, alloc, "loyal", Value::Bool(true))?,
-        Some(steps) => {
-            put(&mut object, alloc, "loyal", Value::Bool(false))?;
-            put_number(alloc, &mut object, "steps", u64::from(steps))?;
-        }
-    }
+    let Some(steps) = steps else {
+        put(&mut object, alloc, "loyal", Value::Bool(true))?;
+        return Ok(object);
+    };
+    put(&mut object, alloc, "loyal", Value::Bool(false))?;
+    put_number(alloc, &mut object, "steps", u64::from(steps))?;
     Ok(object)
 }
 

@@ -207,12 +207,18 @@ fn push_author(
     ensures { OnOk result (out.new.items ≡ out.old.items
         ++ object_line (author_object round letter.now.general (steps_of letter.now))) }
 {
-    let steps = match letter.program.program() {
+    let object = author_object(alloc, round, letter.general, steps_of(letter))?;
+    push_object(alloc, out, object)
+}
+
+/// Returns how many steps a traitor's program took, or `None` for a loyal general.
+fn steps_of(letter: &Letter) -> Option<u32>
+    ensures { result ≡ steps_of letter.now }
+{
+    match letter.program.program() {
         Some(_) => Some(letter.steps),
         None => None,
-    };
-    let object = author_object(alloc, round, letter.general, steps)?;
-    push_object(alloc, out, object)
+    }
 }
 
 /// Appends the objects of letters of this round.
