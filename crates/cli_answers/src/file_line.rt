@@ -48,7 +48,7 @@ fn object_in(
     }
     match final_line(lines) {
         Some(line) => members(alloc, line),
-        None => unshaped(alloc, b""),
+        None => unshaped(alloc, &[]),
     }
 }
 
