@@ -34,11 +34,7 @@ pub fn decided(alloc: Global, text: &str) -> Result<Vec<Line>, TableError>
 /// # Errors
 ///
 /// The table's first fault with its line, or `Memory` if out of memory.
-pub fn explained(
-    alloc: Global,
-    text: &str,
-    traitors: &[u8],
-) -> Result<Vec<Line>, TableError>
+pub fn explained(alloc: Global, text: &str, traitors: &[u8]) -> Result<Vec<Line>, TableError>
     ensures explained { IfOk result (λ lines. ExplainsTable text.now traitors.now lines.items) }
     ensures refused { IfErr result (λ e. e ≢ Memory → table_told text.now ≡ Err e) }
 {

@@ -21,11 +21,7 @@ use std::alloc::{AllocError, Global};
 /// # Errors
 ///
 /// `AllocError` if out of memory.
-pub fn explain<H: Heard>(
-    alloc: Global,
-    table: &H,
-    traitors: &[u8],
-) -> Result<Vec<Line>, AllocError>
+pub fn explain<H: Heard>(alloc: Global, table: &H, traitors: &[u8]) -> Result<Vec<Line>, AllocError>
     ensures { IfOk result (λ lines. lines.items ≡ explained (H.seen table.now) traitors.now) }
 {
     let mut lines = Vec::new(alloc);
@@ -110,11 +106,7 @@ fn push_lieutenant<H: Heard>(
 
 /// Returns the text about a lieutenant's lists: his number, and the list of orders that he combines at each label. Also
 /// returns his decision, which results from these lists.
-fn lists_text<H: Heard>(
-    alloc: Global,
-    table: &H,
-    general: u8,
-) -> Result<(String, u32), AllocError>
+fn lists_text<H: Heard>(alloc: Global, table: &H, general: u8) -> Result<(String, u32), AllocError>
     requires general { general < (H.seen table.now).generals }
     requires lieutenant { general ≢ (H.seen table.now).commander }
     ensures text { IfOk result (λ told. string_bytes told.0 ≡ lists_text (H.seen table.now) general) }
@@ -126,14 +118,7 @@ fn lists_text<H: Heard>(
     let label = Label::of(commander);
     let bound = table.bound();
     let held = push_lists(
-        alloc,
-        &mut text,
-        table,
-        general,
-        &label,
-        "",
-        commander,
-        bound,
+        alloc, &mut text, table, general, &label, "", commander, bound,
     )?;
     Ok((text, held.unwrap_or(0)))
 }
