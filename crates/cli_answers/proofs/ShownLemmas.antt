@@ -16,12 +16,11 @@ as_it_is true verdicts name front lines plain = absurd cc
 as_it_is false true name front lines plain = absurd cc
 
 pub shown_plainly : (request : TaskRequest) (files : Files) (old new : Option (List ℕ)) → is_shaped request ≡ false → IsPrinted request.task files old new → IsShown request files old new
-shown_plainly request files old new plain (text, (front, (lines, answer, is)), appends) =
-    (
-      front,
-      (
-        lines,
-        answer,
-        subst (λ (told : Option (List ℕ)). IfSome told (Appends old new)) (ap Some is ∙ sym (as_it_is request.json request.verdicts (judged request.task) front lines plain)) appends,
-      ),
-    )
+shown_plainly request files old new plain (text, (front, (lines, answer, is)), appends) = (
+  front,
+  (
+    lines,
+    answer,
+    subst (λ (told : Option (List ℕ)). IfSome told (Appends old new)) (ap Some is ∙ sym (as_it_is request.json request.verdicts (judged request.task) front lines plain)) appends,
+  ),
+)

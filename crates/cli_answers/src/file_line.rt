@@ -36,11 +36,7 @@ fn named(alloc: Global, file: &str, object: Map<String, Value>) -> Result<Vec<u8
 }
 
 /// Returns the object of the line that says how a task ended whose answer begins with these bytes.
-fn object_in(
-    alloc: Global,
-    bytes: &[u8],
-    lines: &[Line],
-) -> Result<Map<String, Value>, AllocError>
+fn object_in(alloc: Global, bytes: &[u8], lines: &[Line]) -> Result<Map<String, Value>, AllocError>
     ensures { IfOk result (λ object. members_view object.entries ≡ outcome_object (Bytes bytes.now) lines.now) }
 {
     if !bytes.is_empty() {

@@ -77,9 +77,19 @@ pub(crate) fn campaign_object(
     ensures { IfOk result (λ object. members_view object.entries ≡ campaign_object scenario.now) }
 {
     let mut object = called(alloc, "campaign")?;
-    put_number(alloc, &mut object, "generals", u64::from(scenario.generals()))?;
+    put_number(
+        alloc,
+        &mut object,
+        "generals",
+        u64::from(scenario.generals()),
+    )?;
     put_number(alloc, &mut object, "bound", u64::from(scenario.bound()))?;
-    put_number(alloc, &mut object, "commander", u64::from(scenario.commander()))?;
+    put_number(
+        alloc,
+        &mut object,
+        "commander",
+        u64::from(scenario.commander()),
+    )?;
     put_number(alloc, &mut object, "order", u64::from(scenario.order()))?;
     Ok(object)
 }

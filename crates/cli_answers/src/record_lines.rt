@@ -15,8 +15,8 @@ use crate::json_lines::{push_line, push_object};
 use crate::outcome::verdict_of;
 use crate::position::Held;
 use crate::record::{
-    access_object, author_object, campaign_object, chain_object, in_round, row_object, ruled_object,
-    signed_object, version_object,
+    access_object, author_object, campaign_object, chain_object, in_round, row_object,
+    ruled_object, signed_object, version_object,
 };
 use answer_lines::Line;
 use board::Access;
@@ -29,11 +29,7 @@ use trace::{Version, version_by};
 use world::{Chronicle, Verdict};
 
 /// Appends the objects of the first two lines of an oral campaign's chronicle in the first version.
-fn push_first_head(
-    alloc: Global,
-    out: &mut Vec<u8>,
-    scenario: &Scenario,
-) -> Result<(), AllocError>
+fn push_first_head(alloc: Global, out: &mut Vec<u8>, scenario: &Scenario) -> Result<(), AllocError>
     ensures { OnOk result (out.new.items ≡ out.old.items ++ object_lines (head_objects First scenario.now)) }
 {
     let version = version_object(alloc, 1)?;
@@ -43,11 +39,7 @@ fn push_first_head(
 }
 
 /// Appends the objects of the first two lines of an oral campaign's chronicle in the second version.
-fn push_second_head(
-    alloc: Global,
-    out: &mut Vec<u8>,
-    scenario: &Scenario,
-) -> Result<(), AllocError>
+fn push_second_head(alloc: Global, out: &mut Vec<u8>, scenario: &Scenario) -> Result<(), AllocError>
     ensures { OnOk result (out.new.items ≡ out.old.items ++ object_lines (head_objects Second scenario.now)) }
 {
     let version = version_object(alloc, 2)?;
@@ -68,11 +60,7 @@ fn push_head(alloc: Global, out: &mut Vec<u8>, scenario: &Scenario) -> Result<()
 }
 
 /// Appends the objects of the first two lines of a signed campaign's chronicle.
-fn push_signed_head(
-    alloc: Global,
-    out: &mut Vec<u8>,
-    scenario: &Scenario,
-) -> Result<(), AllocError>
+fn push_signed_head(alloc: Global, out: &mut Vec<u8>, scenario: &Scenario) -> Result<(), AllocError>
     ensures { OnOk result (out.new.items ≡ out.old.items ++ object_lines (signed_head_objects scenario.now)) }
 {
     let version = version_object(alloc, 3)?;
@@ -411,7 +399,13 @@ pub(crate) fn push_oral(
     let scenario = chronicle.scenario();
     push_head(alloc, out, scenario)?;
     push_rounds(alloc, out, chronicle)?;
-    push_end(alloc, out, scenario, chronicle.decisions(), chronicle.verdict())
+    push_end(
+        alloc,
+        out,
+        scenario,
+        chronicle.decisions(),
+        chronicle.verdict(),
+    )
 }
 
 /// Appends the chronicle of a signed campaign as JSON Lines.
@@ -427,5 +421,11 @@ pub(crate) fn push_signed(
     let scenario = chronicle.scenario();
     push_signed_head(alloc, out, scenario)?;
     push_signed_rounds(alloc, out, chronicle)?;
-    push_end(alloc, out, scenario, chronicle.decisions(), chronicle.verdict())
+    push_end(
+        alloc,
+        out,
+        scenario,
+        chronicle.decisions(),
+        chronicle.verdict(),
+    )
 }

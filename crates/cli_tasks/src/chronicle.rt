@@ -62,11 +62,7 @@ fn oral_played(
 }
 
 /// Returns the account of an oral campaign: its chronicle or its message table, as `account` says.
-fn account_of(
-    alloc: Global,
-    chronicle: Chronicle,
-    account: Account,
-) -> Result<Front, AllocError>
+fn account_of(alloc: Global, chronicle: Chronicle, account: Account) -> Result<Front, AllocError>
     requires { IsWhole chronicle }
     ensures { IfOk result (λ front. IsAccount account chronicle (opening_of front)) }
 {
@@ -174,7 +170,10 @@ fn asked(who: Lieutenants) -> Option<u8>
 }
 
 /// Returns the text of a signed campaign's chronicle.
-pub(crate) fn signed_chronicle_text(alloc: Global, chronicle: &SignedChronicle) -> Result<Vec<u8>, AllocError>
+pub(crate) fn signed_chronicle_text(
+    alloc: Global,
+    chronicle: &SignedChronicle,
+) -> Result<Vec<u8>, AllocError>
     ensures { IfOk result (λ text. text.items ≡ signed_text chronicle.now) }
 {
     let mut latch = Latch::new(Vec::new(alloc));

@@ -31,11 +31,7 @@ pub fn decided(alloc: Global, text: &str) -> Result<Vec<Line>, InputRefusal>
 /// Fails with `Table` for the first fault of the table, with `Stranger` for the first of `traitors` who is not one of
 /// its generals, and with `Memory` if memory runs out.
 #[tactic(auto, using(crate::proofs::StrangerLemmas::table_explained))]
-pub fn explained(
-    alloc: Global,
-    text: &str,
-    traitors: &[u8],
-) -> Result<Vec<Line>, InputRefusal>
+pub fn explained(alloc: Global, text: &str, traitors: &[u8]) -> Result<Vec<Line>, InputRefusal>
     ensures known { OnOk result (KnowsAll text.now traitors.now) }
     ensures explained { IfOk result (λ lines. ExplainsTable text.now traitors.now lines.items) }
     ensures refused { IfErr result (RefusesNaming traitors.now text.now) }

@@ -214,7 +214,10 @@ where
             Ok(Answer::whole(alloc, page_by(alloc, campaign, text, told, file, second)?))
         }
         FirstAnswer::PageRecorded(campaign, text) => {
-            Ok(Answer::whole(alloc, page_record(alloc, campaign, text, told, file, second)?))
+            Ok(Answer::whole(
+                alloc,
+                page_record(alloc, campaign, text, told, file, second)?,
+            ))
         }
         FirstAnswer::Retrace(scenario) => {
             Ok(Answer::whole(alloc, retrace_of(alloc, &scenario, told, file, second)?))

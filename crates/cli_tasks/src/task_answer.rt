@@ -42,9 +42,7 @@ pub fn answer(alloc: Global, task: &Task, bytes: &[u8]) -> Result<FirstAnswer, I
             explained,
             traced,
             ..
-        } => Ok(FirstAnswer::Lines(checked_in(
-            alloc, notation, *explained, *traced, bytes,
-        )?)),
+        } => Ok(FirstAnswer::Lines(checked_in(alloc, notation, *explained, *traced, bytes)?)),
         Task::Check {
             notation,
             context: Some(_),

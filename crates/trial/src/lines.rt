@@ -21,11 +21,7 @@ use verify::Verified;
 /// # Errors
 ///
 /// Fails with `AllocError` if there is no memory for the context, the outbox, an access or the lines.
-pub fn tried(
-    alloc: Global,
-    verified: &Verified,
-    setting: &Setting,
-) -> Result<Vec<Line>, AllocError>
+pub fn tried(alloc: Global, verified: &Verified, setting: &Setting) -> Result<Vec<Line>, AllocError>
     ensures { IfOk result (λ lines. IsTried verified.now setting.now lines.items) }
 {
     let exited = run_in(alloc, verified, setting)?;
@@ -131,11 +127,7 @@ fn push_order(
 }
 
 /// Appends a line for each word of the board that differs from its value in `opening`, such as `word 5 7`.
-fn push_words(
-    lines: &mut Vec<Line>,
-    opening: &[u64; 64],
-    words: &[u64],
-) -> Result<(), AllocError>
+fn push_words(lines: &mut Vec<Line>, opening: &[u64; 64], words: &[u64]) -> Result<(), AllocError>
     requires { length words.now ≤ 64 }
     ensures { OnOk result (lines.new.items ≡ lines.old.items ++ word_lines opening.now words.now) }
 {
@@ -147,12 +139,7 @@ fn push_words(
 
 /// Appends the line of one word of the board, such as `word 5 7` (index, value). Appends nothing if it equals
 /// `before`.
-fn push_word(
-    lines: &mut Vec<Line>,
-    before: u64,
-    index: usize,
-    word: u64,
-) -> Result<(), AllocError>
+fn push_word(lines: &mut Vec<Line>, before: u64, index: usize, word: u64) -> Result<(), AllocError>
     ensures { OnOk result (lines.new.items ≡ lines.old.items ++ word_line before index word) }
 {
     if word == before {
