@@ -1,6 +1,7 @@
 //! Computes what `check` prints about a program: its run in the bench setting (general 3 of 4 in the first round), or
 //! its trial in the setting of a second file.
-ghost use Rattle.std.specs.Prelude.{IfOk, IfErr, option_map, None};
+ghost use Rattle.std.specs.Prelude.{◌≡◌, ◌∷◌, ◌++◌, [], IfOk, IfErr, option_map, string_bytes, None};
+ghost use Rattle.answer_lines.specs.declared.line.Line.TheVariants.{Text};
 ghost use Rattle.cli_tasks.specs.Answers.{IsChecked, IsTriedBy};
 ghost use Rattle.cli_tasks.specs.ProgramRefusals.{RefusesSetting, RefusesCheckIn};
 ghost use Rattle.cli_tasks.specs.Refusals.{RefusesText};
@@ -12,7 +13,7 @@ use crate::steps::{steps_text, with_slips};
 use crate::texts::as_text;
 use answer_lines::{Line, Passage};
 use cli_words::Notation;
-use std::alloc::Global;
+use std::alloc::{AllocError, Global};
 use trial::{Setting, read, tried};
 use verify::Verified;
 
@@ -34,12 +35,20 @@ pub fn checked_in(
     ensures refused { IfErr result (RefusesCheckIn notation.now bytes.now) }
 {
     let (verified, checked) = check(alloc, notation, bytes)?;
-    let mut lines = checked_lines(alloc, &checked)?;
+    let lines = checked_lines(alloc, &checked)?;
     let steps = steps_text(alloc, traced, &verified, &Setting::bench(alloc))?;
     let asked = if explained { Some(notation) } else { None };
     let text = with_explanation(alloc, steps, asked, bytes, verified.program())?;
-    lines.push(Line::Text(Passage::new(text)))?;
-    Ok(lines)
+    Ok(with_text(lines, text)?)
+}
+
+/// Returns the lines, and then a text.
+fn with_text(lines: Vec<Line>, text: String) -> Result<Vec<Line>, AllocError>
+    ensures { IfOk result (λ all. all.items ≡ lines.items ++ Text (string_bytes text) ∷ []) }
+{
+    let mut all = lines;
+    all.push(Line::Text(Passage::new(text)))?;
+    Ok(all)
 }
 
 /// Tries a verified program in the setting that the second file describes. `first` and `second` are the bytes of the
@@ -65,10 +74,9 @@ pub fn tried_by(
     ensures refused { IfErr result (RefusesText RefusesSetting second.now) }
 {
     let setting = read(alloc, as_text(second)?)?;
-    let mut lines = tried(alloc, program, &setting)?;
+    let lines = tried(alloc, program, &setting)?;
     let steps = steps_text(alloc, traced, program, &setting)?;
     let told = with_explanation(alloc, steps, asked, first, program.program())?;
     let text = with_slips(alloc, told, asked, first, program, &setting)?;
-    lines.push(Line::Text(Passage::new(text)))?;
-    Ok(lines)
+    Ok(with_text(lines, text)?)
 }
