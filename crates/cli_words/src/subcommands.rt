@@ -269,6 +269,36 @@ const REFUTE: Subcommand<'static> = Subcommand {
     ],
 };
 
+const RULE: Subcommand<'static> = Subcommand {
+    name: "rule",
+    about: "Says whether a program is a rule that keeps majorities",
+    places: &[BYTECODE],
+    flags: &[
+        Flag::Switch {
+            name: "asm",
+            help: "FILE is assembly text",
+        },
+        Flag::Switch {
+            name: "elf",
+            help: "FILE is an ELF object",
+        },
+        Flag::Switch {
+            name: "json",
+            help: JSON,
+        },
+        Flag::Option {
+            name: "entry",
+            value: "NAME",
+            help: ENTRY,
+        },
+        Flag::Option {
+            name: "generals",
+            value: "N",
+            help: "Tries the lists of this many generals, 2 to 13; by default 13",
+        },
+    ],
+};
+
 const MUSTER: Subcommand<'static> = Subcommand {
     name: "muster",
     about: "Runs a campaign with a thread for each general and prints its chronicle",
@@ -464,7 +494,7 @@ pub(crate) fn subcommands() -> &'static [Subcommand<'static>]
     ensures { map usage_of result.now ≡ usages }
 {
     &[
-        CHECK, ASM, DIS, BOOK, TABLE, REFUTE, MUSTER, PLAY, AUDIT, EXPLORE, TREE, DRAW, PAGE,
+        CHECK, ASM, DIS, BOOK, TABLE, REFUTE, RULE, MUSTER, PLAY, AUDIT, EXPLORE, TREE, DRAW, PAGE,
         SCHEDULE,
     ]
 }
