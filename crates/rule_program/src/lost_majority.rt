@@ -1,5 +1,5 @@
 //! A list of orders whose majority a rule program loses.
-ghost use Rattle.std.specs.Prelude.{◌≡◌, ◌≤◌, ℕ, IfOk, IfSome, IfNone, length};
+ghost use Rattle.std.specs.Prelude.{◌≡◌, ℕ, IfOk, IfSome, IfNone};
 ghost use Rattle.label.specs.Oral.{AllBelow};
 ghost use Rattle.rule_program.specs.Evaluation.{evaluated};
 ghost use Rattle.rule_program.specs.Majorities.{IsMajorityOf, KeepsMajority, LosesMajority};
