@@ -1,7 +1,9 @@
 //! Runs a program without calls to its exit.
-ghost use Rattle.std.specs.Prelude.{IfOk};
+ghost use Rattle.std.specs.Prelude.{◌≡◌, [], IfOk};
+ghost use Rattle.semantics.specs.Reached.{Reached};
+ghost use Rattle.machine.specs.Advance.{IsOfRun};
 ghost use Rattle.rule_program.specs.Calls.{IsRuleProgram};
-ghost use Rattle.rule_program.specs.Evaluation.{ExitsWith};
+ghost use Rattle.rule_program.specs.Evaluation.{ExitsWith, rule_relay};
 
 use label::Shape;
 use machine::{Machine, StopReason};
@@ -30,11 +32,23 @@ pub(crate) fn exit_value(
         general: 0,
         round: 2,
     };
-    let mut machine = Machine::start(verified, context, Outbox::new(alloc, shape)?);
+    let outbox = Outbox::new(alloc, shape)?;
+    let mut machine = Machine::start(verified, context, outbox);
+    Ok(run_out(verified, context, &mut machine))
+}
+
+/// Runs a program without calls from its start to its exit, and returns the number that it leaves in r0.
+fn run_out(verified: &Verified, context: &Context, machine: &mut Machine) -> u64
+    requires callless { IsRuleProgram verified.now }
+    requires relay { machine.old.relay ≡ rule_relay }
+    requires reached { Reached verified.now context.now machine.old.relay [] machine.old.state }
+    requires of_run { IsOfRun verified.now context.now machine.old }
+    ensures { ExitsWith verified.now context.now result }
+{
     // A sound program ends within as many steps as it has instructions.
     let limit = verified.program().len() as u32;
     match machine.run(verified, context, limit) {
-        StopReason::Exited(r0) => Ok(r0),
+        StopReason::Exited(r0) => r0,
         StopReason::Asked(_) => unreachable!(),
         StopReason::Limit => unreachable!(),
     }
