@@ -36,10 +36,11 @@ pub(crate) fn lost_on(
     ensures lost { IfOk result (λ lost. IfSome lost
         (λ found. LosesMajority (evaluated rule.now) found.orders.items found.majority found.returned)) }
 {
-    let Some(majority) = majority_of(orders.as_slice()) else {
+    let list = orders.as_slice();
+    let Some(majority) = majority_of(list) else {
         return Ok(None);
     };
-    let returned = rule.evaluate(alloc, orders.as_slice())?;
+    let returned = rule.evaluate(alloc, list)?;
     if returned == majority {
         return Ok(None);
     }
