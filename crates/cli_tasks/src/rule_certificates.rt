@@ -47,13 +47,10 @@ fn uncertified(alloc: Global, lost: &LostMajority) -> Result<String, AllocError>
     ensures { IfOk result (λ text. string_bytes text
         ≡ uncertified_line lost.now.majority lost.now.returned lost.now.orders.items) }
 {
-    let LostMajority {
-        orders,
-        majority,
-        returned,
-    } = lost;
+    let majority = lost.majority;
+    let returned = lost.returned;
     let mut line = format!(in alloc; "uncertified majority {majority} result {returned} list")?;
-    for order in orders.as_slice() {
+    for order in lost.orders.as_slice() {
         write!(line, " {order}")?;
     }
     line.push_str("\n")?;

@@ -7,6 +7,6 @@ use Rattle.cli_tasks.proofs.rule_certificates.uncertified.Given as goal
 
 abbrev pub invariant-loop-order : goal.invariant-loop-order
 invariant-loop-order l =
-    string_bytes l.line ≡ codes "uncertified majority " ++ decimal l.fn.lost.now.majority ++ codes " result "
-    ++ decimal l.fn.lost.now.returned ++ codes " list"
+    string_bytes l.line ≡ codes "uncertified majority " ++ decimal l.majority ++ codes " result "
+    ++ decimal l.returned ++ codes " list"
     ++ flat_map (λ order. codes " " ++ decimal order) (take l.order-index l.order-items)
