@@ -1,14 +1,11 @@
 -- Binary numbers of lists: lists of one length with one number are equal, and each number has its list.
 use Rattle.std.proofs.Common.{ℕ, suc, ◌+◌, ◌-◌, ◌*◌, ◌/◌, ◌%◌, ◌^◌, ◌<◌, ◌≤◌, ◌≡◌, List, [], ◌∷◌, ◌++◌, length, refl, sym, ap, ◌∙◌, arith}
-use Rattle.std.proofs.Math.Nat.{pow-suc}
+use Rattle.std.proofs.Math.Nat.{pow-succ'}
 use Rattle.std.proofs.lemmas.List.{length_push}
 use Rattle.std.proofs.lemmas.Nat.{pow_pos, shr-shr, div_below, mul-add-lt, same_from_place}
 use Rattle.label.specs.Oral.{AllBelow}
 use Rattle.label.proofs.Pushes.{below-push}
 use Rattle.rule_program.specs.Majorities.{binary}
-
-double : (k : ℕ) → 2 ^ suc k ≡ 2 * 2 ^ k
-double k = let e = pow-suc 2 k in omega (arith, e)
 
 -- Proves that the number of a list has at most as many digits as the list has orders.
 pub binary-below : (xs : List ℕ) → AllBelow 2 xs → binary xs < 2 ^ length xs
@@ -17,8 +14,7 @@ binary-below (x ∷ xs) two =
     let rest : binary xs < 2 ^ length xs = binary-below xs two.1 in
     let first : x < 2 = two.0 in
     let all : x * 2 ^ length xs + binary xs < 2 ^ length xs * 2 = mul-add-lt x (2 ^ length xs) (binary xs) 2 first rest in
-    let e = double (length xs) in
-    omega (arith, e)
+    omega (arith, pow-succ' 2 (length xs))
 
 -- Proves that lists of 0 and 1 with one length and one number are equal.
 pub same_list : (xs ys : List ℕ) → length xs ≡ length ys → AllBelow 2 xs → AllBelow 2 ys → binary xs ≡ binary ys → xs ≡ ys
@@ -39,7 +35,7 @@ binary-push [] d = omega arith
 binary-push (x ∷ xs) d =
     let ih : binary (xs ++ d ∷ []) ≡ 2 * binary xs + d = binary-push xs d in
     let long : length (xs ++ d ∷ []) ≡ suc (length xs) = (let l = length_push xs d in omega arith) in
-    let power : 2 ^ length (xs ++ d ∷ []) ≡ 2 * 2 ^ length xs = ap (λ (n : ℕ). 2 ^ n) long ∙ double (length xs) in
+    let power : 2 ^ length (xs ++ d ∷ []) ≡ 2 * 2 ^ length xs = ap (λ (n : ℕ). 2 ^ n) long ∙ pow-succ' 2 (length xs) in
     let first : x * 2 ^ length (xs ++ d ∷ []) ≡ x * (2 * 2 ^ length xs) = ap (λ (p : ℕ). x * p) power in
     omega (arith, ih, first)
 
@@ -63,7 +59,6 @@ no_digit number size few = record {
 pub digit_more : (number size place d : ℕ) (xs : List ℕ) → HasDigits number size place xs → place < size → d ≡ number / 2 ^ (size - 1 - place) % 2 → HasDigits number size (place + 1) (xs ++ d ∷ [])
 digit_more number size place d xs has inside is =
     let k : ℕ = size - 1 - place in
-    let q : ℕ = number / 2 ^ k in
     let small : d < 2 = omega arith in
     let higher : number / 2 ^ k / 2 ≡ number / 2 ^ (k + 1) = shr-shr number k 1 in
     let here : number / 2 ^ (size - place) ≡ number / 2 ^ (k + 1) = (let e : size - place ≡ k + 1 = omega arith in ap (λ (j : ℕ). number / 2 ^ j) e) in
