@@ -85,3 +85,7 @@ callless_from program units all below unit = elim (cases_lt unit units) [
   | inl inside ↦ below unit inside
   | inr past ↦ no_call_past program unit (omega arith)
 ]
+
+-- Proves that a program that equals one without calls has no call.
+pub callless_same : (own program : List Insn) → own ≡ program → ((unit : ℕ) → is_call_at own unit ≡ false) → (unit : ℕ) → is_call_at program unit ≡ false
+callless_same own program same none = subst (λ (p : List Insn). (unit : ℕ) → is_call_at p unit ≡ false) same none
