@@ -8,6 +8,7 @@ use Rattle.insn.specs.declared.insn.Insn.TheVariants as i
 use Rattle.insn.specs.Program.{instruction_at, joined, slots_of}
 use Rattle.semantics.specs.Relay.{Relay}
 use Rattle.semantics.specs.declared.value.Value.{Value}
+use Rattle.semantics.specs.declared.value.Value.TheVariants.{Number}
 use Rattle.semantics.specs.declared.request.Request.{Request}
 use Rattle.semantics.specs.State.{Cause, FrameWrite, State, Outcome, Next, Ask, Exit, Trap}
 use Rattle.semantics.specs.Step.{assigned, arrived, branched, exited}
@@ -48,7 +49,7 @@ executed_asks context relay (i.Arithmetic width operation dst operand) s = assig
 executed_asks context relay (i.Negate width dst) s = assigned_asks (Some (i.Negate width dst)) s dst 1 _
 executed_asks context relay (i.SignExtend width part dst src) s = assigned_asks (Some (i.SignExtend width part dst src)) s dst 1 _
 executed_asks context relay (i.Swap order size dst) s = assigned_asks (Some (i.Swap order size dst)) s dst 1 _
-executed_asks context relay (i.LoadImmediate dst number) s = assigned_asks (Some (i.LoadImmediate dst number)) s dst 2 _
+executed_asks context relay (i.LoadImmediate dst number) s = assigned_asks (Some (i.LoadImmediate dst number)) s dst 2 (Ok (Number number))
 executed_asks context relay (i.Jump distance) s = arrived_asks (Some (i.Jump distance)) s _
 executed_asks context relay (i.LongJump distance) s = arrived_asks (Some (i.LongJump distance)) s _
 executed_asks context relay (i.Branch width condition dst operand distance) s = branched_asks (Some (i.Branch width condition dst operand distance)) s distance _

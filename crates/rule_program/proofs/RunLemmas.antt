@@ -1,6 +1,7 @@
 -- The run of a rule program ends at its exit, which determines the order.
-use Rattle.std.proofs.Common.{◌≡◌, ℕ, ◌+◌, ◌-◌, ◌<◌, ◌≤◌, Bool, true, false, cond, List, [], ◌∷◌, length, sym, ap, subst, ◌∙◌, arith}
+use Rattle.std.proofs.Common.{◌≡◌, ℕ, ◌+◌, ◌-◌, ◌<◌, ◌≤◌, Bool, true, false, cond, List, [], ◌∷◌, length, refl, sym, ap, subst, ◌∙◌, arith}
 use Rattle.std.specs.Prelude.{◌==◌}
+use Rattle.core.specs.Int.{from_bool}
 use Rattle.insn.specs.declared.insn.Insn.{Insn}
 use Rattle.semantics.specs.Relay.{Relay}
 use Rattle.semantics.specs.declared.request.Request.{Request}
@@ -31,11 +32,15 @@ exits_with program context relay limit r0 s t e within same =
       ap (λ (k : ℕ). after program context rule_relay [] k) rest ∙ (stays program context rule_relay taken left [] (entry (empty_outbox rule_relay)) over ∙ run),
     )
 
+from_bool-cond : (b : Bool) → from_bool b ≡ cond b 1 0
+from_bool-cond true = refl
+from_bool-cond false = refl
+
 -- Proves that the number in r0 determines the order.
-pub evaluated_by : (program : List Insn) (orders context : List ℕ) (r0 order : ℕ) → context ≡ rule_context orders → ExitsWith program context r0 → order ≡ cond (r0 == 1) 1 0 → order ≡ evaluated program orders
+pub evaluated_by : (program : List Insn) (orders context : List ℕ) (r0 order : ℕ) → context ≡ rule_context orders → ExitsWith program context r0 → order ≡ from_bool (r0 == 1) → order ≡ evaluated program orders
 unfolding evaluated
 evaluated_by program orders context r0 order same (s, run) is =
-    is ∙ sym (ap (λ (c : List ℕ). order_from (run_in program c)) (sym same) ∙ ap order_from run)
+    is ∙ (from_bool-cond (r0 == 1) ∙ sym (ap (λ (c : List ℕ). order_from (run_in program c)) (sym same) ∙ ap order_from run))
 
 -- Proves that a choice between 1 and 0 is below 2.
 pub choice-below : (b : Bool) → cond {A = ℕ} b 1 0 < 2

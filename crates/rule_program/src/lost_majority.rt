@@ -58,6 +58,7 @@ fn majority_of(orders: &[u32]) -> Option<u32>
 {
     match Rule::Majority.outcome(orders) {
         Outcome::Agreed(order) => Some(order),
-        Outcome::Divided(_) | Outcome::Middle(_) => None,
+        Outcome::Divided(_) => None,
+        Outcome::Middle(_) => None,
     }
 }

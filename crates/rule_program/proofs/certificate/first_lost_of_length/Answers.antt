@@ -10,15 +10,15 @@ loop-number-init c = none_below c.args.size (evaluated c.args.rule.now)
 pub loop-number-preserved : goal.loop-number-preserved
 loop-number-preserved c =
     let e = c.orders_of.ensures in
-    one_below c.args.size c.loop-number.number (evaluated c.args.rule.now) c.orders_of.result.items c.loop-number.invariant e.long e.two e.number c.in_default.ensures.kept
+    one_below c.args.size c.loop-number.number (evaluated c.args.rule.now) c.orders_of.result.items c.loop-number.invariant e.long e.two e.number (rw c.in_default.is at c.in_ok-lost_on.ensures.kept)
 
 pub returns-in-Some-clause-first : goal.returns-in-Some-clause-first
 returns-in-Some-clause-first c =
     let e = c.orders_of.ensures in
     first_of_length c.args.size c.loop-number.number (evaluated c.args.rule.now) c.orders_of.result.items c.in-Some.lost.orders.items c.in-Some.lost.majority c.in-Some.lost.returned
-    c.loop-number.invariant e.long e.number c.in-Some.ensures.same c.in-Some.ensures.lost
+    c.loop-number.invariant e.long e.number (rw c.in-Some.is at c.in_ok-lost_on.ensures.same) (rw c.in-Some.is at c.in_ok-lost_on.ensures.lost)
 
 pub returns-clause-kept : goal.returns-clause-kept
 returns-clause-kept c =
     let few : c.args.size < 32 = omega arith in
-    all_below c.args.size c.lists c.loop-number.number (evaluated c.args.rule.now) (one_shl c.args.size 32 few) (omega arith) c.loop-number.invariant
+    all_below c.args.size _ c.loop-number.number (evaluated c.args.rule.now) (one_shl c.args.size 32 few) (omega arith) c.loop-number.invariant

@@ -3,7 +3,7 @@ use Rattle.rule_program.proofs.BinaryLemmas.{no_digit, digit_more, all_digits}
 use Rattle.rule_program.proofs.orders.orders_of.Goals as goal
 
 pub loop-place-init : goal.loop-place-init
-loop-place-init c = no_digit c.args.number c.args.size c.requires.digits
+loop-place-init c = rw c.new-orders.ensures (no_digit c.args.number c.args.size c.requires.digits)
 
 pub loop-place-preserved : goal.loop-place-preserved
 loop-place-preserved c =

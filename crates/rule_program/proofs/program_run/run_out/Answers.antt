@@ -8,8 +8,8 @@ unreachable-requires c =
     never_asked c.args.verified.now c.args.context.now a.relay [] c.len-limit.result a.state c.in-Asked.field-0 c.run.new.self c.requires.callless
     (c.in-Asked.ensures.advances [] c.requires.reached)
 
-pub returns-in-Exited : goal.returns-in-Exited
-returns-in-Exited c =
+pub returns : goal.returns
+returns c =
     let a = c.args.machine.now in
     exits_with c.args.verified.now c.args.context.now a.relay c.len-limit.result c.in-Exited.r0 a.state c.run.new.self
     (c.in-Exited.ensures.advances [] c.requires.reached) c.run.ensures.within c.requires.relay
