@@ -1,5 +1,5 @@
 -- A rule that is tried on list after list.
-use Rattle.std.proofs.Common.{ℕ, ◌+◌, ◌*◌, ◌^◌, ◌<◌, ◌≤◌, ◌≡◌, ◌≢◌, ◌⊎◌, true, List, length, refl, sym, ap, subst, ◌∙◌, arith, inl, inr, Option, Some, None}
+use Rattle.std.proofs.Common.{ℕ, ◌+◌, ◌*◌, ◌^◌, ◌<◌, ◌≤◌, ◌≡◌, List, length, refl, sym, ap, subst, ◌∙◌, arith, inl, inr, Option, Some, None}
 use Rattle.std.specs.Prelude.{count_by, find, ◌==◌}
 use Rattle.std.proofs.lemmas.Bool.{cases_lt, ltb-true}
 use Rattle.combine.specs.Rule.{is_most}
@@ -8,7 +8,7 @@ use Rattle.combine.specs.Laws.{most_found}
 use Rattle.combine.specs.declared.outcome.Outcome.TheVariants.{Agreed, Divided, Middle}
 use Rattle.combine.proofs.Found.{find_passes}
 use Rattle.label.specs.Oral.{AllBelow}
-use Rattle.rule_program.specs.Majorities.{IsMajorityOf, KeepsMajority, KeepsMajorities, IsBefore, LosesMajority, IsFirstLost, KeepsOfLength, IsFirstOfLength, binary}
+use Rattle.rule_program.specs.Majorities.{IsMajorityOf, KeepsMajority, KeepsMajorities, LosesMajority, IsFirstLost, KeepsOfLength, IsFirstOfLength, binary}
 use Rattle.rule_program.proofs.BinaryLemmas.{same_list, binary-below}
 
 -- ---- the order in more than half of the places

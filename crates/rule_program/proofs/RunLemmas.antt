@@ -1,7 +1,7 @@
 -- The run of a rule program ends at its exit, which determines the order.
-use Rattle.std.proofs.Common.{◌≡◌, ℕ, ◌+◌, ◌-◌, ◌<◌, ◌≤◌, Bool, true, false, cond, List, [], ◌∷◌, length, refl, sym, ap, subst, ◌∙◌, arith}
+use Rattle.std.proofs.Common.{◌≡◌, ℕ, ◌+◌, ◌-◌, ◌<◌, ◌≤◌, Bool, true, false, cond, List, [], length, refl, sym, ap, subst, ◌∙◌, arith}
 use Rattle.std.specs.Prelude.{◌==◌}
-use Rattle.core.specs.Int.{from_bool}
+use Rattle.std.specs.Int.{from_bool}
 use Rattle.insn.specs.declared.insn.Insn.{Insn}
 use Rattle.semantics.specs.Relay.{Relay}
 use Rattle.semantics.specs.declared.request.Request.{Request}
@@ -26,8 +26,7 @@ exits_with program context relay limit r0 s t e within same =
     let left : ℕ = length program - taken in
     let run : after program context rule_relay [] taken ≡ Exited r0 t.state = subst (λ (own : Relay). after program context own [] taken ≡ Exited r0 t.state) same e.run in
     let over : IsFinal (after program context rule_relay [] taken) = subst (λ (p : Progress). IsFinal p) (sym run) tt in
-    let rest : length program ≡ taken + left = omega arith in
-    (
+    let rest : length program ≡ taken + left = omega arith in (
       t.state,
       ap (λ (k : ℕ). after program context rule_relay [] k) rest ∙ (stays program context rule_relay taken left [] (entry (empty_outbox rule_relay)) over ∙ run),
     )

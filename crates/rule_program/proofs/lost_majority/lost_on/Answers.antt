@@ -1,4 +1,4 @@
-use Rattle.std.proofs.Common.{◌≡◌, ◌∙◌, ℕ, List, ap, subst, sym}
+use Rattle.std.proofs.Common.{◌∙◌, ℕ, List, ap, subst, sym}
 use Rattle.rule_program.specs.Evaluation.{evaluated}
 use Rattle.rule_program.specs.Majorities.{IsMajorityOf}
 use Rattle.rule_program.proofs.MajorityLemmas.{kept_by}
