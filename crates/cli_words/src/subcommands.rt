@@ -489,14 +489,17 @@ const SCHEDULE: Subcommand<'static> = Subcommand {
     ],
 };
 
+/// All subcommands, in the order in which help lists them.
+const SUBCOMMANDS: &[Subcommand<'static>] = &[
+    CHECK, ASM, DIS, BOOK, TABLE, REFUTE, RULE, MUSTER, PLAY, AUDIT, EXPLORE, TREE, DRAW, PAGE,
+    SCHEDULE,
+];
+
 /// Returns all subcommands, in the order in which help lists them.
 pub(crate) fn subcommands() -> &'static [Subcommand<'static>]
     ensures { map usage_of result.now ≡ usages }
 {
-    &[
-        CHECK, ASM, DIS, BOOK, TABLE, REFUTE, RULE, MUSTER, PLAY, AUDIT, EXPLORE, TREE, DRAW, PAGE,
-        SCHEDULE,
-    ]
+    SUBCOMMANDS
 }
 
 /// Returns the subcommand that the first word names, or all subcommands if the first word names none.
