@@ -35,24 +35,24 @@ attempts n c traitors = attempts_on (on traitors c) (others n (c ∷ traitors))
 abbrev pub plan_for : (List ℕ → ℕ) → ℕ → ℕ → ℕ → List ℕ → Attempt → Option (List Choice)
 plan_for f n m c traitors attempt = plan f (on traitors) m (others n (c ∷ [])) attempt.sender attempt.aims
 
--- States that an attempt is one of the list.
-abbrev pub IsOneOf : Attempt → List Attempt → Type 0
-IsOneOf attempt [] = ⊥
-IsOneOf attempt (first ∷ rest) = (attempt ≡ first) ⊎ IsOneOf attempt rest
+-- States that a value is in the list.
+abbrev pub IsIn : {A : Type 0} → A → List A → Type 0
+IsIn x [] = ⊥
+IsIn x (y ∷ ys) = (x ≡ y) ⊎ IsIn x ys
 
 -- States that an attempt of these traitors succeeds, and by how many orders other than RETREAT to loyal generals.
 pub record Succeeds (f : List ℕ → ℕ) (n m c : ℕ) (traitors : List ℕ) (success : Success) : Type 0 where
-  pub one : IsOneOf success.attempt (attempts n c traitors)
+  pub one : IsIn success.attempt (attempts n c traitors)
   pub choices : List Choice
   pub planned : plan_for f n m c traitors success.attempt ≡ Some choices
   pub counted : attacks choices ≡ success.attacks
 
 -- States that no attempt of the list succeeds by fewer orders than the success that was found, or none at all.
 abbrev pub NoneCheaper : (List ℕ → ℕ) → ℕ → ℕ → ℕ → List ℕ → List Attempt → Option Success → Type 0
-NoneCheaper f n m c traitors tried None = (attempt : Attempt) → IsOneOf attempt tried →
+NoneCheaper f n m c traitors tried None = (attempt : Attempt) → IsIn attempt tried →
     plan_for f n m c traitors attempt ≡ None
 NoneCheaper f n m c traitors tried (Some success) = (attempt : Attempt) (choices : List Choice) →
-    IsOneOf attempt tried → plan_for f n m c traitors attempt ≡ Some choices → success.attacks ≤ attacks choices
+    IsIn attempt tried → plan_for f n m c traitors attempt ≡ Some choices → success.attacks ≤ attacks choices
 
 -- Returns the generals in the set of the bits of a number.
 abbrev pub members : ℕ → ℕ → List ℕ

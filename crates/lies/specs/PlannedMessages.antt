@@ -1,6 +1,6 @@
 -- The messages of a plan: a traitor sends ATTACK where the plan needs it, and nothing else. A loyal general sends the
 -- order that he took.
-use Rattle.std.specs.Prelude.{ℕ, ◌-◌, ◌==◌, Bool, if◌then◌else◌, List, [], ◌∷◌, find, Option, None, Some}
+use Rattle.std.specs.Prelude.{ℕ, zero, suc, ◌==◌, Bool, if◌then◌else◌, List, [], ◌∷◌, find, Option, None, Some}
 use Rattle.label.specs.Labels.{others}
 use Rattle.label.specs.Oral.{Messages}
 use Rattle.lies.specs.declared.aim.Aims.{Aims}
@@ -33,8 +33,9 @@ after (Some choice) next = next choice
 -- are the generals off the label, `sender` is its last general, and the plan is to meet the aims.
 unfoldable pub message : (List ℕ → ℕ) → (ℕ → Bool) → ℕ → List ℕ → Sender → Aims → List ℕ → ℕ → Option ℕ
 message f traitor k gs sender aims [] g = received traitor sender (plan f traitor k gs sender aims) g
-message f traitor k gs sender aims (j ∷ rest) g = after (choice_in (plan f traitor k gs sender aims) j)
-    (λ choice. message f traitor (k - 1) (without gs j) (sender_of traitor j choice.vote.taken)
+message f traitor zero gs sender aims (j ∷ rest) g = None
+message f traitor (suc k) gs sender aims (j ∷ rest) g = after (choice_in (plan f traitor (suc k) gs sender aims) j)
+    (λ choice. message f traitor k (without gs j) (sender_of traitor j choice.vote.taken)
     (next_aims aims j choice.vote) rest g)
 
 -- Returns the messages of the plan to meet the aims by OM(m) under the commander c.

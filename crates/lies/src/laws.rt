@@ -7,8 +7,7 @@ pub fn rules_project()
     ensures { RulesProject }
 {}
 
-/// States that traitors who break a rule of campaigns also break it with the orders 0 and 1, and send no more orders
-/// other than RETREAT.
+/// States that the loyal lieutenants always agree by a rule of campaigns if they agree whenever all orders are 0 or 1.
 pub fn two_orders_suffice()
     ensures { TwoOrdersSuffice }
 {}
