@@ -111,21 +111,25 @@ pub takes_choice : (x : Setting) (k : ℕ) (w : List ℕ) (s : Sender) (a : Aims
 takes_choice x k w s a h p loyal c =
     ap order_of (own_message x (suc k) w s a p h) ∙ taken_by x.traitor s h.choices p c.choice loyal c.found (cast_parts s x.traitor a p c.choice.vote c.cast).takes
 
+-- the plan for a label with no relays left
+last_whole : (gs : List ℕ) (s : Sender) (a : Aims) (zs : List Choice) → last_plan gs s a ≡ Some zs → zs ≡ map (last_choice s a) gs
+unfolding last_plan
+last_whole gs s a zs e = planned (is_taken s a a.first && is_taken s a a.second) e
+  where
+    planned : (b : Bool) → cond b (Some (map (last_choice s a) gs)) None ≡ Some zs → zs ≡ map (last_choice s a) gs
+    planned true e = cc
+    planned false e = cc
+
 -- with no relays left
 taken_decides : (x : Setting) (w : List ℕ) (s : Sender) (a : Aims) (zs : List Choice) (p : ℕ) → on (others x.n w) p ≡ true → x.traitor p ≡ false → last_plan (others x.n w) s a ≡ Some zs → order_of (received x.traitor s (Some zs) p) ≡ last_taken s a p
-unfolding last_plan
 taken_decides x w (Loyal order) a zs p i loyal e = refl
 taken_decides x w Traitor a zs p i loyal e =
-    let whole : zs ≡ map (last_choice Traitor a) (others x.n w) = planned (is_taken Traitor a a.first && is_taken Traitor a a.second) e in
+    let whole : zs ≡ map (last_choice Traitor a) (others x.n w) = last_whole (others x.n w) Traitor a zs e in
     ap order_of (cond-false (x.traitor p) None (message_of (choice_in (Some zs) p)) loyal
     ∙ ap (λ (ys : List Choice). message_of (choice_in (Some ys) p)) whole
     ∙ ap message_of (listed (others x.n w) i))
     ∙ shown (last_taken Traitor a p) (last_taken Traitor a p == 0) refl
   where
-    planned : (b : Bool) → cond b (Some (map (last_choice Traitor a) (others x.n w))) None ≡ Some zs → zs ≡ map (last_choice Traitor a) (others x.n w)
-    planned true e = cc
-    planned false e = cc
-
     shown : (t : ℕ) (b : Bool) → (t == 0) ≡ b → order_of (cond b None (Some t)) ≡ t
     shown t true e = sym (eqb-true t 0 e)
     shown t false e = refl
@@ -152,6 +156,13 @@ last_parts gs s a zs e = and_parts (is_taken s a a.first) (is_taken s a a.second
     tested : (b : Bool) → cond b (Some (map (last_choice s a) gs)) None ≡ Some zs → b ≡ true
     tested true e = refl
     tested false e = cc
+
+-- what the plan for a label with no relays left is, and what loyal generals then take
+pub last_taken_by : (x : Setting) (w : List ℕ) (s : Sender) (a : Aims) (h : Follows x zero w s a) → (h.choices ≡ map (last_choice s a) (others x.n w)) × ((j : ℕ) → on (others x.n w) j ≡ true → x.traitor j ≡ false → taken x.M w j ≡ last_taken s a j)
+last_taken_by x w s a h = (
+  last_whole (others x.n w) s a h.choices (sym (plan_zero x.f x.traitor (others x.n w) s a) ∙ h.possible),
+  λ j i loyal. ap order_of (own_message x zero w s a j h) ∙ taken_decides x w s a h.choices j i loyal (sym (plan_zero x.f x.traitor (others x.n w) s a) ∙ h.possible),
+)
 
 last_decides : (x : Setting) (w : List ℕ) (s : Sender) (a : Aims) (h : Follows x zero w s a) (o : Option Aim) → IsAimed x w o → is_taken s a o ≡ true → Decides x zero w o
 last_decides x w s a h None r e = tt
