@@ -124,6 +124,21 @@ selection choices (j ∷ js) zs i =
     let whole : AreChosen choices (j ∷ js) (z ∷ more.source) = (kept.0, eqb-true z.general j kept.1, selection choices js more.source more.listed) in
     subst (AreChosen choices (j ∷ js)) (sym more.is) whole
 
+pub chosen_all : (choices : List Choice) (js : List ℕ) (zs : List Choice) (z : Choice) → AreChosen choices js zs → IsIn z zs → IsIn z choices
+chosen_all choices [] [] z h i = absurd i
+chosen_all choices [] (y ∷ zs) z h i = absurd h
+chosen_all choices (j ∷ js) [] z h i = absurd h
+chosen_all choices (j ∷ js) (y ∷ zs) z h (inl e) = subst (λ v. IsIn v choices) (sym e) h.0
+chosen_all choices (j ∷ js) (y ∷ zs) z h (inr i) = chosen_all choices js zs z h.2 i
+
+-- what is found is in the list
+pub found_in : (zs : List Choice) (j : ℕ) (z : Choice) → choice_in (Some zs) j ≡ Some z → IsIn z zs
+found_in [] j z e = cc
+found_in (y ∷ zs) j z e = elim (cases_Bool (y.general == j)) [
+  | inl here ↦ inl (sym (some_same y z (sym (cond-true (y.general == j) (Some y) (find (λ (choice : Choice). choice.general == j) zs) here) ∙ e)))
+  | inr apart ↦ inr (found_in zs j z (sym (cond-false (y.general == j) (Some y) (find (λ (choice : Choice). choice.general == j) zs) apart) ∙ e))
+]
+
 -- the choice of a plan for one of its generals
 pub record ChoiceFor (choices : List Choice) (zs : List Choice) (j : ℕ) : Type 0 where
   pub choice : Choice
@@ -179,6 +194,7 @@ votes_are choices v F (g ∷ js) (z ∷ zs) h d says =
 -- what is known of a choice for general j
 pub record IsChoice (below : Sender → Aims → Option (List Choice)) (s : Sender) (traitor : ℕ → Bool) (a : Aims) (j : ℕ) (z : Choice) : Type 0 where
   pub own : z.general ≡ j
+  pub vote : IsIn z.vote all_votes
   pub cast : may_cast s traitor a j z.vote ≡ true
   pub later : List Choice
   pub possible : below (sender_of traitor j z.vote.taken) (next_aims a j z.vote) ≡ Some later
@@ -189,15 +205,15 @@ choice_is below s traitor a j z i =
     let from : FromFlatMap (λ (vote : Vote). cond (may_cast s traitor a j vote) (chosen s j vote (below (sender_of traitor j vote.taken) (next_aims a j vote))) []) z all_votes =
     from_flat_map (λ (vote : Vote). cond (may_cast s traitor a j vote) (chosen s j vote (below (sender_of traitor j vote.taken) (next_aims a j vote))) []) z all_votes i
     in
-    cast_one below s traitor a j z from.source (may_cast s traitor a j from.source) refl (below (sender_of traitor j from.source.taken) (next_aims a j from.source)) refl from.member
+    cast_one below s traitor a j z from.source from.listed (may_cast s traitor a j from.source) refl (below (sender_of traitor j from.source.taken) (next_aims a j from.source)) refl from.member
   where
-    cast_one : (below : Sender → Aims → Option (List Choice)) (s : Sender) (traitor : ℕ → Bool) (a : Aims) (j : ℕ) (z : Choice) (vote : Vote) (b : Bool) → may_cast s traitor a j vote ≡ b
+    cast_one : (below : Sender → Aims → Option (List Choice)) (s : Sender) (traitor : ℕ → Bool) (a : Aims) (j : ℕ) (z : Choice) (vote : Vote) → IsIn vote all_votes → (b : Bool) → may_cast s traitor a j vote ≡ b
         → (plans : Option (List Choice)) → below (sender_of traitor j vote.taken) (next_aims a j vote) ≡ plans → IsIn z (cond b (chosen s j vote plans) []) → IsChoice below s traitor a j z
-    cast_one below s traitor a j z vote false e plans p i = absurd i
-    cast_one below s traitor a j z vote true e None p i = absurd i
-    cast_one below s traitor a j z vote true e (Some plan) p (inr i) = absurd i
-    cast_one below s traitor a j z vote true e (Some plan) p (inl is) =
-        subst (IsChoice below s traitor a j) (sym is) (record { own = refl; cast = e; later = plan; possible = p; cost = refl })
+    cast_one below s traitor a j z vote l false e plans p i = absurd i
+    cast_one below s traitor a j z vote l true e None p i = absurd i
+    cast_one below s traitor a j z vote l true e (Some plan) p (inr i) = absurd i
+    cast_one below s traitor a j z vote l true e (Some plan) p (inl is) =
+        subst (IsChoice below s traitor a j) (sym is) (record { own = refl; vote = l; cast = e; later = plan; possible = p; cost = refl })
 
 -- a vote that may be cast, and a plan for the label that j extends, make a choice
 pub choice_made : (below : Sender → Aims → Option (List Choice)) (s : Sender) (traitor : ℕ → Bool) (a : Aims) (j : ℕ) (vote : Vote) (later : List Choice) → IsIn vote all_votes → may_cast s traitor a j vote ≡ true

@@ -112,7 +112,7 @@ takes_choice x k w s a h p loyal c =
     ap order_of (own_message x (suc k) w s a p h) ∙ taken_by x.traitor s h.choices p c.choice loyal c.found (cast_parts s x.traitor a p c.choice.vote c.cast).takes
 
 -- the plan for a label with no relays left
-last_whole : (gs : List ℕ) (s : Sender) (a : Aims) (zs : List Choice) → last_plan gs s a ≡ Some zs → zs ≡ map (last_choice s a) gs
+pub last_whole : (gs : List ℕ) (s : Sender) (a : Aims) (zs : List Choice) → last_plan gs s a ≡ Some zs → zs ≡ map (last_choice s a) gs
 unfolding last_plan
 last_whole gs s a zs e = planned (is_taken s a a.first && is_taken s a a.second) e
   where
@@ -145,7 +145,7 @@ taken_decides x w Traitor a zs p i loyal e =
           ∙ listed gs (sym (ap (λ (b : Bool). b || on gs p) apart) ∙ i)
     ]
 
-plan_zero : (f : List ℕ → ℕ) (traitor : ℕ → Bool) (gs : List ℕ) (s : Sender) (a : Aims) → plan f traitor zero gs s a ≡ last_plan gs s a
+pub plan_zero : (f : List ℕ → ℕ) (traitor : ℕ → Bool) (gs : List ℕ) (s : Sender) (a : Aims) → plan f traitor zero gs s a ≡ last_plan gs s a
 unfolding plan
 plan_zero f traitor gs s a = refl
 
