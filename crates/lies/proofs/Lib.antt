@@ -1,0 +1,14 @@
+pub mod Members
+pub mod PlanLemmas
+pub mod Aims
+pub mod Soundness
+pub mod Completeness
+pub mod Costs
+pub mod SmallOrders
+pub mod Projections
+pub mod TwoOrderLaws
+pub mod Agreement
+pub mod BreakLemmas
+pub mod BreakTreeLemmas
+pub mod TableLemmas
+pub mod SearchLemmas
