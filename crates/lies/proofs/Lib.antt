@@ -1,5 +1,6 @@
 pub mod Members
 pub mod PlanLemmas
+pub mod Selecting
 pub mod Aims
 pub mod Soundness
 pub mod Completeness
