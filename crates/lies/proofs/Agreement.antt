@@ -29,7 +29,7 @@ use Rattle.lies.proofs.Projections.{proved_rules_project}
 use Rattle.lies.proofs.Soundness.{Follows, BothDecide, Extends, extends, relays, sound}
 use Rattle.lies.proofs.TwoOrderLaws.{proved_two_orders_suffice}
 
--- the messages of a campaign with given traitors and the orders 0 and 1
+-- States that the messages are those of a campaign with these traitors, in which everyone takes 0 or 1.
 pub record Played01 (f : List ℕ → ℕ) (n m c order : ℕ) (t : ℕ → Bool) (M : Messages) : Type 0 where
   pub inside : c < n
   pub ordered : order < 2
@@ -38,7 +38,7 @@ pub record Played01 (f : List ℕ → ℕ) (n m c order : ℕ) (t : ℕ → Bool
 abbrev setting : (List ℕ → ℕ) → ℕ → (ℕ → Bool) → Messages → Setting
 setting f n t M = record { f = f; traitor = t; n = n; M = M }
 
--- no attempt succeeds by as few orders as these messages have
+-- States that each attempt that succeeds needs more orders than `limit`.
 abbrev pub NoneWithin : (List ℕ → ℕ) → ℕ → ℕ → ℕ → List ℕ → ℕ → Type 0
 NoneWithin f n m c traitors limit = (attempt : Attempt) (zs : List Choice) → IsIn attempt (attempts n c traitors) → plan_for f n m c traitors attempt ≡ Some zs → limit < attacks zs
 
@@ -61,7 +61,7 @@ disobedience_in n c traitors p order other good lp which =
     one (inl e) = inl (λ i. disobedience p (e.0 i) (e.1 i))
     one (inr e) = inr (inl (λ i. disobedience p (e.0 i) (e.1 i)))
 
--- the label of the commander alone
+-- Proves that the recursion begins with the commander's label.
 at_root : (f : List ℕ → ℕ) (n m c order : ℕ) (traitors : List ℕ) (M : Messages) → Played01 f n m c order (on traitors) M → At (setting f n (on traitors) M) c m m [] c (cond (on traitors c) Traitor (Loyal order))
 at_root f n m c order traitors M y = record {
   label = record { first = refl; below = (y.inside, tt); distinct = refl };
@@ -73,13 +73,13 @@ at_root f n m c order traitors M y = record {
     sent true e = e
     sent false e = (y.ordered, λ p r. ap order_of (y.played.faithful c y.inside e [] p (record { first = refl; below = (y.inside, tt); distinct = refl }) (omega arith) r.within r.off))
 
--- an attempt whose aims the messages meet
+-- Proves that there is a plan for aims that the messages meet.
 met_attempt : (f : List ℕ → ℕ) (n m c order : ℕ) (traitors : List ℕ) (M : Messages) → Played01 f n m c order (on traitors) M → (a : Aims) → IsAimed (setting f n (on traitors) M) (c ∷ []) a.first → IsAimed (setting f n (on traitors) M) (c ∷ []) a.second
     → Decides (setting f n (on traitors) M) m (c ∷ []) a.first → Decides (setting f n (on traitors) M) m (c ∷ []) a.second
     → PlanWithin f (on traitors) m (others n (c ∷ [])) (cond (on traitors c) Traitor (Loyal order)) a (attacks_in n m c (on traitors) M)
 met_attempt f n m c order traitors M y a r t d e = complete (setting f n (on traitors) M) c m order y.played m [] c (cond (on traitors c) Traitor (Loyal order)) a (at_root f n m c order traitors M y) r t d e
 
--- no lieutenant disobeys
+-- Proves that a loyal lieutenant obeys a loyal commander.
 obeys : (f : List ℕ → ℕ) (n m c order : ℕ) (traitors : List ℕ) (M : Messages) → Played01 f n m c order (on traitors) M → NoneWithin f n m c traitors (attacks_in n m c (on traitors) M) → on traitors c ≡ false → (p : ℕ) → IsLoyalLieutenant n c (on traitors) p
     → om f n M m (c ∷ []) p ≡ order
 obeys f n m c order traitors M y none good p l =
@@ -101,7 +101,7 @@ obeys f n m c order traitors M y none good p l =
     same v e (inl a) (inr b) = absurd (never v e (inr (b, a)))
     same v e (inr a) (inl b) = absurd (never v e (inl (b, a)))
 
--- no two lieutenants disagree under a traitor
+-- Proves that two loyal lieutenants agree under a traitor.
 agrees : (f : List ℕ → ℕ) (n m c order : ℕ) (traitors : List ℕ) (M : Messages) → Played01 f n m c order (on traitors) M → NoneWithin f n m c traitors (attacks_in n m c (on traitors) M) → on traitors c ≡ true → (p q : ℕ)
     → IsLoyalLieutenant n c (on traitors) p → IsLoyalLieutenant n c (on traitors) q → om f n M m (c ∷ []) p ≡ om f n M m (c ∷ []) q
 agrees f n m c order traitors M y none bad p q lp lq =
@@ -136,7 +136,7 @@ agree_within f n m c order traitors M y none = elim (cases_Bool (on traitors c))
     }
 ]
 
--- the traitors as a list
+-- Proves that the list of the traitors has the traitors.
 pub listed_traitor : (n : ℕ) (t : ℕ → Bool) (p : ℕ) → p < n → on (filter t (generals n)) p ≡ t p
 listed_traitor n t p l = elim (cases_Bool (t p)) [
   | inl bad ↦ on_in (filter t (generals n)) p (in_filter t p (generals n) (in_on (generals n) p (range-on 0 n p (omega arith) (omega arith))) bad) ∙ sym bad
@@ -146,7 +146,7 @@ listed_traitor n t p l = elim (cases_Bool (t p)) [
   ]
 ]
 
--- whatever is said with at most this many orders, the loyal lieutenants agree
+-- Proves that the loyal lieutenants agree, whatever is sent with at most this many orders by traitors.
 pub agree_below : (rule : Rule) (n m c limit : ℕ) (t : ℕ → Bool) → c < n → NoneWithin (combined_by rule) n m c (filter t (generals n)) limit
     → (order : ℕ) (M : Messages) → Within n m c limit order t M → Agree n c order t (om (combined_by rule) n M m (c ∷ []))
 agree_below rule n m c limit t inside none =
@@ -177,7 +177,7 @@ agree_below rule n m c limit t inside none =
       obeyed = λ loyal p l. a.obeyed (listed_traitor n t c inside ∙ loyal) p (loyal_too p l);
     }
 
--- where no attempt succeeds there is no break
+-- Proves that the rule tolerates the traitors if no attempt succeeds.
 pub none_tolerated : (rule : Rule) (n m c most : ℕ) → c < n → ((t : ℕ → Bool) → count_by t (generals n) ≤ most → NoneCheaperAmong (combined_by rule) n m c None (filter t (generals n))) → ToleratesUnder (combined_by rule) n m most c
 none_tolerated rule n m c most inside none order t M few faithful =
     agree_below rule n m c (attacks_in n m c t M) t inside

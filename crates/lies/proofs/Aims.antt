@@ -9,25 +9,25 @@ use Rattle.label.proofs.Counting.{on-push}
 use Rattle.lies.specs.Plans.{may_vote, next_aim}
 use Rattle.lies.specs.declared.aim.Aim.{Aim}
 
--- the campaign that is planned
+-- The rule, the traitors, the number of generals and the messages of a campaign.
 pub record Setting : Type 0 where
   pub f : List ℕ → ℕ
   pub traitor : ℕ → Bool
   pub n : ℕ
   pub M : Messages
 
--- p is a loyal general off w
+-- States that p is a loyal general who is off the label.
 pub record IsReceiver (x : Setting) (w : List ℕ) (p : ℕ) : Type 0 where
   pub within : p < x.n
   pub loyal : x.traitor p ≡ false
   pub off : on w p ≡ false
 
--- an aim is at such a general
+-- States that an aim, if there is one, is at such a general.
 abbrev pub IsAimed : Setting → List ℕ → Option Aim → Type 0
 IsAimed x w None = Unit {0}
 IsAimed x w (Some aim) = IsReceiver x w aim.general
 
--- he decides the order of the aim
+-- States that he decides on the order of the aim, with k relays left for the label.
 abbrev pub Decides : Setting → ℕ → List ℕ → Option Aim → Type 0
 Decides x k w None = Unit {0}
 Decides x k w (Some aim) = om x.f x.n x.M k w aim.general ≡ aim.order
@@ -39,7 +39,7 @@ receiver_push x w j p r ne = record {
   off = on-push w j p ∙ or_from (on w p) (j == p) r.off (ne_eqb j p ne);
 }
 
--- the vote of j in the list of p
+-- Returns the vote of j in the list that p combines.
 abbrev pub entry : Setting → ℕ → List ℕ → ℕ → ℕ → ℕ
 entry x k w p j = cond (j == p) (taken x.M w p) (om x.f x.n x.M k (w ++ j ∷ []) p)
 
@@ -51,7 +51,7 @@ pub om_last : (x : Setting) (w : List ℕ) (p : ℕ) → om x.f x.n x.M zero w p
 unfolding om
 om_last x w p = refl
 
--- the aim for the label that j extends is at a receiver of it
+-- Proves that the aim for the label that j extends is at a receiver of that label.
 pub aimed_push : (x : Setting) (w : List ℕ) (j vote : ℕ) (o : Option Aim) → IsAimed x w o → IsAimed x (w ++ j ∷ []) (next_aim o j vote)
 aimed_push x w j vote None r = tt
 aimed_push x w j vote (Some aim) r = step (aim.general == j) refl
@@ -60,7 +60,7 @@ aimed_push x w j vote (Some aim) r = step (aim.general == j) refl
     step true e = tt
     step false e = receiver_push x w j aim.general r (λ same. false≢true (sym e ∙ eq-eqb aim.general j (sym same)))
 
--- a vote of j, who took `own`, is the entry of j if the next aim is decided
+-- Proves that a vote that j may cast is his entry in the list, if the aim for the label that he extends is decided.
 pub entry_is : (x : Setting) (k : ℕ) (w : List ℕ) (aim : Aim) (j own vote : ℕ) → may_vote (Some aim) j own vote ≡ true → (j ≡ aim.general → taken x.M w aim.general ≡ own)
     → Decides x k (w ++ j ∷ []) (next_aim (Some aim) j vote) → vote ≡ entry x k w aim.general j
 entry_is x k w aim j own vote may same decides = elim (cases_Bool (aim.general == j)) [
@@ -80,7 +80,7 @@ entry_is x k w aim j own vote may same decides = elim (cases_Bool (aim.general =
     moved true e d = absurd (false≢true (sym e))
     moved false e d = d
 
--- and the other way round: an entry of j may be voted, and the next aim is then decided
+-- Proves that j may cast his entry in the list as his vote, and the aim for the label that he extends is then decided.
 pub entry_votes : (x : Setting) (k : ℕ) (w : List ℕ) (aim : Aim) (j own : ℕ) → (j ≡ aim.general → taken x.M w aim.general ≡ own)
     → (may_vote (Some aim) j own (entry x k w aim.general j) ≡ true) × Decides x k (w ++ j ∷ []) (next_aim (Some aim) j (entry x k w aim.general j))
 entry_votes x k w aim j own same = elim (cases_Bool (aim.general == j)) [

@@ -23,7 +23,7 @@ use Rattle.lies.proofs.Members.{on_in, in_on, from_flat_map, from_map, FromFlatM
 use Rattle.lies.proofs.SmallOrders.{IsSmallSender, AreSmall, small_planned}
 use Rattle.lies.proofs.Soundness.{Follows, BothDecide, Extends, extends, relays, sound, own_message}
 
--- two loyal lieutenants who are to disagree under a traitor
+-- States that the attempt is that two loyal lieutenants disagree under a traitor.
 pub record Disagrees (n c : ℕ) (traitors : List ℕ) (attempt : Attempt) : Type 0 where
   pub commander : on traitors c ≡ true
   pub p : ℕ
@@ -32,7 +32,7 @@ pub record Disagrees (n c : ℕ) (traitors : List ℕ) (attempt : Attempt) : Typ
   pub second : IsLoyalLieutenant n c (on traitors) q
   pub is : attempt ≡ disagreement p q
 
--- a loyal lieutenant who is to disobey
+-- States that the attempt is that a loyal lieutenant disobeys a loyal commander.
 pub record Disobeys (n c : ℕ) (traitors : List ℕ) (attempt : Attempt) : Type 0 where
   pub commander : on traitors c ≡ false
   pub p : ℕ
@@ -79,7 +79,7 @@ attempt_kind n c traitors attempt i = kind (on traitors c) refl i
 abbrev setting : (List ℕ → ℕ) → ℕ → ℕ → ℕ → List ℕ → Attempt → Setting
 setting f n m c traitors attempt = record { f = f; traitor = on traitors; n = n; M = planned f (on traitors) n m c attempt.sender attempt.aims }
 
--- the commander's label
+-- Proves that the planned messages follow the plan for the commander's label.
 root : (f : List ℕ → ℕ) (n m c : ℕ) (traitors : List ℕ) (attempt : Attempt) (zs : List Choice) → plan_for f n m c traitors attempt ≡ Some zs → Follows (setting f n m c traitors attempt) m (c ∷ []) attempt.sender attempt.aims
 unfolding planned
 root f n m c traitors attempt zs e = record { same = λ u g. refl; choices = zs; possible = e }
@@ -87,7 +87,7 @@ root f n m c traitors attempt zs e = record { same = λ u g. refl; choices = zs;
 receiver : (f : List ℕ → ℕ) (n m c : ℕ) (traitors : List ℕ) (attempt : Attempt) (p : ℕ) → IsLoyalLieutenant n c (on traitors) p → IsReceiver (setting f n m c traitors attempt) (c ∷ []) p
 receiver f n m c traitors attempt p l = record { within = l.general; loyal = l.loyal; off = or_from (c == p) false (ne_eqb c p (λ e. l.lieutenant (sym e))) refl }
 
--- a loyal general relays what he took
+-- Proves that a loyal lieutenant relays the order that he took.
 relayed : (f : List ℕ → ℕ) (n m c order : ℕ) (traitors : List ℕ) (attempt : Attempt) (zs : List Choice) → plan_for f n m c traitors attempt ≡ Some zs → (g : ℕ) → on traitors g ≡ false → (x : ℕ) (u : List ℕ) (p : ℕ) → IsLabel n c (x ∷ u ++ g ∷ []) → length u < m
     → planned f (on traitors) n m c attempt.sender attempt.aims (x ∷ u ++ g ∷ []) p ≡ Some (taken (planned f (on traitors) n m c attempt.sender attempt.aims) (x ∷ u) g)
 unfolding planned
@@ -98,7 +98,7 @@ relayed f n m c order traitors attempt zs e g loyal x u p label long =
     (extends n (c ∷ []) (u ++ g ∷ []) label.below.1 apart.1
     (λ h i. or_from (c == h) false (ne_eqb c h (λ same. false≢true (sym out ∙ (ap (on (u ++ g ∷ [])) (label.first ∙ same) ∙ i)))) refl))
 
--- the commander sends his order
+-- Proves that a loyal commander sends his order.
 ordered : (f : List ℕ → ℕ) (n m c order : ℕ) (traitors : List ℕ) (attempt : Attempt) (zs : List Choice) → plan_for f n m c traitors attempt ≡ Some zs → attempt.sender ≡ Loyal order → (g p : ℕ) → planned f (on traitors) n m c attempt.sender attempt.aims (g ∷ []) p ≡ Some order
 unfolding planned
 ordered f n m c order traitors attempt zs e sends g p =
@@ -113,7 +113,7 @@ faithful f n m c order traitors attempt zs e sends g loyal [] p label short with
 faithful f n m c order traitors attempt zs e sends g loyal (x ∷ u) p label short within off =
     relayed f n m c order traitors attempt zs e g loyal x u p label (omega arith)
 
--- what a break is, with its order
+-- States that the planned messages of an attempt are a break with orders of 32 bits, and what it costs at most.
 pub record IsBreak (f : List ℕ → ℕ) (n m c : ℕ) (traitors : List ℕ) (attempt : Attempt) (cost : ℕ) : Type 0 where
   pub order : ℕ
   pub breaks : Breaks f n m c order (on traitors) (planned f (on traitors) n m c attempt.sender attempt.aims)
@@ -156,7 +156,7 @@ disobeyed f n m c traitors p order other zs good lp small less apart e =
       orders = λ w r v h. small_planned f (on traitors) n m c (Loyal order) (disobedience p order other).aims w r v small (record { first = less; second = tt }) h;
     }
 
--- a successful attempt is a break
+-- Proves that an attempt that succeeds is a break.
 pub break_is : (f : List ℕ → ℕ) (n m c : ℕ) (traitors : List ℕ) (success : Success) → Succeeds f n m c traitors success → IsBreak f n m c traitors success.attempt success.attacks
 break_is f n m c traitors success h =
     let P : Attempt → Type 0 = λ t. plan_for f n m c traitors t ≡ Some h.choices in

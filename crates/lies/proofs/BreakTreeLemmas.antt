@@ -13,7 +13,7 @@ use Rattle.book.specs.Trees.{tree_of}
 use Rattle.book.proofs.TreeLemmas.{refilled}
 use Rattle.lies.specs.BreakTrees.{HoldsBelow}
 
--- the tree also has the messages about the first labels of this length
+-- States that the tree also has the messages about the first labels of this length.
 pub record HoldsUpTo (N : Messages) (size rank n m c p : ℕ) (t : LieutenantTree) : Type 0 where
   pub messages : Messages
   pub filled : t ≡ tree_of n m c messages p
@@ -23,7 +23,7 @@ pub record HoldsUpTo (N : Messages) (size rank n m c p : ℕ) (t : LieutenantTre
 pub none_yet : (N : Messages) (size n m c p : ℕ) (t : LieutenantTree) → HoldsBelow N size n m c p t → HoldsUpTo N size 0 n m c p t
 none_yet N size n m c p t h = record { messages = h.messages; filled = h.filled; shorter = h.told; ranked = λ i w l at. absurd (omega arith) }
 
--- one message more
+-- Proves the claim with one message more.
 also : (M N : Messages) (w : List ℕ) (v : Option ℕ) (u : List ℕ) (p : ℕ) → v ≡ N w p → M u p ≡ N u p → told_also M w v u p ≡ N u p
 unfolding told_also
 also M N w v u p e same = elim (cases_Bool (bytes_eq u w)) [
@@ -68,12 +68,12 @@ level_full N size rank n m c p old t h e lc lp ne = record {
   ];
 }
 
--- maps that agree at each place of a list
+-- Proves that two maps of a list are equal if they agree at each place.
 map_at : {A B : Type 0} (f g : A → B) (xs : List A) → ((i : ℕ) (x : A) → slice_get xs i ≡ Some x → f x ≡ g x) → map f xs ≡ map g xs
 map_at f g [] same = refl
 map_at f g (x ∷ xs) same = rw (same 0 x refl, map_at f g xs (λ i y at. same (suc i) y at)) refl
 
--- levels have no more of the messages than what their labels tell
+-- Proves that levels depend only on the messages about their labels.
 levels_agree : (n c p : ℕ) (M N : Messages) (k l : ℕ) → c < n → p < n → p ≢ c → ((w : List ℕ) → IsLabel n c w → on w p ≡ false → length w < k + l → M w p ≡ N w p) → levels_from n c p M k l ≡ levels_from n c p N k l
 unfolding levels_from
 levels_agree n c p M N k zero lc lp ne same = refl
@@ -83,7 +83,7 @@ levels_agree n c p M N k (suc l) lc lp ne same =
       levels_agree n c p M N (suc k) l lc lp ne (λ w label off short. same w label off (omega arith)),
     ) refl
 
--- a tree that has the messages about all of its labels is filled with them
+-- Proves that a tree that has the messages about all of its labels is filled with them.
 pub all_full : (N : Messages) (size n m c p : ℕ) (t : LieutenantTree) → HoldsBelow N size n m c p t → m + 2 ≤ size → c < n → p < n → p ≢ c → t ≡ tree_of n m c N p
 all_full N size n m c p t h long lc lp ne =
     let T : List (List (Option ℕ)) → LieutenantTree = λ ls. record { generals = n; bound = m; commander = c; general = p; levels = ls } in

@@ -10,7 +10,7 @@ use Rattle.label.proofs.Counting.{on-push, others-on}
 use Rattle.label.proofs.Pushes.{IsLabel-push, heard-push}
 use Rattle.lies.specs.Attempts.{IsIn}
 use Rattle.lies.specs.Break.{attacks_at, attacks_from}
-use Rattle.lies.specs.Plans.{without, sender_of, may_take, may_vote, may_cast, next_aim, next_aims, attacks, attacks_by, all_votes, choices_of, is_met, meets, aimed_or, last_taken, is_taken, last_choice, last_plan, plan}
+use Rattle.lies.specs.Plans.{without, sender_of, may_take, may_vote, may_cast, next_aim, next_aims, attacks, attacks_by, all_votes, vote_of, choices_of, is_met, meets, aimed_or, last_taken, is_taken, last_choice, last_plan, plan}
 use Rattle.lies.specs.declared.aim.Aim.{Aim}
 use Rattle.lies.specs.declared.aim.Aims.{Aims}
 use Rattle.lies.specs.declared.choice.Choice.{Choice}
@@ -21,24 +21,24 @@ use Rattle.lies.proofs.Members.{on_in, in_on, in_flat_map}
 use Rattle.lies.proofs.PlanLemmas.{AreChosen, attacks_none, attacks_cons, choice_made, others_without, PlanWithin, plan_within}
 use Rattle.lies.proofs.Aims.{Setting, IsReceiver, IsAimed, Decides, entry, om_step, om_last, aimed_push, entry_votes}
 
--- the messages of a campaign with the orders 0 and 1, in which the loyal generals are faithful
+-- States that everyone takes 0 or 1, the rule keeps to these orders, and the loyal generals are faithful.
 pub record Played (x : Setting) (c m order : ℕ) : Type 0 where
   pub two : (w : List ℕ) (p : ℕ) → taken x.M w p < 2
   pub rule : (xs : List ℕ) → AllBelow 2 xs → x.f xs < 2
   pub faithful : (g : ℕ) → g < x.n → x.traitor g ≡ false → IsFaithful x.n c m order x.M g
 
--- what the last general g of w sends
+-- States what the last general g of a label sends about it, as a sender.
 abbrev pub Sends : Setting → List ℕ → ℕ → Sender → Type 0
 Sends x w g (Loyal v) = (v < 2) × ((p : ℕ) → IsReceiver x w p → taken x.M w p ≡ v)
 Sends x w g Traitor = x.traitor g ≡ true
 
--- a label with k relays left: u and then g
+-- States that u and then g is a label with k relays left, and that g sends like this.
 pub record At (x : Setting) (c m k : ℕ) (u : List ℕ) (g : ℕ) (s : Sender) : Type 0 where
   pub label : IsLabel x.n c (u ++ g ∷ [])
   pub time : length u + k ≤ m
   pub sends : Sends x (u ++ g ∷ []) g s
 
--- decisions are 0 or 1
+-- Proves that decisions are 0 or 1.
 small_cond : (b : Bool) (y z : ℕ) → y < 2 → z < 2 → cond b y z < 2
 small_cond true y z l h = l
 small_cond false y z l h = h
@@ -57,16 +57,14 @@ om_small x c m order y (suc k) w p =
 entry_small : (x : Setting) (c m order : ℕ) → Played x c m order → (k : ℕ) (w : List ℕ) (p j : ℕ) → entry x k w p j < 2
 entry_small x c m order y k w p j = small_cond (j == p) (taken x.M w p) (om x.f x.n x.M k (w ++ j ∷ []) p) (y.two w p) (om_small x c m order y k (w ++ j ∷ []) p)
 
--- a vote of 0 and 1 is one of all
+-- Proves that each vote of 0 and 1 is listed.
 below_two : (t : ℕ) → t < 2 → (t ≡ 0) ⊎ (t ≡ 1)
 below_two zero l = inl refl
 below_two (suc zero) l = inr refl
 below_two (suc (suc t)) l = absurd (omega arith)
 
-abbrev vote_of : ℕ → ℕ → ℕ → Vote
-vote_of t a b = record { taken = t; first = a; second = b }
-
 listed_vote : (t a b : ℕ) → (t ≡ 0) ⊎ (t ≡ 1) → (a ≡ 0) ⊎ (a ≡ 1) → (b ≡ 0) ⊎ (b ≡ 1) → IsIn (vote_of t a b) all_votes
+unfolding all_votes
 listed_vote t a b (inl et) (inl ea) (inl eb) = inl (λ i. vote_of (et i) (ea i) (eb i))
 listed_vote t a b (inl et) (inl ea) (inr eb) = inr (inl (λ i. vote_of (et i) (ea i) (eb i)))
 listed_vote t a b (inl et) (inr ea) (inl eb) = inr (inr (inl (λ i. vote_of (et i) (ea i) (eb i))))
@@ -79,12 +77,12 @@ listed_vote t a b (inr et) (inr ea) (inr eb) = inr (inr (inr (inr (inr (inr (inr
 vote_listed : (t a b : ℕ) → t < 2 → a < 2 → b < 2 → IsIn (vote_of t a b) all_votes
 vote_listed t a b lt la lb = listed_vote t a b (below_two t lt) (below_two a la) (below_two b lb)
 
--- the order that j takes in the plan
+-- Returns the order that j takes in the plan.
 abbrev took : Setting → List ℕ → Sender → ℕ → ℕ
 took x w (Loyal v) j = v
 took x w Traitor j = cond (x.traitor j) 0 (taken x.M w j)
 
--- the vote of j in the list of an aim
+-- Returns the vote of j in the list of the lieutenant aimed at.
 abbrev voted : Setting → ℕ → List ℕ → Option Aim → ℕ → ℕ
 voted x k w None j = 0
 voted x k w (Some aim) j = entry x k w aim.general j
@@ -97,7 +95,7 @@ voted_small : (x : Setting) (c m order : ℕ) → Played x c m order → (k : �
 voted_small x c m order y k w None j = omega arith
 voted_small x c m order y k w (Some aim) j = entry_small x c m order y k w aim.general j
 
--- a loyal general takes the order that the plan has him take
+-- Proves that a loyal general takes this order from the messages.
 took_truly : (x : Setting) (w : List ℕ) (g : ℕ) (s : Sender) (p : ℕ) → Sends x w g s → IsReceiver x w p → taken x.M w p ≡ took x w s p
 took_truly x w g (Loyal v) p h r = h.1 p r
 took_truly x w g Traitor p h r = sym (cond-false (x.traitor p) 0 (taken x.M w p) r.loyal)
@@ -110,14 +108,14 @@ took_may x w Traitor j = may (x.traitor j) (taken x.M w j)
     may true t = refl
     may false t = refl
 
--- each aim lets j vote like this, and the plan for the longer label has to bring about the rest
+-- Proves that j may cast this vote, and that the aim for the label that he extends is decided.
 voted_may : (x : Setting) (k : ℕ) (w : List ℕ) (g : ℕ) (s : Sender) (o : Option Aim) (j : ℕ) → Sends x w g s → IsAimed x w o
     → (may_vote o j (took x w s j) (voted x k w o j) ≡ true) × Decides x k (w ++ j ∷ []) (next_aim o j (voted x k w o j))
 voted_may x k w g s None j h r = (refl, tt)
 voted_may x k w g s (Some aim) j h r =
     entry_votes x k w aim j (took x w s j) (λ e. took_truly x w g s aim.general h r ∙ ap (took x w s) (sym e))
 
--- the longer label
+-- Proves what holds of the label that j extends.
 at_push : (x : Setting) (c m order k : ℕ) → Played x c m order → (u : List ℕ) (g : ℕ) (s : Sender) (j : ℕ) → At x c m (suc k) u g s → j < x.n → on (u ++ g ∷ []) j ≡ false → At x c m k (u ++ g ∷ []) j (sender_of x.traitor j (took x (u ++ g ∷ []) s j))
 at_push x c m order k y u g s j a l o = record {
   label = IsLabel-push a.label j l o;
@@ -137,7 +135,7 @@ at_push x c m order k y u g s j a l o = record {
     sent true e = e
     sent false e = (took_small x c m order y (u ++ g ∷ []) g s j a.sends, λ p r. passed p e r)
 
--- some choices, one for each of some generals, whose votes are those of the messages
+-- Choices, one for each of these generals, with the votes F and G and at most this cost.
 record Built (flat : List Choice) (F G cost : ℕ → ℕ) (js : List ℕ) : Type 0 where
   choices : List Choice
   chosen : AreChosen flat js choices
@@ -145,7 +143,7 @@ record Built (flat : List Choice) (F G cost : ℕ → ℕ) (js : List ℕ) : Typ
   second : map (λ (z : Choice). z.vote.second) choices ≡ map G js
   cheap : attacks choices ≤ sum_by cost js
 
--- one of them
+-- A choice for general j, with the votes F j and G j and at most this cost.
 record One (flat : List Choice) (F G cost : ℕ → ℕ) (j : ℕ) : Type 0 where
   choice : Choice
   listed : IsIn choice flat
@@ -173,7 +171,7 @@ built flat F G cost (j ∷ js) each =
       cheap = rw (attacks_cons one.choice rest.choices, sum_by-cons cost j js) (omega arith);
     }
 
--- sums, general by general
+-- Proves that a sum is at most another if each element is.
 sum_more : (F G : ℕ → ℕ) (js : List ℕ) → ((j : ℕ) → on js j ≡ true → F j ≤ G j) → sum_by F js ≤ sum_by G js
 sum_more F G [] each = omega arith
 sum_more F G (j ∷ js) each =
@@ -193,7 +191,7 @@ one_of : (b : Bool) → cond {A = ℕ} b 0 1 ≤ cond (not b) 1 0
 one_of true = omega arith
 one_of false = omega arith
 
--- the orders that the last general of w sends in the plan are among those that he sends
+-- Proves that the last general of the label sends at least as many orders as the plan has him send.
 own_attacks : (x : Setting) (w : List ℕ) (g : ℕ) (s : Sender) → Sends x w g s → sum_by (λ j. attacks_by s (took x w s j)) (others x.n w) ≤ attacks_at x.n x.traitor x.M w g
 own_attacks x w g (Loyal v) h = rw (sum_zero (others x.n w)) (omega arith)
 own_attacks x w g Traitor h =
@@ -220,11 +218,11 @@ meets_from : (f : List ℕ → ℕ) (a : Aims) (zs : List Choice) → is_met f a
 unfolding meets
 meets_from f a zs e h = and_from (is_met f a.first (map (λ (z : Choice). z.vote.first) zs)) (is_met f a.second (map (λ (z : Choice). z.vote.second) zs)) e h
 
--- with no relays left
+-- Proves what a loyal general takes with no relays left.
 last_met : (x : Setting) (w : List ℕ) (g : ℕ) (s : Sender) (a : Aims) → Sends x w g s → IsAimed x w a.first → IsAimed x w a.second → Decides x zero w a.first → Decides x zero w a.second → (is_taken s a a.first ≡ true) × (is_taken s a a.second ≡ true)
 last_met x w g s a h r t d e = (one s h a.first refl r d, two s h a.second refl t e)
   where
-    -- what an aim at p asks for is what p took
+    -- An order that an aim at p asks for is the order that p took.
     aimed_taken : (o : Option Aim) (p other : ℕ) → Decides x zero w o → other ≡ taken x.M w p → aimed_or o p other ≡ taken x.M w p
     aimed_taken None p other d e = e
     aimed_taken (Some aim) p other d e = elim (cases_Bool (aim.general == p)) [
@@ -251,7 +249,7 @@ last_met x w g s a h r t d e = (one s h a.first refl r d, two s h a.second refl 
         eq-eqb (last_taken Traitor a aim.general) aim.order
         (aimed_taken a.first aim.general (aimed_or a.second aim.general 0) d own ∙ (sym (om_last x w aim.general) ∙ d'))
 
--- what the last general sends in the plan
+-- Proves that with no relays left the plan has at most the orders of the messages.
 last_attacks : (x : Setting) (w : List ℕ) (g : ℕ) (s : Sender) (a : Aims) → Sends x w g s → IsAimed x w a.first → IsAimed x w a.second → Decides x zero w a.first → Decides x zero w a.second
     → attacks (map (last_choice s a) (others x.n w)) ≤ attacks_at x.n x.traitor x.M w g
 last_attacks x w g (Loyal v) a h r t d e = rw (none (others x.n w)) (omega arith)
@@ -262,7 +260,7 @@ last_attacks x w g (Loyal v) a h r t d e = rw (none (others x.n w)) (omega arith
 last_attacks x w g Traitor a h r t d e =
     rw (cond-true (x.traitor g) (count_by (λ p. not (x.traitor p) && not (taken x.M w p == 0)) (others x.n w)) 0 h) (some (others x.n w))
   where
-    -- an order that an aim asks for is one that a loyal general took
+    -- An order that an aim asks for is one that a loyal general took.
     asked : (o : Option Aim) (p other : ℕ) → IsAimed x w o → Decides x zero w o → cond {A = ℕ} (other == 0) 0 1 ≤ cond (not (x.traitor p) && not (taken x.M w p == 0)) 1 0
         → cond {A = ℕ} (aimed_or o p other == 0) 0 1 ≤ cond (not (x.traitor p) && not (taken x.M w p == 0)) 1 0
     asked None p other r' d' l = l
@@ -291,7 +289,7 @@ unfolding plan last_plan
 plan_zero f traitor gs s a e h =
     cond-true (is_taken s a a.first && is_taken s a a.second) (Some (map (last_choice s a) gs)) None (and_from (is_taken s a a.first) (is_taken s a a.second) e h)
 
--- the choice for a general j off the label, if there is a plan for the label that he extends
+-- Proves that there is a choice for general j if there is a plan for the label that he extends.
 one_choice : (x : Setting) (c m order : ℕ) → Played x c m order → (k : ℕ) (w : List ℕ) (g : ℕ) (s : Sender) (a : Aims) → Sends x w g s → IsAimed x w a.first → IsAimed x w a.second → (j : ℕ) → on (others x.n w) j ≡ true
     → PlanWithin x.f x.traitor k (others x.n (w ++ j ∷ [])) (sender_of x.traitor j (took x w s j)) (next_aims a j (vote_of (took x w s j) (voted x k w a.first j) (voted x k w a.second j))) (attacks_from x.n x.traitor x.M k (w ++ j ∷ []) j)
     → One (flat_map (λ i. choices_of (λ q b. plan x.f x.traitor k (without (others x.n w) i) q b) s x.traitor a i) (others x.n w)) (voted x k w a.first) (voted x k w a.second)
@@ -320,7 +318,7 @@ one_choice x c m order y k w g s a h r t j i below =
       cheap = omega arith;
     }
 
--- there is a plan for what the messages lead to
+-- Proves that there is a plan for the decisions to which messages lead, and that it costs no more than the messages.
 pub complete : (x : Setting) (c m order : ℕ) → Played x c m order → (k : ℕ) (u : List ℕ) (g : ℕ) (s : Sender) (a : Aims) → At x c m k u g s → IsAimed x (u ++ g ∷ []) a.first → IsAimed x (u ++ g ∷ []) a.second
     → Decides x k (u ++ g ∷ []) a.first → Decides x k (u ++ g ∷ []) a.second → PlanWithin x.f x.traitor k (others x.n (u ++ g ∷ [])) s a (attacks_from x.n x.traitor x.M k (u ++ g ∷ []) g)
 complete x c m order y zero u g s a h r t d e =

@@ -19,7 +19,7 @@ use Rattle.lies.proofs.PlanLemmas.{AreChosen, attacks_none, attacks_cons, votes_
 use Rattle.lies.proofs.Aims.{Setting}
 use Rattle.lies.proofs.Soundness.{Follows, Child, child, takes_choice, last_taken_by}
 
--- the last general of the label is loyal, or the plan counts what he sends
+-- States that the last general of the label is loyal, or the plan counts what he sends.
 abbrev pub IsCounted : Setting → ℕ → Sender → Type 0
 IsCounted x g s = (x.traitor g ≡ false) ⊎ (s ≡ Traitor)
 
@@ -55,12 +55,12 @@ sum_map : (F : ℕ → ℕ) (js : List ℕ) → sum_by (λ t. t) (map F js) ≡ 
 sum_map F [] = refl
 sum_map F (j ∷ js) = let ih = sum_map F js in rw (sum_by-cons (λ (t : ℕ). t) (F j) (map F js), sum_by-cons F j js) (omega arith)
 
--- what a choice has, if there is one
+-- Returns a number of a choice, or 0 if there is none.
 abbrev pick : Option Choice → (Choice → ℕ) → ℕ
 pick None v = 0
 pick (Some z) v = v z
 
--- one message
+-- Proves that the orders about one label are at most those that the plan counts for it.
 one_message : (x : Setting) (w : List ℕ) (g : ℕ) (s : Sender) (own : ℕ → ℕ) → IsCounted x g s → ((j : ℕ) → on (others x.n w) j ≡ true → x.traitor j ≡ false → taken x.M w j ≡ own j)
     → attacks_at x.n x.traitor x.M w g ≤ sum_by (λ j. attacks_by s (own j)) (others x.n w)
 one_message x w g s own counted same = elim (cases_Bool (x.traitor g)) [
@@ -82,7 +82,7 @@ one_message x w g s own counted same = elim (cases_Bool (x.traitor g)) [
     each e j i true h = omega arith
     each e j i false h = rw (e, same j i h) (bit (own j == 0))
 
--- the messages of a plan have at most the orders that it counts
+-- Proves that the messages of a plan have at most the orders that it counts.
 pub cost_within : (x : Setting) (k : ℕ) (w : List ℕ) (g : ℕ) (s : Sender) (a : Aims) (h : Follows x k w s a) → IsCounted x g s → attacks_from x.n x.traitor x.M k w g ≤ attacks h.choices
 unfolding attacks_from
 cost_within x zero w g s a h counted =
@@ -121,7 +121,7 @@ cost_within x (suc k) w g s a h counted =
     let sums = sum_both (λ j. attacks_by s (own j)) (λ j. attacks_from x.n x.traitor x.M k (w ++ j ∷ []) j) (others x.n w) in
     omega arith
 
--- messages that agree at all places, and traitors who are the same
+-- States that two message functions agree at all places of a campaign, and two sets of traitors have the same generals.
 pub record SameAt (n c m : ℕ) (t u : ℕ → Bool) (M N : Messages) : Type 0 where
   pub traitors : (j : ℕ) → j < n → t j ≡ u j
   pub messages : (w : List ℕ) (p : ℕ) → IsLabel n c w → length w ≤ m + 1 → p < n → on w p ≡ false → M w p ≡ N w p

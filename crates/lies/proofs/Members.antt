@@ -28,7 +28,7 @@ in_flat_map f y x [] i h = absurd i
 in_flat_map f y x (z ∷ xs) (inl e) h = in_left y (f z) (flat_map f xs) (subst (λ a. IsIn y (f a)) e h)
 in_flat_map f y x (z ∷ xs) (inr i) h = in_right y (f z) (flat_map f xs) (in_flat_map f y x xs i h)
 
--- an element of a flat map comes from one of the list
+-- The element of the list from which an element of a flat map comes.
 pub record FromFlatMap {A B : Type 0} (f : A → List B) (y : B) (xs : List A) : Type 0 where
   pub source : A
   pub listed : IsIn source xs
@@ -47,7 +47,7 @@ in_map f x [] i = absurd i
 in_map f x (z ∷ xs) (inl e) = inl (ap f e)
 in_map f x (z ∷ xs) (inr i) = inr (in_map f x xs i)
 
--- an element of a map comes from one of the list
+-- The element of the list from which an element of a map comes.
 pub record FromMap {A B : Type 0} (f : A → B) (y : B) (xs : List A) : Type 0 where
   pub source : A
   pub listed : IsIn source xs
@@ -77,7 +77,7 @@ from_filter t x (z ∷ xs) i = kept t x z xs (from_filter t x xs) (t z) refl i
     kept t x z xs ih true e (inr there) = (inr (ih there).0, (ih there).1)
     kept t x z xs ih false e i = (inr (ih i).0, (ih i).1)
 
--- generals of a list are on it
+-- Proves that the two words for a general in a list agree.
 pub on_in : (xs : List ℕ) (j : ℕ) → IsIn j xs → on xs j ≡ true
 on_in [] j i = absurd i
 on_in (x ∷ xs) j (inl e) = or_left (x == j) (on xs j) (eq-eqb x j (sym e))

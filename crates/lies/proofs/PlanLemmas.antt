@@ -18,7 +18,7 @@ use Rattle.lies.proofs.Members.{in_map, in_filter, in_flat_map, from_map, from_f
 some_same : {A : Type 0} → (x y : A) → Some x ≡ Some y → x ≡ y
 some_same x y e = cc
 
--- the orders of a plan, choice by choice
+-- Proves what a plan costs, choice by choice.
 pub attacks_none : attacks [] ≡ 0
 unfolding attacks
 attacks_none = refl
@@ -27,7 +27,7 @@ pub attacks_cons : (z : Choice) (zs : List Choice) → attacks (z ∷ zs) ≡ z.
 unfolding attacks
 attacks_cons z zs = sum_by-cons (λ (choice : Choice). choice.attacks) z zs
 
--- the cheaper of two plans
+-- The cheaper of two plans, of which the second may be missing.
 record Cheaper (p : List Choice) (rest : Option (List Choice)) : Type 0 where
   best : List Choice
   is : cheaper (Some p) rest ≡ Some best
@@ -58,7 +58,7 @@ cheaper_is p (Some q) = elim (cases_Bool (nat_lt (attacks q) (attacks p))) [
       }
 ]
 
--- the cheapest of some plans is one of them
+-- Proves that the cheapest of some plans is one of them.
 pub cheapest_in : (plans : List (List Choice)) (best : List Choice) → cheapest plans ≡ Some best → IsIn best plans
 unfolding cheapest
 cheapest_in [] best e = cc
@@ -72,7 +72,7 @@ cheapest_in (p ∷ ps) best e = pick p ps best (cheapest ps) (λ q h. cheapest_i
     pick p ps best None ih e = inl (sym (some_same p best e))
     pick p ps best (Some q) ih e = one p q ps best (ih q refl) (nat_lt (attacks q) (attacks p)) e
 
--- and none of them is cheaper
+-- States that there is a cheapest plan, and that it costs at most this.
 pub record Cheapest (plans : List (List Choice)) (limit : ℕ) : Type 0 where
   pub best : List Choice
   pub is : cheapest plans ≡ Some best
@@ -93,7 +93,7 @@ cheapest_least (q ∷ qs) p (inr i) =
     let m = rest.least in
     record { best = c.best; is = c.is; least = omega arith }
 
--- one of the choices for each general
+-- States that the plan has one of the choices for each general.
 abbrev pub AreChosen : List Choice → List ℕ → List Choice → Type 0
 AreChosen choices [] [] = Unit {0}
 AreChosen choices [] (z ∷ zs) = ⊥
@@ -131,7 +131,7 @@ chosen_all choices (j ∷ js) [] z h i = absurd h
 chosen_all choices (j ∷ js) (y ∷ zs) z h (inl e) = subst (λ v. IsIn v choices) (sym e) h.0
 chosen_all choices (j ∷ js) (y ∷ zs) z h (inr i) = chosen_all choices js zs z h.2 i
 
--- what is found is in the list
+-- Proves that what is found is in the list.
 pub found_in : (zs : List Choice) (j : ℕ) (z : Choice) → choice_in (Some zs) j ≡ Some z → IsIn z zs
 found_in [] j z e = cc
 found_in (y ∷ zs) j z e = elim (cases_Bool (y.general == j)) [
@@ -139,7 +139,7 @@ found_in (y ∷ zs) j z e = elim (cases_Bool (y.general == j)) [
   | inr apart ↦ inr (found_in zs j z (sym (cond-false (y.general == j) (Some y) (find (λ (choice : Choice). choice.general == j) zs) apart) ∙ e))
 ]
 
--- the choice of a plan for one of its generals
+-- The choice of a plan for one of its generals.
 pub record ChoiceFor (choices : List Choice) (zs : List Choice) (j : ℕ) : Type 0 where
   pub choice : Choice
   pub found : choice_in (Some zs) j ≡ Some choice
@@ -171,7 +171,7 @@ choice_for choices (g ∷ js) (z ∷ zs) j h i = elim (cases_Bool (z.general == 
       }
 ]
 
--- the votes of a plan, general by general
+-- Proves that the votes of a plan are a map of its generals.
 pub votes_are : (choices : List Choice) (v : Choice → ℕ) (F : ℕ → ℕ) (js : List ℕ) (zs : List Choice) → AreChosen choices js zs → is_distinct js ≡ true
     → ((j : ℕ) (z : Choice) → on js j ≡ true → choice_in (Some zs) j ≡ Some z → v z ≡ F j) → map v zs ≡ map F js
 votes_are choices v F [] [] h d says = refl
@@ -191,7 +191,7 @@ votes_are choices v F (g ∷ js) (z ∷ zs) h d says =
     in
     cc
 
--- what is known of a choice for general j
+-- States what is known of a choice for general j.
 pub record IsChoice (below : Sender → Aims → Option (List Choice)) (s : Sender) (traitor : ℕ → Bool) (a : Aims) (j : ℕ) (z : Choice) : Type 0 where
   pub own : z.general ≡ j
   pub vote : IsIn z.vote all_votes
@@ -215,7 +215,7 @@ choice_is below s traitor a j z i =
     cast_one below s traitor a j z vote l true e (Some plan) p (inl is) =
         subst (IsChoice below s traitor a j) (sym is) (record { own = refl; vote = l; cast = e; later = plan; possible = p; cost = refl })
 
--- a vote that may be cast, and a plan for the label that j extends, make a choice
+-- Proves that a vote that j may cast and a plan for the label that he extends make a choice.
 pub choice_made : (below : Sender → Aims → Option (List Choice)) (s : Sender) (traitor : ℕ → Bool) (a : Aims) (j : ℕ) (vote : Vote) (later : List Choice) → IsIn vote all_votes → may_cast s traitor a j vote ≡ true
     → below (sender_of traitor j vote.taken) (next_aims a j vote) ≡ Some later → IsIn (record { general = j; vote = vote; attacks = attacks_by s vote.taken + attacks later }) (choices_of below s traitor a j)
 choice_made below s traitor a j vote later listed cast possible =
@@ -226,7 +226,7 @@ choice_made below s traitor a j vote later listed cast possible =
     made : (b : Bool) (plans : Option (List Choice)) → b ≡ true → plans ≡ Some later → IsIn (record { general = j; vote = vote; attacks = attacks_by s vote.taken + attacks later }) (cond b (chosen s j vote plans) [])
     made b plans eb ep = rw (eb, ep) (inl refl)
 
--- the generals off a longer label
+-- Proves which generals are off the label that j extends.
 kept : (w : List ℕ) (j : ℕ) (gs : List ℕ) → without (filter (λ g. not (on w g)) gs) j ≡ filter (λ g. not (on (w ++ j ∷ []) g)) gs
 kept w j [] = refl
 kept w j (g ∷ gs) =
@@ -241,7 +241,7 @@ kept w j (g ∷ gs) =
 pub others_without : (n : ℕ) (w : List ℕ) (j : ℕ) → without (others n w) j ≡ others n (w ++ j ∷ [])
 others_without n w j = kept w j (generals n)
 
--- what a plan with a relay left consists of
+-- States what a plan with a relay left consists of.
 pub record IsPlan (f : List ℕ → ℕ) (traitor : ℕ → Bool) (k : ℕ) (gs : List ℕ) (s : Sender) (a : Aims) (zs : List Choice) : Type 0 where
   pub choices : AreChosen (flat_map (λ j. choices_of (λ t b. plan f traitor k (without gs j) t b) s traitor a j) gs) gs zs
   pub meeting : meets f a zs ≡ true
@@ -253,7 +253,7 @@ plan_is f traitor k gs s a zs e =
     let kept = from_filter (meets f a) zs (selections all gs) (cheapest_in (filter (meets f a) (selections all gs)) zs e) in
     record { choices = selection all gs zs kept.0; meeting = kept.1 }
 
--- and a selection that meets the aims is one at its cost or less
+-- A plan that costs at most this.
 pub record PlanWithin (f : List ℕ → ℕ) (traitor : ℕ → Bool) (k : ℕ) (gs : List ℕ) (s : Sender) (a : Aims) (limit : ℕ) : Type 0 where
   pub choices : List Choice
   pub is : plan f traitor k gs s a ≡ Some choices

@@ -13,7 +13,7 @@ use Rattle.combine.proofs.Found.{find_passes, cases_find}
 use Rattle.label.specs.Oral.{AllBelow}
 use Rattle.lies.specs.TwoOrders.{Projection, RulesProject}
 
--- what is found is in the list
+-- Proves that what is found is in the list.
 find_in : (t : ℕ → Bool) (xs : List ℕ) (v : ℕ) → find t xs ≡ Some v → 0 < count_by (λ x. x == v) xs
 find_in t [] v e = absurd cc
 find_in t (x ∷ xs) v e = elim (cases_Bool (t x)) [
@@ -25,7 +25,7 @@ find_in t (x ∷ xs) v e = elim (cases_Bool (t x)) [
       rw (sum_by-cons (λ y. cond (y == v) 1 0) x xs) (omega arith)
 ]
 
--- an element of a list of 0 and 1 is 0 or 1
+-- Proves that an element of a list of 0 and 1 is 0 or 1.
 in_small : (xs : List ℕ) (v : ℕ) → AllBelow 2 xs → 0 < count_by (λ x. x == v) xs → v < 2
 in_small [] v b some = absurd (omega arith)
 in_small (x ∷ xs) v b some = elim (cases_eq x v) [
@@ -41,7 +41,7 @@ unfolding majority median
 rule_small Majority xs b = found_small (is_most xs) xs b
 rule_small Median xs b = found_small (is_middle xs) xs b
 
--- the majority: whether an order is v
+-- Returns 1 for the order v, and 0 for any other.
 abbrev is_v : ℕ → ℕ → ℕ
 is_v v x = cond (x == v) 1 0
 
@@ -67,7 +67,7 @@ count_v v (x ∷ xs) =
     bit true = refl
     bit false = refl
 
--- the majority is in more than half of the places, or 0
+-- Proves that the majority is in more than half of the places, unless it is 0.
 majority_most : (xs : List ℕ) (v : ℕ) → majority xs ≡ v → v ≢ 0 → length xs < 2 * count_by (λ x. x == v) xs
 unfolding majority
 majority_most xs v e ne = cases_find (is_most xs) xs (length xs < 2 * count_by (λ x. x == v) xs)
@@ -98,7 +98,7 @@ majority_commutes v ne xs = elim (cases_lt (length xs) (2 * count_by (λ x. x ==
         absurd (omega arith)
     none few (suc (suc u)) e l = absurd (omega arith)
 
--- the median: whether an order is at least t
+-- Returns 1 for an order of at least t, and 0 for any other.
 abbrev from_t : ℕ → ℕ → ℕ
 from_t t x = cond (nat_lt x t) 0 1
 
@@ -109,11 +109,11 @@ from_t-two t x = bit (nat_lt x t)
     bit true = omega arith
     bit false = omega arith
 
--- it keeps the order of numbers
+-- Proves that the map keeps the order of numbers.
 from_t-up : (t x y : ℕ) → x ≤ y → from_t t x ≤ from_t t y
 from_t-up t x y l = grind (arith, nat_tests)
 
--- counts through a map
+-- Proves that a count of a mapped list is at most a count of the list, if the first test implies the second.
 count_map : (p q : ℕ → Bool) (F : ℕ → ℕ) (xs : List ℕ) → ((x : ℕ) → p (F x) ≡ true → q x ≡ true) → count_by p (map F xs) ≤ count_by q xs
 count_map p q F [] h = omega arith
 count_map p q F (x ∷ xs) h =
@@ -136,7 +136,7 @@ count_map-up p q F (x ∷ xs) h =
     fewer true b h = rw (h refl) (omega arith)
     fewer false b h = omega arith
 
--- the conditions of the middle
+-- Proves that the test of the middle means its two conditions.
 middle_parts : (xs : List ℕ) (v : ℕ) → is_middle xs v ≡ true → (count_by (λ x. nat_lt x v) xs ≤ length xs / 2) × (length xs / 2 < count_by (λ x. nat_le x v) xs)
 unfolding is_middle
 middle_parts xs v e =
@@ -149,7 +149,7 @@ middle_from xs v few many =
     and_from (nat_le (count_by (λ x. nat_lt x v) xs) (length xs / 2)) (nat_lt (length xs / 2) (count_by (λ x. nat_le x v) xs))
     (le-leb (count_by (λ x. nat_lt x v) xs) (length xs / 2) few) (lt-ltb (length xs / 2) (count_by (λ x. nat_le x v) xs) many)
 
--- a middle order is the median
+-- Proves that an order in the middle is the median.
 middle_is : (xs : List ℕ) (v : ℕ) → is_middle xs v ≡ true → median xs ≡ v
 unfolding median
 middle_is xs v mid =
@@ -164,7 +164,7 @@ middle_is xs v mid =
         let one : cond {A = ℕ} (nat_le x v) 1 0 ≤ cond (nat_lt x v) 1 0 + cond (x == v) 1 0 = grind (arith, nat_tests) in
         rw (sum_by-cons (λ y. cond (nat_le y v) 1 0) x xs, sum_by-cons (λ y. cond (nat_lt y v) 1 0) x xs, sum_by-cons (λ y. cond (y == v) 1 0) x xs) (omega arith)
 
--- the image of the middle is the middle of the images
+-- Proves that the map takes the middle to the middle.
 middle_image : (t : ℕ) (xs : List ℕ) (v : ℕ) → is_middle xs v ≡ true → is_middle (map (from_t t) xs) (from_t t v) ≡ true
 middle_image t xs v mid =
     let parts = middle_parts xs v mid in
@@ -181,7 +181,7 @@ middle_image t xs v mid =
     below : (x : ℕ) → from_t t x < from_t t v → nat_lt x v ≡ true
     below x l = elim (cases_lt x v) [ inl it ↦ lt-ltb x v it | inr more ↦ absurd (let up = from_t-up t v x more in omega arith) ]
 
--- there is a middle, unless the list is empty
+-- Proves that all elements are at most their sum, so that there is a middle unless the list is empty.
 all_up_to : (xs : List ℕ) (b : ℕ) → sum_by (λ x. x) xs ≤ b → length xs ≤ count_by (λ x. nat_le x b) xs
 all_up_to [] b l = omega arith
 all_up_to (x ∷ xs) b l =
@@ -215,7 +215,7 @@ median_commutes t some (x ∷ xs) =
     let mid = least_middle (x ∷ xs) (sum_by (λ y. y) (x ∷ xs)) (omega arith) in
     middle_is (map (from_t t) (x ∷ xs)) (from_t t mid.0) (middle_image t (x ∷ xs) mid.0 mid.1) ∙ ap (from_t t) (sym (middle_is (x ∷ xs) mid.0 mid.1))
 
--- a map that keeps two orders apart, of which one is not 0
+-- Proves that there is a map that keeps two orders apart.
 majority_projects : (a b v : ℕ) → v ≢ 0 → ((v ≡ a) × (b ≢ a)) ⊎ ((v ≡ b) × (b ≢ a)) → Projection majority a b
 majority_projects a b v ne which = record {
   image = is_v v;
@@ -259,6 +259,6 @@ rule_projects Median a b ne = elim (cases_order a b) [
   ]
 ]
 
--- the law, as specs/TwoOrders states it
+-- Proves the law that specs/TwoOrders states.
 pub proved_rules_project : RulesProject
 proved_rules_project = record { projected = rule_projects; small = rule_small }

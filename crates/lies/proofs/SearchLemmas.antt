@@ -22,7 +22,7 @@ use Rattle.lies.proofs.Agreement.{NoneWithin, agree_below, none_tolerated, liste
 use Rattle.lies.proofs.BreakLemmas.{IsBreak, break_is}
 use Rattle.lies.proofs.Costs.{sum_same}
 
--- nothing succeeds against given traitors, or nothing by fewer orders
+-- Proves that no attempt succeeds by as few orders, if nothing cheaper was found.
 none_within : (f : List ℕ → ℕ) (n m c limit : ℕ) (traitors : List ℕ) (found : Option Success) → NoneCheaper f n m c traitors (attempts n c traitors) found → ((s : Success) → found ≡ Some s → limit < s.attacks) → NoneWithin f n m c traitors limit
 none_within f n m c limit traitors None none less attempt zs i e = absurd (clash (sym (none attempt i) ∙ e))
   where
@@ -30,11 +30,11 @@ none_within f n m c limit traitors None none less attempt zs i e = absurd (clash
     clash h = cc
 none_within f n m c limit traitors (Some s) none less attempt zs i e = (let l = less s refl in let h = none attempt zs i e in omega arith)
 
--- a count of traitors at which none break
+-- States that no attempt by this many traitors succeeds.
 abbrev pub NoneAt : (List ℕ → ℕ) → ℕ → ℕ → ℕ → ℕ → Type 0
 NoneAt f n m c count = (t : ℕ → Bool) → count_by t (generals n) ≡ count → NoneCheaperAmong f n m c None (filter t (generals n))
 
--- a break is one of a given cost or more
+-- Proves that each break costs at least as much as the cheapest that was found.
 rival_costs : (rule : Rule) (n m c order limit : ℕ) (t : ℕ → Bool) (N : Messages) (found : Option Success) → c < n → NoneCheaperAmong (combined_by rule) n m c found (filter t (generals n)) → Breaks (combined_by rule) n m c order t N
     → ((s : Success) → found ≡ Some s → limit ≤ s.attacks) → limit ≤ attacks_in n m c t N
 rival_costs rule n m c order limit t N found inside none breaks least = elim (cases_lt (attacks_in n m c t N) limit) [
@@ -45,7 +45,7 @@ rival_costs rule n m c order limit t N found inside none breaks least = elim (ca
       order N (record { few = omega arith; faithful = breaks.faithful })))
 ]
 
--- no traitors of this number break
+-- Proves that there is no break by these traitors, if no attempt succeeds.
 none_rival : (rule : Rule) (n m c order : ℕ) (t : ℕ → Bool) (N : Messages) → c < n → NoneCheaperAmong (combined_by rule) n m c None (filter t (generals n)) → Breaks (combined_by rule) n m c order t N → ⊥
 none_rival rule n m c order t N inside none breaks = breaks.broken
     (agree_below rule n m c (attacks_in n m c t N) t inside
@@ -55,7 +55,7 @@ none_rival rule n m c order t N inside none breaks = breaks.broken
     clash : (s : Success) → None ≡ Some s → ⊥
     clash s e = cc
 
--- the traitors of a break that was found
+-- Proves that the list of the traitors has as many generals as there are traitors.
 listed_count : (n : ℕ) (t : ℕ → Bool) → count_by (on (filter t (generals n))) (generals n) ≡ count_by t (generals n)
 listed_count n t =
     sum_same (λ j. cond (on (filter t (generals n)) j) 1 0) (λ j. cond (t j) 1 0) (generals n)
@@ -64,7 +64,7 @@ listed_count n t =
     below : (n j : ℕ) → on (generals n) j ≡ true → j < n
     below n j i = (let h = range-on_within 0 n j i in omega arith)
 
--- the break that was found is shortest
+-- Proves that the break that was found is shortest.
 pub found_shortest : (rule : Rule) (n m c count : ℕ) (found : Found) → c < n → ((k : ℕ) → k < count → NoneAt (combined_by rule) n m c k) → IsFoundAmong (combined_by rule) n m c count found
     → ((t : ℕ → Bool) → count_by t (generals n) ≡ count → NoneCheaperAmong (combined_by rule) n m c (Some found.success) (filter t (generals n)))
     → IsShortest (combined_by rule) n m c (on found.traitors.items) (messages_of (combined_by rule) n m c found)
@@ -87,6 +87,6 @@ found_shortest rule n m c count found inside none is least order rival N breaks 
     some_same : (s r : Success) → Some s ≡ Some r → s ≡ r
     some_same s r e = cc
 
--- no break of any number up to a limit
+-- Proves that the rule tolerates the traitors if no number of them up to the limit succeeds.
 pub all_tolerated : (rule : Rule) (n m c most : ℕ) → c < n → ((k : ℕ) → k ≤ most → NoneAt (combined_by rule) n m c k) → ToleratesUnder (combined_by rule) n m most c
 all_tolerated rule n m c most inside none = none_tolerated rule n m c most inside (λ t few. none (count_by t (generals n)) few t refl)

@@ -8,11 +8,11 @@ use Rattle.std.proofs.lemmas.List.Elements.{filter-append}
 use Rattle.lies.specs.Plans.{attacks, cheaper, cheapest, selections}
 use Rattle.lies.specs.declared.choice.Choice.{Choice}
 
--- the cheapest plan that passes a test, begins with B, and goes on with one of the choices cs that pass another, and with a rest
+-- Returns the cheapest plan that passes a test, begins with B, and goes on with one of the choices cs that is `own` and with one of the rests S.
 abbrev pub best_of : (List Choice → Bool) → List Choice → List (List Choice) → (Choice → Bool) → List Choice → Option (List Choice)
 best_of passes B S own cs = cheapest (filter passes (map (λ rest. B ++ rest) (flat_map (λ choice. map (λ rest. choice ∷ rest) S) (filter own cs))))
 
--- the first of the cheapest of three
+-- Proves that the first of the cheapest of three plans is found in either order.
 cheaper_none : (p : Option (List Choice)) → cheaper p None ≡ p
 cheaper_none None = refl
 cheaper_none (Some p) = refl
@@ -53,7 +53,7 @@ joined B c (s ∷ S) =
     let rest : map (λ r. B ++ r) (map (λ r. c ∷ r) S) ≡ map (λ r. (B ++ c ∷ []) ++ r) S = joined B c S in
     cc
 
--- one choice more
+-- Proves what one choice more adds.
 pub best_own : (passes : List Choice → Bool) (B : List Choice) (S : List (List Choice)) (own : Choice → Bool) (cs : List Choice) (c : Choice) → own c ≡ true
     → best_of passes B S own (cs ++ c ∷ []) ≡ cheaper (best_of passes B S own cs) (cheapest (filter passes (map (λ rest. (B ++ c ∷ []) ++ rest) S)))
 best_own passes B S own cs c it =
@@ -76,7 +76,7 @@ best_other passes B S own cs c it =
     in
     ap (λ ys. cheapest (filter passes (map (λ rest. B ++ rest) (flat_map (λ choice. map (λ rest. choice ∷ rest) S) ys)))) kept
 
--- all choices: the selections
+-- Proves that all choices together give the selections.
 pub best_all : (passes : List Choice → Bool) (B choices : List Choice) (j : ℕ) (js : List ℕ) → best_of passes B (selections choices js) (λ choice. choice.general == j) choices ≡ cheapest (filter passes (map (λ rest. B ++ rest) (selections choices (j ∷ js))))
 unfolding selections
 best_all passes B choices j js = refl

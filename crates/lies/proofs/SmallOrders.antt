@@ -15,7 +15,7 @@ use Rattle.lies.proofs.Members.{from_map, from_flat_map, FromMap, FromFlatMap}
 use Rattle.lies.proofs.PlanLemmas.{IsChoice, choice_is, IsPlan, plan_is, chosen_all, found_in}
 use Rattle.lies.proofs.Soundness.{last_whole, plan_zero}
 
--- a sender of 0 or 1
+-- States that a sender who is loyal sends 0 or 1.
 abbrev pub IsSmallSender : Sender → Type 0
 IsSmallSender (Loyal order) = order < 2
 IsSmallSender Traitor = Unit {0}
@@ -24,7 +24,7 @@ abbrev IsSmallAim : Option Aim → Type 0
 IsSmallAim None = Unit {0}
 IsSmallAim (Some aim) = aim.order < 2
 
--- aims at 0 or 1
+-- States that the aims ask for 0 or 1.
 pub record AreSmall (a : Aims) : Type 0 where
   pub first : IsSmallAim a.first
   pub second : IsSmallAim a.second
@@ -35,6 +35,7 @@ record IsSmallVote (vote : Vote) : Type 0 where
   second : vote.second < 2
 
 small_vote : (vote : Vote) → IsIn vote all_votes → IsSmallVote vote
+unfolding all_votes
 small_vote vote (inl e) = subst IsSmallVote (sym e) (record { taken = omega arith; first = omega arith; second = omega arith })
 small_vote vote (inr (inl e)) = subst IsSmallVote (sym e) (record { taken = omega arith; first = omega arith; second = omega arith })
 small_vote vote (inr (inr (inl e))) = subst IsSmallVote (sym e) (record { taken = omega arith; first = omega arith; second = omega arith })
@@ -57,7 +58,7 @@ small_last : (s : Sender) (a : Aims) (g : ℕ) → IsSmallSender s → AreSmall 
 small_last (Loyal order) a g h l = h
 small_last Traitor a g h l = small_aimed a.first g (aimed_or a.second g 0) l.first (small_aimed a.second g 0 l.second (omega arith))
 
--- the vote of a choice of a plan is one of 0 and 1
+-- Proves that the votes of a plan are of 0 and 1.
 voted : (f : List ℕ → ℕ) (t : ℕ → Bool) (k : ℕ) (gs : List ℕ) (s : Sender) (a : Aims) (zs : List Choice) (z : Choice) → plan f t (suc k) gs s a ≡ Some zs → IsIn z zs → IsIn z.vote all_votes
 voted f t k gs s a zs z e i =
     let is : IsPlan f t k gs s a zs = plan_is f t k gs s a zs e in
@@ -66,7 +67,7 @@ voted f t k gs s a zs z e i =
     let one : IsChoice (λ q b. plan f t k (without gs from.source) q b) s t a from.source z = choice_is (λ q b. plan f t k (without gs from.source) q b) s t a from.source z from.member in
     one.vote
 
--- a choice of a plan takes 0 or 1
+-- Proves that the generals of a plan take 0 or 1.
 small_choice : (f : List ℕ → ℕ) (t : ℕ → Bool) (k : ℕ) (gs : List ℕ) (s : Sender) (a : Aims) (zs : List Choice) (z : Choice) → IsSmallSender s → AreSmall a → plan f t k gs s a ≡ Some zs → IsIn z zs → z.vote.taken < 2
 small_choice f t zero gs s a zs z h l e i =
     let whole : zs ≡ map (last_choice s a) gs = last_whole gs s a zs (sym (plan_zero f t gs s a) ∙ e) in

@@ -20,7 +20,7 @@ use Rattle.lies.proofs.Members.{on_in, in_on, from_flat_map, FromFlatMap}
 use Rattle.lies.proofs.PlanLemmas.{AreChosen, ChoiceFor, choice_for, votes_are, IsChoice, choice_is, others_without, IsPlan, plan_is}
 use Rattle.lies.proofs.Aims.{Setting, IsReceiver, IsAimed, Decides, receiver_push, entry, om_step, om_last, aimed_push, entry_is}
 
--- the messages about w and longer labels are those of a plan
+-- States that the messages about the label w and the longer ones that begin with it are those of a plan.
 pub record Follows (x : Setting) (k : ℕ) (w : List ℕ) (s : Sender) (a : Aims) : Type 0 where
   pub same : (u : List ℕ) (g : ℕ) → x.M (w ++ u) g ≡ message x.f x.traitor k (others x.n w) s a u g
   pub choices : List Choice
@@ -35,13 +35,13 @@ message_cons : (f : List ℕ → ℕ) (traitor : ℕ → Bool) (k : ℕ) (gs : L
 unfolding message
 message_cons f traitor k gs s a j rest g z e = ap (λ (c : Option Choice). after c (λ (choice : Choice). message f traitor k (without gs j) (sender_of traitor j choice.vote.taken) (next_aims a j choice.vote) rest g)) e
 
--- what p receives about w itself
+-- Proves which message p receives about the label itself.
 own_message : (x : Setting) (k : ℕ) (w : List ℕ) (s : Sender) (a : Aims) (p : ℕ) (h : Follows x k w s a) → x.M w p ≡ received x.traitor s (Some h.choices) p
 own_message x k w s a p h =
     ap (λ (v : List ℕ). x.M v p) (sym (append-nil w))
     ∙ (h.same [] p ∙ (message_nil x.f x.traitor k (others x.n w) s a p ∙ ap (λ (c : Option (List Choice)). received x.traitor s c p) h.possible))
 
--- of a loyal general the message has the order that the plan has him take
+-- Proves that a loyal general takes the order that the plan has him take.
 taken_by : (traitor : ℕ → Bool) (s : Sender) (zs : List Choice) (p : ℕ) (z : Choice) → traitor p ≡ false → choice_in (Some zs) p ≡ Some z → may_take s (traitor p) z.vote.taken ≡ true → order_of (received traitor s (Some zs) p) ≡ z.vote.taken
 taken_by traitor (Loyal order) zs p z loyal found may = sym (eqb-true z.vote.taken order may)
 taken_by traitor Traitor zs p z loyal found may =
@@ -51,7 +51,7 @@ taken_by traitor Traitor zs p z loyal found may =
     shown t true e = sym (eqb-true t 0 e)
     shown t false e = refl
 
--- the plan for the label that general j extends
+-- The choice of a plan for general j, and what follows the plan for the label that he extends.
 pub record Child (x : Setting) (k : ℕ) (w : List ℕ) (s : Sender) (a : Aims) (zs : List Choice) (j : ℕ) : Type 0 where
   pub choice : Choice
   pub found : choice_in (Some zs) j ≡ Some choice
@@ -94,7 +94,7 @@ child x k w s a h j i =
       cost = here.cost;
     }
 
--- the parts of a vote that may be cast
+-- States the parts of the test that a vote may be cast.
 record IsCast (s : Sender) (traitor : ℕ → Bool) (a : Aims) (j : ℕ) (vote : Vote) : Type 0 where
   takes : may_take s (traitor j) vote.taken ≡ true
   first : may_vote a.first j vote.taken vote.first ≡ true
@@ -106,12 +106,12 @@ cast_parts s traitor a j vote e =
     let inner = and_parts (may_take s (traitor j) vote.taken) (may_vote a.first j vote.taken vote.first) outer.0 in
     record { takes = inner.0; first = inner.1; second = outer.1 }
 
--- a loyal general takes the order of his choice
+-- Proves that a loyal general takes the order of his choice.
 pub takes_choice : (x : Setting) (k : ℕ) (w : List ℕ) (s : Sender) (a : Aims) (h : Follows x (suc k) w s a) (p : ℕ) → x.traitor p ≡ false → (c : Child x k w s a h.choices p) → taken x.M w p ≡ c.choice.vote.taken
 takes_choice x k w s a h p loyal c =
     ap order_of (own_message x (suc k) w s a p h) ∙ taken_by x.traitor s h.choices p c.choice loyal c.found (cast_parts s x.traitor a p c.choice.vote c.cast).takes
 
--- the plan for a label with no relays left
+-- Proves what the plan for a label with no relays left is.
 pub last_whole : (gs : List ℕ) (s : Sender) (a : Aims) (zs : List Choice) → last_plan gs s a ≡ Some zs → zs ≡ map (last_choice s a) gs
 unfolding last_plan
 last_whole gs s a zs e = planned (is_taken s a a.first && is_taken s a a.second) e
@@ -120,7 +120,7 @@ last_whole gs s a zs e = planned (is_taken s a a.first && is_taken s a a.second)
     planned true e = cc
     planned false e = cc
 
--- with no relays left
+-- Proves what a loyal general takes with no relays left.
 taken_decides : (x : Setting) (w : List ℕ) (s : Sender) (a : Aims) (zs : List Choice) (p : ℕ) → on (others x.n w) p ≡ true → x.traitor p ≡ false → last_plan (others x.n w) s a ≡ Some zs → order_of (received x.traitor s (Some zs) p) ≡ last_taken s a p
 taken_decides x w (Loyal order) a zs p i loyal e = refl
 taken_decides x w Traitor a zs p i loyal e =
@@ -157,7 +157,7 @@ last_parts gs s a zs e = and_parts (is_taken s a a.first) (is_taken s a a.second
     tested true e = refl
     tested false e = cc
 
--- what the plan for a label with no relays left is, and what loyal generals then take
+-- Proves what the plan for a label with no relays left is, and what loyal generals then take.
 pub last_taken_by : (x : Setting) (w : List ℕ) (s : Sender) (a : Aims) (h : Follows x zero w s a) → (h.choices ≡ map (last_choice s a) (others x.n w)) × ((j : ℕ) → on (others x.n w) j ≡ true → x.traitor j ≡ false → taken x.M w j ≡ last_taken s a j)
 last_taken_by x w s a h = (
   last_whole (others x.n w) s a h.choices (sym (plan_zero x.f x.traitor (others x.n w) s a) ∙ h.possible),
@@ -172,7 +172,7 @@ last_decides x w s a h (Some aim) r e =
     ∙ (taken_decides x w s a h.choices aim.general (among x.n w aim.general r.within r.off) r.loyal (sym (plan_zero x.f x.traitor (others x.n w) s a) ∙ h.possible)
     ∙ eqb-true (last_taken s a aim.general) aim.order e))
 
--- with a relay left: the votes of the plan are the entries of the list that the rule combines
+-- Proves that a lieutenant decides as aimed, since the votes of the plan are the entries of the list that he combines.
 step_decides : (x : Setting) (k : ℕ) (w : List ℕ) (s : Sender) (a : Aims) (h : Follows x (suc k) w s a) (v : Vote → ℕ) (o : Option Aim) → IsAimed x w o → is_met x.f o (map (λ (z : Choice). v z.vote) h.choices) ≡ true
     → ((j : ℕ) (i : on (others x.n w) j ≡ true) → (may_vote o j (child x k w s a h j i).choice.vote.taken (v (child x k w s a h j i).choice.vote) ≡ true)
     × Decides x k (w ++ j ∷ []) (next_aim o j (v (child x k w s a h j i).choice.vote)))
@@ -201,7 +201,7 @@ step_decides x k w s a h v (Some aim) r met each =
         in
         ap (λ (y : Choice). v y.vote) (sym same) ∙ is
 
--- both aims
+-- States that both aims are decided.
 pub record BothDecide (x : Setting) (k : ℕ) (w : List ℕ) (a : Aims) : Type 0 where
   pub first : Decides x k w a.first
   pub second : Decides x k w a.second
@@ -210,7 +210,7 @@ meets_parts : (f : List ℕ → ℕ) (a : Aims) (zs : List Choice) → meets f a
 unfolding meets
 meets_parts f a zs e = and_parts (is_met f a.first (map (λ (z : Choice). z.vote.first) zs)) (is_met f a.second (map (λ (z : Choice). z.vote.second) zs)) e
 
--- the messages of a plan lead to its aims
+-- Proves that the messages of a plan lead to its aims.
 pub sound : (x : Setting) (k : ℕ) (w : List ℕ) (s : Sender) (a : Aims) → Follows x k w s a → IsAimed x w a.first → IsAimed x w a.second → BothDecide x k w a
 sound x zero w s a h r t =
     let parts = last_parts (others x.n w) s a h.choices (sym (plan_zero x.f x.traitor (others x.n w) s a) ∙ h.possible) in
@@ -231,7 +231,7 @@ sound x (suc k) w s a h r t =
           (λ j i. ((cast_parts s x.traitor a j (child x k w s a h j i).choice.vote (child x k w s a h j i).cast).second, (below j i).second));
     }
 
--- the generals of u extend w one by one
+-- States that the generals of u extend the label w one by one.
 abbrev pub Extends : ℕ → List ℕ → List ℕ → Type 0
 Extends n w [] = Unit {0}
 Extends n w (j ∷ u) = (j < n) × (on w j ≡ false) × Extends n (w ++ j ∷ []) u
@@ -253,7 +253,7 @@ extends n w (j ∷ u) b d off =
 loyal_sender : (traitor : ℕ → Bool) (j t : ℕ) (c : Option (List Choice)) (p : ℕ) → traitor j ≡ false → received traitor (sender_of traitor j t) c p ≡ Some t
 loyal_sender traitor j t c p loyal = ap (λ (s : Sender). received traitor s c p) (cond-false (traitor j) Traitor (Loyal t) loyal)
 
--- a loyal general sends everyone what he took
+-- Proves that a loyal general sends everyone what he took.
 pub relays : (x : Setting) (k : ℕ) (w : List ℕ) (s : Sender) (a : Aims) → Follows x k w s a → (u : List ℕ) (g p : ℕ) → x.traitor g ≡ false → length u < k → Extends x.n w (u ++ g ∷ []) → x.M (w ++ (u ++ g ∷ [])) p ≡ Some (taken x.M (w ++ u) g)
 relays x zero w s a h u g p loyal long off = absurd (omega arith)
 relays x (suc k) w s a h [] g p loyal long off =

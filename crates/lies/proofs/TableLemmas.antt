@@ -26,7 +26,7 @@ use Rattle.book.proofs.TreeLemmas.{place_of_tree}
 use Rattle.lies.specs.Break.{Breaks, IsBreakTable, IsShortest, HasNumbers, attacks_in}
 use Rattle.lies.proofs.Costs.{SameAt, same_from}
 
--- the tree of a lieutenant among those of all
+-- Proves that the search finds the tree of a lieutenant.
 find_tree : (n m c p : ℕ) (M : Messages) (ps : List ℕ) → on ps p ≡ true → find (λ (t : LieutenantTree). t.general == p) (map (tree_of n m c M) ps) ≡ Some (tree_of n m c M p)
 find_tree n m c p M [] i = absurd (true≢false (sym i))
 find_tree n m c p M (q ∷ ps) i = elim (cases_Bool (q == p)) [
@@ -38,7 +38,7 @@ find_tree n m c p M (q ∷ ps) i = elim (cases_Bool (q == p)) [
       ∙ find_tree n m c p M ps (elim (or_cases (q == p) (on ps p) i) [ inl it ↦ absurd (true≢false (sym it ∙ apart)) | inr there ↦ there ])
 ]
 
--- what the trees have at a place is what they were filled with
+-- Proves that the trees have the messages with which they were filled.
 heard_at_place : (n m c : ℕ) (M : Messages) → AreNumbersWithin n m c → (w : List ℕ) (p : ℕ) → is_place_of n m c w p ≡ true → heard (map (tree_of n m c M) (lieutenants n c)) w p ≡ M w p
 unfolding heard
 heard_at_place n m c M inside w p place =
@@ -49,7 +49,7 @@ heard_at_place n m c M inside w p place =
     ap (λ (o : Option LieutenantTree). value_of o w) (find_tree n m c p M (lieutenants n c) (among n (c ∷ []) p own.1 (apart_first c p own.2)))
     ∙ value_told (tree_of n m c M p) M w campaign refl own.0
 
--- a label without its last general
+-- Proves what holds of a label without its last general.
 below_front : (n g : ℕ) (u : List ℕ) → AllBelow n (u ++ g ∷ []) → AllBelow n u × (g < n)
 below_front n g [] b = (tt, b.0)
 below_front n g (x ∷ xs) b = let rest = below_front n g xs b.1 in ((b.0, rest.0), rest.1)
@@ -63,7 +63,7 @@ distinct_front g (x ∷ xs) d =
     let other : (x == g) ≡ false = ne_eqb x g (λ e. true≢false (sym (eq-eqb g x (sym e)) ∙ apart.1)) in
     (and_from (not (on xs x)) (is_distinct xs) (rw apart.0 refl) rest.0, or_from (x == g) (on xs g) other rest.1)
 
--- loyal generals are faithful in messages that are the same at all places
+-- Proves that a general stays faithful in messages that agree at all places.
 faithful_same : (n m c order g : ℕ) (M N : Messages) → ((w : List ℕ) (p : ℕ) → is_place_of n m c w p ≡ true → N w p ≡ M w p) → IsFaithful n c m order M g → IsFaithful n c m order N g
 faithful_same n m c order g M N same is [] p label short within off =
     same (g ∷ []) p (place_from n m c (g ∷ []) p label within off (omega arith)) ∙ is [] p label short within off
@@ -75,7 +75,7 @@ faithful_same n m c order g M N same is (x ∷ xs) p label short within off =
     ∙ (is (x ∷ xs) p label short within off
     ∙ ap (λ o. Some (order_of o)) (sym (same (x ∷ xs) g (place_from n m c (x ∷ xs) g front ends.1 once.1 (omega arith)))))
 
--- the table that is written from the trees of a break
+-- Proves that the table that is written from the trees of a shortest break is its message table.
 pub table_is : (rule : Rule) (n m c most order : ℕ) (traitors : List ℕ) (M : Messages) (trees : List LieutenantTree) (text : List ℕ) → is_within n m c ≡ true → AreOrders M → Breaks (combined_by rule) n m c order (on traitors) M
     → count_by (on traitors) (generals n) ≤ most → IsShortest (combined_by rule) n m c (on traitors) M → trees ≡ map (tree_of n m c M) (lieutenants n c) → text ≡ table_text (heard trees) n m c rule → IsBreakTable rule n m c most traitors text
 table_is rule n m c most order traitors M trees text within orders breaks few shortest are written =

@@ -12,7 +12,7 @@ use Rattle.lies.specs.Break.{attacks_at, attacks_from, attacks_in}
 use Rattle.lies.specs.TwoOrders.{Projection, TwoOrdersSuffice, Within}
 use Rattle.lies.proofs.Projections.{proved_rules_project}
 
--- the messages, mapped
+-- Returns the messages in which each order is mapped.
 abbrev mapped : (ℕ → ℕ) → Messages → Messages
 mapped F M w p = Some (F (taken M w p))
 
@@ -20,7 +20,7 @@ map_twice : (F G : ℕ → ℕ) (xs : List ℕ) → map F (map G xs) ≡ map (λ
 map_twice F G [] = refl
 map_twice F G (x ∷ xs) = ap (λ ys. F (G x) ∷ ys) (map_twice F G xs)
 
--- decisions are mapped likewise
+-- Proves that decisions are mapped likewise.
 om_mapped : (F : ℕ → ℕ) → (rule : List ℕ → ℕ) → ((xs : List ℕ) → rule (map F xs) ≡ F (rule xs)) → (n : ℕ) (M : Messages) (k : ℕ) (w : List ℕ) (p : ℕ) → om rule n (mapped F M) k w p ≡ F (om rule n M k w p)
 unfolding om
 om_mapped F rule commutes n M zero w p = refl
@@ -34,12 +34,12 @@ om_mapped F rule commutes n M (suc k) w p =
     each true t y z e = refl
     each false t y z e = e
 
--- loyal generals stay faithful
+-- Proves that a general stays faithful.
 faithful_mapped : (F : ℕ → ℕ) (n c m order : ℕ) (M : Messages) (g : ℕ) → IsFaithful n c m order M g → IsFaithful n c m (F order) (mapped F M) g
 faithful_mapped F n c m order M g is [] p label short within off = ap (λ (o : Option ℕ). Some (F (order_of o))) (is [] p label short within off)
 faithful_mapped F n c m order M g is (x ∷ xs) p label short within off = ap (λ (o : Option ℕ). Some (F (order_of o))) (is (x ∷ xs) p label short within off)
 
--- no more orders other than RETREAT
+-- Proves that the mapped messages have no more orders other than RETREAT.
 sum_more : (F G : ℕ → ℕ) (js : List ℕ) → ((j : ℕ) → F j ≤ G j) → sum_by F js ≤ sum_by G js
 sum_more F G [] each = omega arith
 sum_more F G (j ∷ js) each =
@@ -71,7 +71,7 @@ fewer_from F keeps n t M (suc k) w g =
     let rest = sum_more (λ j. attacks_from n t (mapped F M) k (w ++ j ∷ []) j) (λ j. attacks_from n t M k (w ++ j ∷ []) j) (others n w) (λ j. fewer_from F keeps n t M k (w ++ j ∷ []) j) in
     omega arith
 
--- what holds of the mapped messages
+-- Proves that the loyal lieutenants agree after the mapped messages.
 agreed : (rule : Rule) (n m c most : ℕ) (t : ℕ → Bool) → ((order : ℕ) (M : Messages) → order < 2 → ((w : List ℕ) (p : ℕ) → taken M w p < 2) → Within n m c most order t M → Agree n c order t (om (combined_by rule) n M m (c ∷ [])))
     → (order : ℕ) (M : Messages) → Within n m c most order t M → (a b : ℕ) (x : Projection (combined_by rule) a b) → Agree n c (x.image order) t (om (combined_by rule) n (mapped x.image M) m (c ∷ []))
 agreed rule n m c most t agree order M w a b x =

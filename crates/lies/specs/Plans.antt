@@ -56,13 +56,14 @@ attacks_by Traitor taken = if taken == 0 then 0 else 1
 unfoldable pub attacks : List Choice → ℕ
 attacks plan = sum_by (λ choice. choice.attacks) plan
 
+-- Returns the vote of a general who takes the order t, and for whom the lieutenants count the orders a and b.
+abbrev pub vote_of : ℕ → ℕ → ℕ → Vote
+vote_of t a b = record { taken = t; first = a; second = b }
+
 -- All votes of orders 0 and 1.
-abbrev pub all_votes : List Vote
-all_votes =
-    record { taken = 0; first = 0; second = 0 } ∷ record { taken = 0; first = 0; second = 1 }
-    ∷ record { taken = 0; first = 1; second = 0 } ∷ record { taken = 0; first = 1; second = 1 }
-    ∷ record { taken = 1; first = 0; second = 0 } ∷ record { taken = 1; first = 0; second = 1 }
-    ∷ record { taken = 1; first = 1; second = 0 } ∷ record { taken = 1; first = 1; second = 1 } ∷ []
+unfoldable pub all_votes : List Vote
+all_votes = vote_of 0 0 0 ∷ vote_of 0 0 1 ∷ vote_of 0 1 0 ∷ vote_of 0 1 1 ∷ vote_of 1 0 0 ∷ vote_of 1 0 1 ∷ vote_of 1 1 0
+    ∷ vote_of 1 1 1 ∷ []
 
 -- Returns the choice of a vote for general j, if there is a plan for the label that he extends.
 abbrev pub chosen : Sender → ℕ → Vote → Option (List Choice) → List Choice

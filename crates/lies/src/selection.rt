@@ -41,7 +41,7 @@ pub(crate) fn cheapest<C: Combine>(
         if choice.general == *general {
             begun.push(*choice);
             let plan = cheapest(rule, aims, rest, choices, relays, begun);
-            begun.pop();
+            let _ = begun.pop();
             best = cheaper(best, plan, relays);
         }
     }
