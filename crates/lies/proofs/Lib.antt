@@ -12,4 +12,5 @@ pub mod Agreement
 pub mod BreakLemmas
 pub mod BreakTreeLemmas
 pub mod TableLemmas
+pub mod SetLemmas
 pub mod SearchLemmas
