@@ -123,9 +123,6 @@ at_push x c m order k y u g s j a l o = record {
   sends = sent (x.traitor j) refl;
 }
   where
-    w : List ℕ
-    w = u ++ g ∷ []
-
     passed : (p : ℕ) → x.traitor j ≡ false → IsReceiver x ((u ++ g ∷ []) ++ j ∷ []) p → taken x.M ((u ++ g ∷ []) ++ j ∷ []) p ≡ took x (u ++ g ∷ []) s j
     passed p loyal r =
         ap order_of (y.faithful j l loyal (u ++ g ∷ []) p (IsLabel-push a.label j l o) (let t = a.time in omega (arith, length-append u (g ∷ []))) r.within r.off)
