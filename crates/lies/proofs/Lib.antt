@@ -12,5 +12,6 @@ pub mod Agreement
 pub mod BreakLemmas
 pub mod BreakTreeLemmas
 pub mod TableLemmas
+pub mod LimitLemmas
 pub mod SetLemmas
 pub mod SearchLemmas
