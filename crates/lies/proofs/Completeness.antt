@@ -47,7 +47,7 @@ small_map : (F : ℕ → ℕ) → ((j : ℕ) → F j < 2) → (js : List ℕ) �
 small_map F l [] = tt
 small_map F l (j ∷ js) = (l j, small_map F l js)
 
-om_small : (x : Setting) (c m order : ℕ) → Played x c m order → (k : ℕ) (w : List ℕ) (p : ℕ) → om x.f x.n x.M k w p < 2
+pub om_small : (x : Setting) (c m order : ℕ) → Played x c m order → (k : ℕ) (w : List ℕ) (p : ℕ) → om x.f x.n x.M k w p < 2
 om_small x c m order y zero w p = rw (om_last x w p) (y.two w p)
 om_small x c m order y (suc k) w p =
     rw (om_step x k w p)
@@ -58,7 +58,7 @@ entry_small : (x : Setting) (c m order : ℕ) → Played x c m order → (k : �
 entry_small x c m order y k w p j = small_cond (j == p) (taken x.M w p) (om x.f x.n x.M k (w ++ j ∷ []) p) (y.two w p) (om_small x c m order y k (w ++ j ∷ []) p)
 
 -- Proves that each vote of 0 and 1 is listed.
-below_two : (t : ℕ) → t < 2 → (t ≡ 0) ⊎ (t ≡ 1)
+pub below_two : (t : ℕ) → t < 2 → (t ≡ 0) ⊎ (t ≡ 1)
 below_two zero l = inl refl
 below_two (suc zero) l = inr refl
 below_two (suc (suc t)) l = absurd (omega arith)

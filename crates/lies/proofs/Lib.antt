@@ -13,5 +13,6 @@ pub mod BreakLemmas
 pub mod BreakTreeLemmas
 pub mod TableLemmas
 pub mod LimitLemmas
+pub mod CodeLemmas
 pub mod SetLemmas
 pub mod SearchLemmas

@@ -24,12 +24,12 @@ three_of p q r true e true d =
     let b : nat_lt (attacks r) (attacks p) ≡ true = lt-ltb (attacks r) (attacks p) (omega arith) in
     rw (e, d) (rw (b, e) refl)
 three_of p q r true e false d = rw (e, d) refl
-three_of p q r false e true d = rw (e, d) (rw (d, e) refl)
+three_of p q r false e true d = rw (e, d) (rw e refl)
 three_of p q r false e false d =
     let l = ltb-false (attacks r) (attacks q) e in
     let k = ltb-false (attacks q) (attacks p) d in
     let b : nat_lt (attacks r) (attacks p) ≡ false = le-ltb (attacks r) (attacks p) (omega arith) in
-    rw (e, d) (rw (d, b) refl)
+    rw (e, d) (rw b refl)
 
 cheaper_three : (p q r : Option (List Choice)) → cheaper p (cheaper q r) ≡ cheaper (cheaper p q) r
 cheaper_three None q r = refl

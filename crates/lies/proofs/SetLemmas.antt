@@ -32,22 +32,22 @@ none_tried f n m c traitors attempt i = absurd i
 
 -- Proves the claim after an attempt that fails.
 pub one_failed : (f : List ℕ → ℕ) (n m c : ℕ) (traitors : List ℕ) (tried : List Attempt) (a : Attempt) (best : Option Success) → NoneCheaper f n m c traitors tried best → plan_for f n m c traitors a ≡ None → NoneCheaper f n m c traitors (tried ++ a ∷ []) best
-one_failed f n m c traitors tried a None none e attempt i = elim (in_either attempt tried (a ∷ []) i) [
+one_failed f n m c traitors tried a None none e = λ attempt i. elim (in_either attempt tried (a ∷ []) i) [
   | inl before ↦ none attempt before
-  | inr last ↦ failed last
+  | inr last ↦ failed attempt last
 ]
   where
-    failed : IsIn attempt (a ∷ []) → plan_for f n m c traitors attempt ≡ None
-    failed (inl is) = ap (plan_for f n m c traitors) is ∙ e
-    failed (inr i) = absurd i
-one_failed f n m c traitors tried a (Some s) none e attempt zs i h = elim (in_either attempt tried (a ∷ []) i) [
+    failed : (attempt : Attempt) → IsIn attempt (a ∷ []) → plan_for f n m c traitors attempt ≡ None
+    failed attempt (inl is) = ap (plan_for f n m c traitors) is ∙ e
+    failed attempt (inr i) = absurd i
+one_failed f n m c traitors tried a (Some s) none e = λ attempt zs i h. elim (in_either attempt tried (a ∷ []) i) [
   | inl before ↦ none attempt zs before h
-  | inr last ↦ absurd (failed last)
+  | inr last ↦ absurd (other attempt zs h last)
 ]
   where
-    failed : IsIn attempt (a ∷ []) → ⊥
-    failed (inl is) = clash zs (sym (ap (plan_for f n m c traitors) is ∙ e) ∙ h)
-    failed (inr i) = absurd i
+    other : (attempt : Attempt) (zs : List Choice) → plan_for f n m c traitors attempt ≡ Some zs → IsIn attempt (a ∷ []) → ⊥
+    other attempt zs h (inl is) = clash zs (sym (ap (plan_for f n m c traitors) is ∙ e) ∙ h)
+    other attempt zs h (inr i) = absurd i
 
 -- Proves the claim after an attempt that succeeds, but not by fewer orders.
 pub one_dearer : (f : List ℕ → ℕ) (n m c : ℕ) (traitors : List ℕ) (tried : List Attempt) (a : Attempt) (s : Success) (zs : List Choice) → NoneCheaper f n m c traitors tried (Some s) → plan_for f n m c traitors a ≡ Some zs → s.attacks ≤ attacks zs

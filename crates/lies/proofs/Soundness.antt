@@ -36,7 +36,7 @@ unfolding message
 message_cons f traitor k gs s a j rest g z e = ap (λ (c : Option Choice). after c (λ (choice : Choice). message f traitor k (without gs j) (sender_of traitor j choice.vote.taken) (next_aims a j choice.vote) rest g)) e
 
 -- Proves which message p receives about the label itself.
-own_message : (x : Setting) (k : ℕ) (w : List ℕ) (s : Sender) (a : Aims) (p : ℕ) (h : Follows x k w s a) → x.M w p ≡ received x.traitor s (Some h.choices) p
+pub own_message : (x : Setting) (k : ℕ) (w : List ℕ) (s : Sender) (a : Aims) (p : ℕ) (h : Follows x k w s a) → x.M w p ≡ received x.traitor s (Some h.choices) p
 own_message x k w s a p h =
     ap (λ (v : List ℕ). x.M v p) (sym (append-nil w))
     ∙ (h.same [] p ∙ (message_nil x.f x.traitor k (others x.n w) s a p ∙ ap (λ (c : Option (List Choice)). received x.traitor s c p) h.possible))

@@ -1,5 +1,5 @@
 //! The messages of a plan.
-ghost use Rattle.std.specs.Prelude.{◌≡◌, ◌≤◌, IfSome, length};
+ghost use Rattle.std.specs.Prelude.{◌≡◌, ◌≤◌, ◌==◌, find, length};
 ghost use Rattle.label.specs.Labels.{on};
 ghost use Rattle.lies.specs.PlannedMessages.{choice_in, message, message_of, received};
 ghost use Rattle.lies.specs.Plans.{items_of};
@@ -67,18 +67,23 @@ fn received(
     }
 }
 
-/// Returns the choice of a plan for this general.
+/// Returns the choice of a plan for this general, if there is a plan.
 fn choice_in(plan: &Option<ArrayVec<Choice, 13>>, general: u8) -> Option<Choice>
     ensures { result ≡ choice_in (items_of plan.now) general }
 {
     match plan {
         None => None,
-        Some(plan) => plan
-            .as_slice()
-            .iter()
-            .copied()
-            .find(|choice| choice.general == general),
+        Some(plan) => choice_for(plan.as_slice(), general),
     }
+}
+
+/// Returns the first choice for this general.
+fn choice_for(plan: &[Choice], general: u8) -> Option<Choice>
+    ensures { result ≡ find (λ choice. choice.general == general) plan.now }
+{
+    plan.iter()
+        .copied()
+        .find(|choice| choice.general == general)
 }
 
 /// Returns the message by which a general takes the order of a choice, or `None` for RETREAT.
