@@ -80,9 +80,13 @@ abbrev setting : (List ℕ → ℕ) → ℕ → ℕ → ℕ → List ℕ → Att
 setting f n m c traitors attempt = record { f = f; traitor = on traitors; n = n; M = planned f (on traitors) n m c attempt.sender attempt.aims }
 
 -- Proves that the planned messages follow the plan for the commander's label.
-root : (f : List ℕ → ℕ) (n m c : ℕ) (traitors : List ℕ) (attempt : Attempt) (zs : List Choice) → plan_for f n m c traitors attempt ≡ Some zs → Follows (setting f n m c traitors attempt) m (c ∷ []) attempt.sender attempt.aims
+root_same : (f : List ℕ → ℕ) (n m c : ℕ) (traitors : List ℕ) (attempt : Attempt) (u : List ℕ) (g : ℕ)
+    → planned f (on traitors) n m c attempt.sender attempt.aims ((c ∷ []) ++ u) g ≡ message f (on traitors) m (others n (c ∷ [])) attempt.sender attempt.aims u g
 unfolding planned
-root f n m c traitors attempt zs e = record { same = λ u g. refl; choices = zs; possible = e }
+root_same f n m c traitors attempt u g = refl
+
+abbrev root : (f : List ℕ → ℕ) (n m c : ℕ) (traitors : List ℕ) (attempt : Attempt) (zs : List Choice) → plan_for f n m c traitors attempt ≡ Some zs → Follows (setting f n m c traitors attempt) m (c ∷ []) attempt.sender attempt.aims
+root f n m c traitors attempt zs e = record { same = root_same f n m c traitors attempt; choices = zs; possible = e }
 
 receiver : (f : List ℕ → ℕ) (n m c : ℕ) (traitors : List ℕ) (attempt : Attempt) (p : ℕ) → IsLoyalLieutenant n c (on traitors) p → IsReceiver (setting f n m c traitors attempt) (c ∷ []) p
 receiver f n m c traitors attempt p l = record { within = l.general; loyal = l.loyal; off = or_from (c == p) false (ne_eqb c p (λ e. l.lieutenant (sym e))) refl }
