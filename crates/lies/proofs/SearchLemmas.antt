@@ -64,6 +64,10 @@ listed_count n t =
     below : (n j : ℕ) → on (generals n) j ≡ true → j < n
     below n j i = (let h = range-on_within 0 n j i in omega arith)
 
+-- Proves how many traitors the break that was found has.
+pub listed_many : (f : List ℕ → ℕ) (n m c count : ℕ) (found : Found) → IsFoundAmong f n m c count found → count_by (on found.traitors.items) (generals n) ≡ count
+listed_many f n m c count found is = ap (λ (ts : List ℕ). count_by (on ts) (generals n)) is.listed ∙ (listed_count n is.traitor ∙ is.many)
+
 -- Proves that the break that was found is shortest.
 pub found_shortest : (rule : Rule) (n m c count : ℕ) (found : Found) → c < n → ((k : ℕ) → k < count → NoneAt (combined_by rule) n m c k) → IsFoundAmong (combined_by rule) n m c count found
     → ((t : ℕ → Bool) → count_by t (generals n) ≡ count → NoneCheaperAmong (combined_by rule) n m c (Some found.success) (filter t (generals n)))

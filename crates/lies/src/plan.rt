@@ -11,7 +11,7 @@ use crate::generals::{is_among, without};
 use crate::last_plan::last_plan;
 use crate::selection::cheapest;
 use crate::sender::Sender;
-use crate::votes::{VOTES, may_cast, next_aims};
+use crate::votes::{all_votes, may_cast, next_aims};
 use arrayvec::ArrayVec;
 use combine::Combine;
 
@@ -77,7 +77,8 @@ fn push_choices<C: Combine>(
     ensures cheap { AreCheap (relays + 1) choices.old.items → AreCheap (relays + 1) choices.new.items }
 {
     let rest = without(off, general);
-    for vote in &VOTES {
+    let votes = all_votes();
+    for vote in &votes {
         if may_cast(sender, traitors, aims, general, vote) {
             let next = Sender::of(is_among(traitors, general), vote.taken);
             let aims = next_aims(aims, general, vote);

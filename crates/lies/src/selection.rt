@@ -1,5 +1,5 @@
 //! Selects one of the choices for each general off a label, so that the lieutenants decide as they are to.
-ghost use Rattle.std.specs.Prelude.{◌≡◌, ◌≤◌, ◌+◌, ◌++◌, IfSome, filter, length, map};
+ghost use Rattle.std.specs.Prelude.{◌≡◌, ◌≤◌, ◌+◌, ◌∷◌, ◌++◌, IfSome, filter, length, map};
 ghost use Rattle.lies.specs.Limits.{AreCheap};
 ghost use Rattle.lies.specs.Plans.{cheaper, cheapest, is_met, items_of, meets, selections};
 
@@ -12,6 +12,7 @@ use combine::Combine;
 /// Returns the cheapest plan that meets the aims, begins with the choices `begun`, and goes on with one of the choices
 /// for each of the generals `off`, in their order. Of several it returns the first, and `None` if there is none. The
 /// choices are those with `relays` relays left for the label, at most 4.
+#[cycle(selection)]
 pub(crate) fn cheapest<C: Combine>(
     rule: &C,
     aims: &Aims,
@@ -29,18 +30,43 @@ pub(crate) fn cheapest<C: Combine>(
         (map (λ rest. begun.old.items ++ rest) (selections choices.now off.now))) }
     ensures cheap { IfSome result (λ p. AreCheap relays p.items) }
 {
-    let [general, rest @ ..] = off else {
+    let Some((general, rest)) = off.split_first() else {
         return if meets(rule, aims, begun.as_slice()) {
             Some(copied(begun.as_slice()))
         } else {
             None
         };
     };
+    cheapest_by(rule, aims, *general, rest, choices, relays, begun)
+}
+
+/// Returns the cheapest plan that meets the aims, begins with the choices `begun`, and goes on with one of the choices
+/// for `general` and then with one for each of the generals `later`. Of several it returns the first, and `None` if there
+/// is none.
+#[cycle(selection)]
+fn cheapest_by<C: Combine>(
+    rule: &C,
+    aims: &Aims,
+    general: u8,
+    later: &[u8],
+    choices: &[Choice],
+    relays: u8,
+    begun: &mut ArrayVec<Choice, 13>,
+) -> Option<ArrayVec<Choice, 13>>
+    requires short { relays ≤ 4 }
+    requires room { length begun.old.items + length later.now ≤ 12 }
+    requires cheap { AreCheap relays choices.now }
+    requires cheap_so_far { AreCheap relays begun.old.items }
+    ensures kept { begun.new.items ≡ begun.old.items }
+    ensures plan { items_of result ≡ cheapest (filter (meets (C.combined rule.now) aims.now)
+        (map (λ rest. begun.old.items ++ rest) (selections choices.now (general ∷ later.now)))) }
+    ensures cheap { IfSome result (λ p. AreCheap relays p.items) }
+{
     let mut best = None;
     for choice in choices {
-        if choice.general == *general {
+        if choice.general == general {
             begun.push(*choice);
-            let plan = cheapest(rule, aims, rest, choices, relays, begun);
+            let plan = cheapest(rule, aims, later, choices, relays, begun);
             let _ = begun.pop();
             best = cheaper(best, plan, relays);
         }

@@ -1,24 +1,40 @@
 //! Which votes a general may cast, and what they mean for the label that he extends.
 ghost use Rattle.std.specs.Prelude.{◌≡◌};
 ghost use Rattle.label.specs.Labels.{on};
-ghost use Rattle.lies.specs.Plans.{may_cast, may_vote, next_aim, next_aims};
+ghost use Rattle.lies.specs.Plans.{all_votes, may_cast, may_vote, next_aim, next_aims, vote_of};
 
 use crate::aim::{Aim, Aims};
 use crate::choice::Vote;
 use crate::generals::is_among;
 use crate::sender::Sender;
 
-/// All votes of orders 0 and 1.
-pub(crate) const VOTES: [Vote; 8] = [
-    Vote { taken: 0, first: 0, second: 0 },
-    Vote { taken: 0, first: 0, second: 1 },
-    Vote { taken: 0, first: 1, second: 0 },
-    Vote { taken: 0, first: 1, second: 1 },
-    Vote { taken: 1, first: 0, second: 0 },
-    Vote { taken: 1, first: 0, second: 1 },
-    Vote { taken: 1, first: 1, second: 0 },
-    Vote { taken: 1, first: 1, second: 1 },
-];
+/// Returns all votes of orders 0 and 1.
+#[tactic(auto, unfolding(crate::specs::Plans::all_votes))]
+pub(crate) fn all_votes() -> [Vote; 8]
+    ensures { result ≡ all_votes }
+{
+    [
+        vote_of(0, 0, 0),
+        vote_of(0, 0, 1),
+        vote_of(0, 1, 0),
+        vote_of(0, 1, 1),
+        vote_of(1, 0, 0),
+        vote_of(1, 0, 1),
+        vote_of(1, 1, 0),
+        vote_of(1, 1, 1),
+    ]
+}
+
+/// Returns the vote of a general who takes the order `taken`, and for whom the lieutenants count these orders.
+fn vote_of(taken: u32, first: u32, second: u32) -> Vote
+    ensures { result ≡ vote_of taken first second }
+{
+    Vote {
+        taken,
+        first,
+        second,
+    }
+}
 
 /// Returns whether the general may vote like this about a label of this sender.
 pub(crate) fn may_cast(
