@@ -1,8 +1,8 @@
 -- The cheapest selection, choice by choice.
-use Rattle.std.proofs.Common.{ℕ, ◌<◌, ◌≤◌, ◌≡◌, Bool, true, false, cond, List, [], ◌∷◌, ◌++◌, map, refl, sym, ap, ◌∙◌, arith, inl, inr, Option, None, Some, append_assoc}
+use Rattle.std.proofs.Common.{ℕ, ◌+◌, ◌-◌, ◌<◌, ◌≤◌, ◌≡◌, Bool, true, false, cond, List, [], ◌∷◌, ◌++◌, map, length, take, get_or, refl, sym, ap, ◌∙◌, arith, inl, inr, Option, None, Some, append_assoc, length-append}
 use Rattle.std.specs.Prelude.{filter, flat_map, nat_lt, ◌==◌, ◌⊎◌}
 use Rattle.std.proofs.lemmas.Bool.{cases_Bool, cases_lt, cond-true, cond-false, lt-ltb, le-ltb, ltb-true, ltb-false}
-use Rattle.std.proofs.lemmas.List.{append-nil, map-append}
+use Rattle.std.proofs.lemmas.List.{append-nil, map-append, take_more, take-append-le, take_all}
 use Rattle.std.proofs.lemmas.List.Concat.{flat_map-append}
 use Rattle.std.proofs.lemmas.List.Elements.{filter-append}
 use Rattle.lies.specs.Plans.{attacks, cheaper, cheapest, selections}
@@ -80,3 +80,34 @@ best_other passes B S own cs c it =
 pub best_all : (passes : List Choice → Bool) (B choices : List Choice) (j : ℕ) (js : List ℕ) → best_of passes B (selections choices js) (λ choice. choice.general == j) choices ≡ cheapest (filter passes (map (λ rest. B ++ rest) (selections choices (j ∷ js))))
 unfolding selections
 best_all passes B choices j js = refl
+
+-- Proves the step of the loop over the choices, at a choice for the general.
+pub step_own : (passes : List Choice → Bool) (B : List Choice) (S : List (List Choice)) (own : Choice → Bool) (cs : List Choice) (i : ℕ) (d : Choice) → i < length cs → own (get_or cs i d) ≡ true → (old new part : Option (List Choice)) (pushed : List Choice)
+    → old ≡ best_of passes B S own (take i cs) → pushed ≡ B ++ get_or cs i d ∷ [] → part ≡ cheapest (filter passes (map (λ rest. pushed ++ rest) S)) → new ≡ cheaper old part → new ≡ best_of passes B S own (take (i + 1) cs)
+step_own passes B S own cs i d l it old new part pushed eo eb ep en =
+    en
+    ∙ ((λ k. cheaper (eo k) (ep k))
+    ∙ (ap (λ (p : List Choice). cheaper (best_of passes B S own (take i cs)) (cheapest (filter passes (map (λ rest. p ++ rest) S)))) eb
+    ∙ sym (ap (best_of passes B S own) (take_more cs i d l) ∙ best_own passes B S own (take i cs) (get_or cs i d) it)))
+
+-- Proves the step of the loop over the choices, at a choice for another general.
+pub step_other : (passes : List Choice → Bool) (B : List Choice) (S : List (List Choice)) (own : Choice → Bool) (cs : List Choice) (i : ℕ) (d : Choice) → i < length cs → own (get_or cs i d) ≡ false → best_of passes B S own (take i cs) ≡ best_of passes B S own (take (i + 1) cs)
+step_other passes B S own cs i d l it = sym (ap (best_of passes B S own) (take_more cs i d l) ∙ best_other passes B S own (take i cs) (get_or cs i d) it)
+
+-- Proves that a list from which the last element was taken is the list before.
+pub popped : (xs ys : List Choice) (z : Choice) → ys ≡ xs ++ z ∷ [] → take (length ys - 1) ys ≡ xs
+popped xs ys z e =
+    let long : length ys ≡ length xs + 1 = ap length e ∙ length-append xs (z ∷ []) in
+    let short : length ys - 1 ≡ length xs = omega arith in
+    (λ k. take (short k) (e k)) ∙ (take-append-le (length xs) xs (z ∷ []) (omega arith) ∙ take_all xs (length xs) (omega arith))
+
+-- Proves what is selected for no generals.
+pub whole_passes : (passes : List Choice → Bool) (B choices : List Choice) (js : List ℕ) → length js ≡ 0 → passes B ≡ true → cheapest (filter passes (map (λ rest. B ++ rest) (selections choices js))) ≡ Some B
+unfolding cheapest selections
+whole_passes passes B choices [] e h = rw (append-nil B, h) refl
+whole_passes passes B choices (j ∷ js) e h = absurd (omega arith)
+
+pub whole_fails : (passes : List Choice → Bool) (B choices : List Choice) (js : List ℕ) → length js ≡ 0 → passes B ≡ false → cheapest (filter passes (map (λ rest. B ++ rest) (selections choices js))) ≡ None
+unfolding cheapest selections
+whole_fails passes B choices [] e h = rw (append-nil B, h) refl
+whole_fails passes B choices (j ∷ js) e h = absurd (omega arith)

@@ -30,7 +30,7 @@ message_nil : (f : List ℕ → ℕ) (traitor : ℕ → Bool) (k : ℕ) (gs : Li
 unfolding message
 message_nil f traitor k gs s a g = refl
 
-message_cons : (f : List ℕ → ℕ) (traitor : ℕ → Bool) (k : ℕ) (gs : List ℕ) (s : Sender) (a : Aims) (j : ℕ) (rest : List ℕ) (g : ℕ) (z : Choice) → choice_in (plan f traitor (suc k) gs s a) j ≡ Some z
+pub message_cons : (f : List ℕ → ℕ) (traitor : ℕ → Bool) (k : ℕ) (gs : List ℕ) (s : Sender) (a : Aims) (j : ℕ) (rest : List ℕ) (g : ℕ) (z : Choice) → choice_in (plan f traitor (suc k) gs s a) j ≡ Some z
     → message f traitor (suc k) gs s a (j ∷ rest) g ≡ message f traitor k (without gs j) (sender_of traitor j z.vote.taken) (next_aims a j z.vote) rest g
 unfolding message
 message_cons f traitor k gs s a j rest g z e = ap (λ (c : Option Choice). after c (λ (choice : Choice). message f traitor k (without gs j) (sender_of traitor j choice.vote.taken) (next_aims a j choice.vote) rest g)) e

@@ -1,5 +1,5 @@
 //! The messages of a plan.
-ghost use Rattle.std.specs.Prelude.{◌≡◌, ◌≤◌, ◌==◌, find, length};
+ghost use Rattle.std.specs.Prelude.{◌≡◌, ◌<◌, ◌≤◌, ◌==◌, ◌∷◌, find, length};
 ghost use Rattle.label.specs.Labels.{on};
 ghost use Rattle.lies.specs.PlannedMessages.{choice_in, message, message_of, received};
 ghost use Rattle.lies.specs.Plans.{items_of};
@@ -18,7 +18,7 @@ use combine::Combine;
 /// generals. `off` are the generals off the label, at most 12, and `sender` is its last general.
 ///
 /// Each call finds the plans for the label and for each of the `rest` again.
-#[tactic(auto, unfolding(crate::specs::PlannedMessages::message))]
+#[cycle(message)]
 pub(crate) fn message<C: Combine>(
     rule: &C,
     traitors: &[u8],
@@ -34,18 +34,43 @@ pub(crate) fn message<C: Combine>(
     requires long { length rest.now ≤ relays }
     ensures { result ≡ message (C.combined rule.now) (on traitors.now) relays off.now sender aims.now rest.now receiver }
 {
-    let plan = plan(rule, traitors, relays, off, sender, aims);
-    let [general, later @ ..] = rest else {
+    let Some((general, later)) = rest.split_first() else {
+        let plan = plan(rule, traitors, relays, off, sender, aims);
         return received(traitors, sender, &plan, receiver);
     };
-    let choice = choice_in(&plan, *general)?;
+    message_by(
+        rule, traitors, relays, off, sender, aims, *general, later, receiver,
+    )
+}
+
+/// Returns the message that the receiver receives about a label extended by `general` and then by the generals `later`.
+#[cycle(message)]
+fn message_by<C: Combine>(
+    rule: &C,
+    traitors: &[u8],
+    relays: u8,
+    off: &[u8],
+    sender: Sender,
+    aims: &Aims,
+    general: u8,
+    later: &[u8],
+    receiver: u8,
+) -> Option<u32>
+    requires few { length off.now ≤ 12 }
+    requires short { relays ≤ 4 }
+    requires long { length later.now < relays }
+    ensures { result ≡ message (C.combined rule.now) (on traitors.now) relays off.now sender aims.now
+        (general ∷ later.now) receiver }
+{
+    let plan = plan(rule, traitors, relays, off, sender, aims);
+    let choice = choice_in(&plan, general)?;
     message(
         rule,
         traitors,
         relays - 1,
-        without(off, *general).as_slice(),
-        Sender::of(is_among(traitors, *general), choice.vote.taken),
-        &next_aims(aims, *general, &choice.vote),
+        without(off, general).as_slice(),
+        Sender::of(is_among(traitors, general), choice.vote.taken),
+        &next_aims(aims, general, &choice.vote),
         later,
         receiver,
     )

@@ -22,7 +22,7 @@ abbrev pub invariant-push_choices-loop-vote : goal.invariant-push_choices-loop-v
 invariant-push_choices-loop-vote g l = record {
   items : l.choices.items ≡ l.initial.choices.items ++ flat_map (λ vote. if may_cast l.sender (on l.traitors) l.aims l.general vote
       then chosen l.sender l.general vote (plan (g.C.Combine.combined l.rule) (on l.traitors) l.relays (without l.off l.general) (sender_of (on l.traitors) l.general vote.taken) (next_aims l.aims l.general vote)) else [])
-      (take l.vote-index l.votes);
+      (take l.vote-index l.vote-items);
   short : length l.choices.items ≤ length l.initial.choices.items + l.vote-index;
   cheap : AreCheap (l.relays + 1) l.initial.choices.items → AreCheap (l.relays + 1) l.choices.items;
 }
