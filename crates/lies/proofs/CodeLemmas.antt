@@ -65,7 +65,7 @@ pub plan_found : (f : List ℕ → ℕ) (t : ℕ → Bool) (k l : ℕ) (gs : Lis
     → cheapest (filter (meets f a) (map (λ rest. B ++ rest) (selections flat gs))) ≡ plan f t k gs s a
 unfolding plan
 plan_found f t k l gs s a B flat i ek eb ef long =
-    let all : flat ≡ flat_map (λ j. choices_of (λ q b. plan f t l (without gs j) q b) s t a j) gs = ef ∙ ap (flat_map (λ j. choices_of (λ q b. plan f t l (without gs j) q b) s t a j)) (take_all gs i long) in
+    let all : flat ≡ flat_map (λ j. choices_of (λ q b. plan f t l (without gs j) q b) s t a j) gs = ef ∙ ap (flat_map (λ j. choices_of (λ q b. plan f t l (without gs j) q b) s t a j)) (take_all i gs long) in
     (λ d. cheapest (filter (meets f a) (map (λ rest. eb d ++ rest) (selections (all d) gs))))
     ∙ (ap (λ ys. cheapest (filter (meets f a) ys)) (same_rest (selections (flat_map (λ j. choices_of (λ q b. plan f t l (without gs j) q b) s t a j) gs) gs))
     ∙ ap (λ (m : ℕ). plan f t m gs s a) (sym ek))

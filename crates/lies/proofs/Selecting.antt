@@ -99,7 +99,7 @@ pub popped : (xs ys : List Choice) (z : Choice) → ys ≡ xs ++ z ∷ [] → ta
 popped xs ys z e =
     let long : length ys ≡ length xs + 1 = ap length e ∙ length-append xs (z ∷ []) in
     let short : length ys - 1 ≡ length xs = omega arith in
-    (λ k. take (short k) (e k)) ∙ (take-append-le (length xs) xs (z ∷ []) (omega arith) ∙ take_all xs (length xs) (omega arith))
+    (λ k. take (short k) (e k)) ∙ (take-append-le (length xs) xs (z ∷ []) (omega arith) ∙ take_all (length xs) xs (omega arith))
 
 -- Proves what is selected for no generals.
 pub whole_passes : (passes : List Choice → Bool) (B choices : List Choice) (js : List ℕ) → length js ≡ 0 → passes B ≡ true → cheapest (filter passes (map (λ rest. B ++ rest) (selections choices js))) ≡ Some B

@@ -66,5 +66,5 @@ cheapest_by-returns-clause-plan g t c =
     let passes : List Choice → Bool = meets (g.C.Combine.combined c.args.rule.now) c.args.aims.now in
     let test = c.loop-choice-test.false in
     c.loop-choice.invariant.best
-    ∙ (ap (best_of passes c.args.begun.now.items (selections c.args.choices.now c.args.later.now) (λ choice. choice.general == c.args.general)) (take_all c.args.choices.now c.loop-choice.choice-index (omega arith))
+    ∙ (ap (best_of passes c.args.begun.now.items (selections c.args.choices.now c.args.later.now) (λ choice. choice.general == c.args.general)) (take_all c.loop-choice.choice-index c.args.choices.now (omega arith))
     ∙ best_all passes c.args.begun.now.items c.args.choices.now c.args.general c.args.later.now)
