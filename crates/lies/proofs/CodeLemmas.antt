@@ -11,13 +11,13 @@ use Rattle.std.proofs.lemmas.List.Sums.{length-filter, count_by-le-length}
 use Rattle.label.specs.Labels.{on, generals, others}
 use Rattle.label.proofs.Ranks.{others-count}
 use Rattle.lies.specs.Plans.{attacks, attacks_by, cheapest, choices_of, chosen, may_cast, meets, next_aims, plan, selections, sender_of, without}
-use Rattle.lies.specs.PlannedMessages.{after, choice_in, message}
+use Rattle.lies.specs.PlannedMessages.{after, choice_in, message, received}
 use Rattle.lies.specs.declared.aim.Aims.{Aims}
 use Rattle.lies.specs.declared.choice.Vote.{Vote}
 use Rattle.lies.specs.declared.sender.Sender.{Sender}
 use Rattle.lies.specs.declared.choice.Choice.{Choice}
 use Rattle.lies.proofs.PlanLemmas.{attacks_none, attacks_cons}
-use Rattle.lies.proofs.Soundness.{message_cons}
+use Rattle.lies.proofs.Soundness.{message_cons, message_nil}
 
 -- Proves that a filter keeps at most all generals.
 pub filter_few : (t : ℕ → Bool) (j : ℕ) → length (filter t (generals j)) ≤ j
@@ -96,3 +96,8 @@ vote_fails s t a j vote plans e = ap (λ (o : Option (List Choice)). cond (may_c
     nothing : (b : Bool) → cond {A = List Choice} b [] [] ≡ []
     nothing true = refl
     nothing false = refl
+
+-- Proves that the walk ends with the message about the label itself.
+pub message_last : (f : List ℕ → ℕ) (t : ℕ → Bool) (k : ℕ) (gs : List ℕ) (s : Sender) (a : Aims) (rest : List ℕ) (g : ℕ) → length rest ≡ 0 → received t s (plan f t k gs s a) g ≡ message f t k gs s a rest g
+message_last f t k gs s a [] g e = sym (message_nil f t k gs s a g)
+message_last f t k gs s a (x ∷ xs) g e = absurd (omega arith)

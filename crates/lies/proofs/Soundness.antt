@@ -26,7 +26,7 @@ pub record Follows (x : Setting) (k : ℕ) (w : List ℕ) (s : Sender) (a : Aims
   pub choices : List Choice
   pub possible : plan x.f x.traitor k (others x.n w) s a ≡ Some choices
 
-message_nil : (f : List ℕ → ℕ) (traitor : ℕ → Bool) (k : ℕ) (gs : List ℕ) (s : Sender) (a : Aims) (g : ℕ) → message f traitor k gs s a [] g ≡ received traitor s (plan f traitor k gs s a) g
+pub message_nil : (f : List ℕ → ℕ) (traitor : ℕ → Bool) (k : ℕ) (gs : List ℕ) (s : Sender) (a : Aims) (g : ℕ) → message f traitor k gs s a [] g ≡ received traitor s (plan f traitor k gs s a) g
 unfolding message
 message_nil f traitor k gs s a g = refl
 

@@ -1,10 +1,26 @@
 use Rattle.std.proofs.Common.{◌≡◌, length, sym, ap, ◌∙◌, arith}
 use Rattle.std.specs.Prelude.{slice_get}
 use Rattle.label.specs.Labels.{labels}
+use Rattle.label.proofs.Listing.{proved_labels_are_exact}
 use Rattle.tree.specs.LieutenantTree.{LieutenantTree, IsCampaign}
 use Rattle.lies.specs.BreakTrees.{messages_of}
 use Rattle.lies.proofs.BreakTreeLemmas.{level_full, one_more}
 use Rattle.lies.proofs.break_trees.fill_level.Goals as goal
+
+pub sent-order-requires-clause-short : goal.sent-order-requires-clause-short
+sent-order-requires-clause-short g c =
+    let kind = c.space-space.ensures.kind in
+    let eg = c.space-space.ensures.generals in
+    let ec = c.space-space.ensures.commander in
+    let ep = c.space-space.ensures.general in
+    let lc = kind.commander in
+    let lp = kind.general in
+    let is = proved_labels_are_exact.only c.space-space.result.generals c.space-space.result.commander c.space-space.result.general c.args.size c.loop-rank.rank c.in-Ok.label (omega arith) (omega arith)
+    (λ e. kind.lieutenant (sym ep ∙ (e ∙ ec))) c.in-Ok.ensures.ok
+    in
+    let long = is.2 in
+    let short = c.requires.short in
+    omega arith
 
 pub loop-rank-preserved : goal.loop-rank-preserved
 loop-rank-preserved g c n m k p h =

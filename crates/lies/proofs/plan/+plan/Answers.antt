@@ -1,12 +1,17 @@
-use Rattle.std.proofs.Common.{ℕ, ◌≡◌, ◌+◌, ◌-◌, ◌*◌, ◌≤◌, ◌<◌, suc, List, ◌++◌, length, refl, sym, ap, subst, ◌∙◌, arith}
-use Rattle.std.specs.Prelude.{slice_index_or}
+use Rattle.std.proofs.Common.{ℕ, ◌≡◌, ◌+◌, ◌-◌, ◌*◌, ◌≤◌, ◌<◌, suc, Bool, cond, List, [], ◌∷◌, ◌++◌, Option, None, Some, length, take, refl, sym, ap, subst, ◌∙◌, arith, add-one, append_assoc}
+use Rattle.std.specs.Prelude.{flat_map, slice_index_or}
+use Rattle.std.proofs.lemmas.Bool.{cond-false}
+use Rattle.std.proofs.lemmas.List.{append-nil}
+use Rattle.std.proofs.lemmas.List.Elements.{All-push}
 use Rattle.label.specs.Labels.{on}
-use Rattle.lies.specs.Limits.{AreCheap}
-use Rattle.lies.specs.Plans.{choices_of, without, plan}
+use Rattle.lies.specs.Limits.{AreCheap, most_attacks}
+use Rattle.lies.specs.Plans.{attacks, attacks_by, choices_of, chosen, items_of, may_cast, next_aims, plan, sender_of, without}
 use Rattle.lies.specs.declared.choice.Choice.{Choice}
-use Rattle.lies.proofs.CodeLemmas.{flat_more, plan_found, without_few}
+use Rattle.lies.specs.declared.choice.Vote.{Vote}
+use Rattle.lies.proofs.CodeLemmas.{flat_more, plan_found, vote_adds, vote_fails, without_few}
 use Rattle.lies.proofs.LimitLemmas.{most_small}
 use Rattle.lies.proofs.plan.+plan.Goals as goal
+use Rattle.lies.proofs.plan.+plan.Goals.{push_choices-then-may_cast+in-Some, push_choices-then-may_cast+in_default, push_choices-else-may_cast}
 
 pub plan-returns-then-relays-eq0-clause-plan : goal.plan-returns-then-relays-eq0-clause-plan
 unfolding plan
@@ -49,3 +54,66 @@ plan-returns-clause-plan g t c =
     c.cheapest.ensures.plan
     ∙ plan_found (g.C.Combine.combined c.args.rule.now) (on c.args.traitors.now) c.args.relays (c.args.relays - 1) c.args.off.now c.args.sender c.args.aims.now c.new-begun.result.items c.as_slice.result.now c.loop-general.general-index
     (omega arith) c.new-begun.ensures (c.as_slice.ensures.value ∙ c.loop-general.invariant.items) (omega arith)
+
+abbrev no_vote : Vote
+no_vote = record { taken = 0; first = 0; second = 0 }
+
+pub push_choices-loop-vote-preserved : goal.push_choices-loop-vote-preserved
+push_choices-loop-vote-preserved g t c =
+    let f : List ℕ → ℕ = g.C.Combine.combined c.args.rule.now in
+    let T : ℕ → Bool = on c.args.traitors.now in
+    let votes : List Vote = c.all_votes-votes.result in
+    let x : Vote = slice_index_or c.all_votes-votes.result c.loop-vote.vote-index no_vote in
+    let Below : Vote → Option (List Choice) = λ vote. plan (g.C.Combine.combined c.args.rule.now) (on c.args.traitors.now) c.args.relays (without c.args.off.now c.args.general) (sender_of (on c.args.traitors.now) c.args.general vote.taken) (next_aims c.args.aims.now c.args.general vote) in
+    let G : Vote → List Choice = λ vote. cond (may_cast c.args.sender (on c.args.traitors.now) c.args.aims.now c.args.general vote) (chosen c.args.sender c.args.general vote (Below vote)) [] in
+    let old : List Choice = c.args.choices.now.items in
+    let so_far : List Choice = flat_map G (take c.loop-vote.vote-index votes) in
+    let more : flat_map G (take (c.loop-vote.vote-index + 1) votes) ≡ so_far ++ G x = flat_more G votes c.loop-vote.vote-index no_vote c.loop-vote-test.true in
+    let short = c.loop-vote.invariant.short in
+    elim c.if-may_cast.branch [
+      | push_choices-then-may_cast+in-Some w ↦
+          let plans : Below x ≡ Some w.in-Some.below.items =
+          sym (λ d. plan (g.C.Combine.combined c.args.rule.now) (on c.args.traitors.now) c.args.relays ((w.as_slice.ensures.value ∙ c.without-rest.ensures) d) (w.of-next.ensures (on c.args.traitors.now) c.args.general (sym w.is_among.ensures) d) (w.next_aims-aims.ensures d))
+          ∙ (sym w.plan.ensures.plan ∙ ap items_of w.in-Some.is)
+          in
+          let cost : w.attacks.result + w.total.result ≡ attacks_by c.args.sender x.taken + attacks w.in-Some.below.items =
+          (λ d. w.attacks.ensures.value d + (w.total.ensures.value ∙ ap attacks w.as_slice-in-Some.ensures.value) d)
+          in
+          let adds : G x ≡ record { general = c.args.general; vote = x; attacks = w.attacks.result + w.total.result } ∷ [] =
+          vote_adds c.args.sender (on c.args.traitors.now) c.args.aims.now c.args.general x (Below x) w.in-Some.below.items (w.attacks.result + w.total.result) (sym c.may_cast.ensures ∙ w.if-may_cast.true) plans cost
+          in
+          let long = w.push.ensures.len in
+          let same : length c.if-may_cast.choices.items ≡ length w.push.new.self.items = ap (λ v. length v.items) w.choices-is in
+          let one = w.attacks.ensures.few in
+          let rest = w.total.ensures.few in
+          record {
+            items =
+                ap (λ v. v.items) w.choices-is
+                ∙ (w.push.ensures.items
+                ∙ ((λ d. c.loop-vote.invariant.items d ++ sym adds d)
+                ∙ (append_assoc old so_far (G x) ∙ ap (λ ys. old ++ ys) (sym more))));
+            short = omega arith;
+            cheap = λ h. subst (λ (zs : List Choice). AreCheap (c.args.relays + 1) zs) (sym (ap (λ v. v.items) w.choices-is ∙ w.push.ensures.items))
+                (All-push (λ (z : Choice). z.attacks ≤ most_attacks (c.args.relays + 1)) c.loop-vote.choices.items (record { general = c.args.general; vote = x; attacks = w.attacks.result + w.total.result }) (c.loop-vote.invariant.cheap h) (rw add-one (omega arith)));
+          }
+      | push_choices-then-may_cast+in_default w ↦
+          let plans : Below x ≡ None =
+          sym (λ d. plan (g.C.Combine.combined c.args.rule.now) (on c.args.traitors.now) c.args.relays ((w.as_slice.ensures.value ∙ c.without-rest.ensures) d) (w.of-next.ensures (on c.args.traitors.now) c.args.general (sym w.is_among.ensures) d) (w.next_aims-aims.ensures d))
+          ∙ (sym w.plan.ensures.plan ∙ ap items_of w.in_default.is)
+          in
+          let adds : G x ≡ [] = vote_fails c.args.sender (on c.args.traitors.now) c.args.aims.now c.args.general x (Below x) plans in
+          let same : length c.if-may_cast.choices.items ≡ length c.loop-vote.choices.items = ap (λ v. length v.items) w.choices-is in
+          record {
+            items = ap (λ v. v.items) w.choices-is ∙ (c.loop-vote.invariant.items ∙ ap (λ ys. old ++ ys) (sym (append-nil so_far) ∙ ((λ d. so_far ++ sym adds d) ∙ sym more)));
+            short = omega arith;
+            cheap = λ h. subst (λ (zs : List Choice). AreCheap (c.args.relays + 1) zs) (sym (ap (λ v. v.items) w.choices-is)) (c.loop-vote.invariant.cheap h);
+          }
+      | push_choices-else-may_cast w ↦
+          let adds : G x ≡ [] = cond-false (may_cast c.args.sender (on c.args.traitors.now) c.args.aims.now c.args.general x) (chosen c.args.sender c.args.general x (Below x)) [] (sym c.may_cast.ensures ∙ w.if-may_cast.false) in
+          let same : length c.if-may_cast.choices.items ≡ length c.loop-vote.choices.items = ap (λ v. length v.items) w.choices-is in
+          record {
+            items = ap (λ v. v.items) w.choices-is ∙ (c.loop-vote.invariant.items ∙ ap (λ ys. old ++ ys) (sym (append-nil so_far) ∙ ((λ d. so_far ++ sym adds d) ∙ sym more)));
+            short = omega arith;
+            cheap = λ h. subst (λ (zs : List Choice). AreCheap (c.args.relays + 1) zs) (sym (ap (λ v. v.items) w.choices-is)) (c.loop-vote.invariant.cheap h);
+          }
+    ]
