@@ -10,7 +10,7 @@ use Rattle.std.proofs.lemmas.List.FromFn.{length-range_with_len}
 use Rattle.std.proofs.lemmas.List.Sums.{length-filter, count_by-le-length}
 use Rattle.label.specs.Labels.{on, generals, others}
 use Rattle.label.proofs.Ranks.{others-count}
-use Rattle.lies.specs.Plans.{attacks, attacks_by, cheapest, choices_of, chosen, may_cast, meets, next_aims, plan, selections, sender_of, without}
+use Rattle.lies.specs.Plans.{all_votes, attacks, attacks_by, cheapest, choices_of, chosen, may_cast, meets, next_aims, plan, selections, sender_of, without}
 use Rattle.lies.specs.PlannedMessages.{after, choice_in, message, received}
 use Rattle.lies.specs.declared.aim.Aims.{Aims}
 use Rattle.lies.specs.declared.choice.Vote.{Vote}
@@ -101,3 +101,12 @@ vote_fails s t a j vote plans e = ap (λ (o : Option (List Choice)). cond (may_c
 pub message_last : (f : List ℕ → ℕ) (t : ℕ → Bool) (k : ℕ) (gs : List ℕ) (s : Sender) (a : Aims) (rest : List ℕ) (g : ℕ) → length rest ≡ 0 → received t s (plan f t k gs s a) g ≡ message f t k gs s a rest g
 message_last f t k gs s a [] g e = sym (message_nil f t k gs s a g)
 message_last f t k gs s a (x ∷ xs) g e = absurd (omega arith)
+
+-- Proves how many votes there are.
+pub votes_many : length all_votes ≡ 8
+unfolding all_votes
+votes_many = refl
+
+-- Proves that at most n of n generals are traitors.
+pub count_few : (n : ℕ) (t : ℕ → Bool) → count_by t (generals n) ≤ n
+count_few n t = omega (arith, count_by-le-length t (generals n), length-range_with_len 0 n)

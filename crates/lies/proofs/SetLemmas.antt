@@ -1,6 +1,6 @@
 -- The search, attempt by attempt and set by set.
 use Rattle.std.proofs.Common.{ℕ, zero, suc, ◌+◌, ◌^◌, ◌<◌, ◌≤◌, ◌≡◌, Bool, true, false, cond, List, [], ◌∷◌, ◌++◌, map, length, get_or, refl, sym, ap, subst, ◌∙◌, arith, inl, inr, Option, None, Some}
-use Rattle.std.specs.Prelude.{count_by, filter, nat_lt, ◌==◌, ◌⊎◌}
+use Rattle.std.specs.Prelude.{count_by, filter, nat_lt, IfSome, ◌==◌, ◌⊎◌}
 use Rattle.std.specs.Int.{bit_at}
 use lib.Lanes.{mask_l}
 use Rattle.std.proofs.lemmas.Bool.{cases_Bool, cond-true, cond-false, ltb-true, ltb-false}
@@ -146,3 +146,19 @@ now_found f n m c count set now s is long succeeds = record {
   many = sym (length-filter (λ g. bit_at set g == 1) (generals n)) ∙ (sym (ap length is) ∙ long);
   succeeds = succeeds;
 }
+
+-- Proves that the new best is a break, if the best so far is one and the success is one.
+pub found_more : (P : Found → Type 0) (best : Option Found) (now : ArrayVec ℕ) (success : Option Success) → IfSome best P → IfSome success (λ s. P (record { traitors = now; success = s })) → IfSome (cheaper_break best now success) P
+found_more P None now None b s = tt
+found_more P (Some f) now None b s = b
+found_more P None now (Some r) b s = s
+found_more P (Some f) now (Some r) b s = pick (nat_lt r.attacks f.success.attacks)
+  where
+    pick : (d : Bool) → IfSome (cond d (Some (record { traitors = now; success = r })) (Some f)) P
+    pick true = s
+    pick false = b
+
+-- Proves that a success of these traitors is a break.
+pub found_now : (f : List ℕ → ℕ) (n m c count set : ℕ) (now : ArrayVec ℕ) (o : Option Success) → now.items ≡ members n set → length now.items ≡ count → IfSome o (Succeeds f n m c now.items) → IfSome o (λ s. IsFoundAmong f n m c count (record { traitors = now; success = s }))
+found_now f n m c count set now None is long h = tt
+found_now f n m c count set now (Some s) is long h = now_found f n m c count set now s is long h

@@ -63,7 +63,9 @@ fn message_by<C: Combine>(
         (general ∷ later.now) receiver }
 {
     let plan = plan(rule, traitors, relays, off, sender, aims);
-    let choice = choice_in(&plan, general)?;
+    let Some(choice) = choice_in(&plan, general) else {
+        return None;
+    };
     message(
         rule,
         traitors,

@@ -8,3 +8,6 @@ plan-found-requires-clause-few g c =
     let few = off_few c.args.generals c.args.commander c.requires.present c.requires.few in
     let so : length c.as_slice.result.now ≡ length (others c.args.generals (c.args.commander ∷ [])) = ap length (c.as_slice.ensures.value ∙ c.others-off.ensures) in
     omega arith
+
+pub loop-attempt-preserved : goal.loop-attempt-preserved
+loop-attempt-preserved g c = let h = c.plan-found.ensures.plan in ?

@@ -12,12 +12,12 @@ message-returns-in_default g t c =
     ∙ (ap (λ (o : Option (List Choice)). received (on c.args.traitors.now) c.args.sender o c.args.receiver) c.plan-plan.ensures.plan
     ∙ message_last (g.C.Combine.combined c.args.rule.now) (on c.args.traitors.now) c.args.relays c.args.off.now c.args.sender c.args.aims.now c.args.rest.now c.args.receiver c.in_default.ensures.cases)
 
-pub message_by-returns-in_err-choice : goal.message_by-returns-in_err-choice
-message_by-returns-in_err-choice g t c =
+pub message_by-returns-in_default : goal.message_by-returns-in_default
+message_by-returns-in_default g t c =
     let long = c.requires.long in
     let more : c.args.relays ≡ suc (c.args.relays - 1) = omega arith in
     message_stops (g.C.Combine.combined c.args.rule.now) (on c.args.traitors.now) c.args.relays (c.args.relays - 1) c.args.off.now c.args.sender c.args.aims.now c.args.general c.args.later.now c.args.receiver more
-    (ap (λ (o : Option (List Choice)). choice_in o c.args.general) (sym c.plan-plan.ensures.plan) ∙ (sym c.choice_in.ensures ∙ c.in_err-choice.was))
+    (ap (λ (o : Option (List Choice)). choice_in o c.args.general) (sym c.plan-plan.ensures.plan) ∙ (sym c.choice_in.ensures ∙ c.in_default.is))
 
 pub message_by-message-requires : goal.message_by-message-requires
 message_by-message-requires g t c κs within =
@@ -34,6 +34,6 @@ message_by-returns g t c =
     let more : c.args.relays ≡ suc (c.args.relays - 1) = omega arith in
     c.message.ensures
     ∙ message_step (g.C.Combine.combined c.args.rule.now) (on c.args.traitors.now) c.args.relays (c.args.relays - 1) c.args.off.now c.as_slice.result.now c.args.sender c.of.result c.args.aims.now c.next_aims.result c.args.general c.args.later.now c.args.receiver
-    c.in_ok-choice.choice more
-    (ap (λ (o : Option (List Choice)). choice_in o c.args.general) (sym c.plan-plan.ensures.plan) ∙ (sym c.choice_in.ensures ∙ c.in_ok-choice.was))
+    c.in-Some.choice more
+    (ap (λ (o : Option (List Choice)). choice_in o c.args.general) (sym c.plan-plan.ensures.plan) ∙ (sym c.choice_in.ensures ∙ c.in-Some.is))
     (c.as_slice.ensures.value ∙ c.without.ensures) (c.of.ensures (on c.args.traitors.now) c.args.general (sym c.is_among.ensures)) c.next_aims.ensures

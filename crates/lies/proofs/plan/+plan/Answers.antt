@@ -8,7 +8,7 @@ use Rattle.lies.specs.Limits.{AreCheap, most_attacks}
 use Rattle.lies.specs.Plans.{attacks, attacks_by, choices_of, chosen, items_of, may_cast, next_aims, plan, sender_of, without}
 use Rattle.lies.specs.declared.choice.Choice.{Choice}
 use Rattle.lies.specs.declared.choice.Vote.{Vote}
-use Rattle.lies.proofs.CodeLemmas.{flat_more, plan_found, vote_adds, vote_fails, without_few}
+use Rattle.lies.proofs.CodeLemmas.{flat_more, plan_found, vote_adds, vote_fails, votes_many, without_few}
 use Rattle.lies.proofs.LimitLemmas.{most_small}
 use Rattle.lies.proofs.plan.+plan.Goals as goal
 use Rattle.lies.proofs.plan.+plan.Goals.{push_choices-then-may_cast+in-Some, push_choices-then-may_cast+in_default, push_choices-else-may_cast}
@@ -67,8 +67,11 @@ push_choices-loop-vote-preserved g t c =
     let Below : Vote → Option (List Choice) = λ vote. plan (g.C.Combine.combined c.args.rule.now) (on c.args.traitors.now) c.args.relays (without c.args.off.now c.args.general) (sender_of (on c.args.traitors.now) c.args.general vote.taken) (next_aims c.args.aims.now c.args.general vote) in
     let G : Vote → List Choice = λ vote. cond (may_cast c.args.sender (on c.args.traitors.now) c.args.aims.now c.args.general vote) (chosen c.args.sender c.args.general vote (Below vote)) [] in
     let old : List Choice = c.args.choices.now.items in
+    let eight : length c.all_votes-votes.result ≡ 8 = ap length c.all_votes-votes.ensures ∙ votes_many in
+    let test = c.loop-vote-test.true in
+    let within : c.loop-vote.vote-index < length c.all_votes-votes.result = omega arith in
     let so_far : List Choice = flat_map G (take c.loop-vote.vote-index votes) in
-    let more : flat_map G (take (c.loop-vote.vote-index + 1) votes) ≡ so_far ++ G x = flat_more G votes c.loop-vote.vote-index no_vote c.loop-vote-test.true in
+    let more : flat_map G (take (c.loop-vote.vote-index + 1) votes) ≡ so_far ++ G x = flat_more G votes c.loop-vote.vote-index no_vote within in
     let short = c.loop-vote.invariant.short in
     elim c.if-may_cast.branch [
       | push_choices-then-may_cast+in-Some w ↦
