@@ -1,5 +1,5 @@
 -- Members of lists, through the functions that make lists.
-use Rattle.std.proofs.Common.{ℕ, ◌≡◌, Bool, true, false, cond, List, [], ◌∷◌, ◌++◌, map, refl, sym, ap, subst, ◌∙◌, inl, inr}
+use Rattle.std.proofs.Common.{ℕ, zero, suc, ◌<◌, ◌≡◌, length, get_or, arith, Bool, true, false, cond, List, [], ◌∷◌, ◌++◌, map, refl, sym, ap, subst, ◌∙◌, inl, inr}
 use Rattle.std.specs.Prelude.{filter, flat_map, ◌⊎◌, ◌==◌}
 use Rattle.std.proofs.lemmas.Bool.{false≢true, eqb-true, eq-eqb, or_cases, or_left, or_right}
 use Rattle.label.specs.Labels.{on}
@@ -89,3 +89,9 @@ in_on (x ∷ xs) j e = elim (or_cases (x == j) (on xs j) e) [
   | inl here ↦ inl (sym (eqb-true x j here))
   | inr there ↦ inr (in_on xs j there)
 ]
+
+-- Proves that what is read from a list is in it.
+pub in_get : {A : Type 0} → (xs : List A) (i : ℕ) (d : A) → i < length xs → IsIn (get_or xs i d) xs
+in_get [] i d l = absurd (omega arith)
+in_get (x ∷ xs) zero d l = inl refl
+in_get (x ∷ xs) (suc i) d l = inr (in_get xs i d (omega arith))

@@ -1,9 +1,9 @@
 -- The search, attempt by attempt and set by set.
 use Rattle.std.proofs.Common.{ℕ, zero, suc, ◌+◌, ◌^◌, ◌<◌, ◌≤◌, ◌≡◌, Bool, true, false, cond, List, [], ◌∷◌, ◌++◌, map, length, get_or, refl, sym, ap, subst, ◌∙◌, arith, inl, inr, Option, None, Some}
-use Rattle.std.specs.Prelude.{count_by, filter, nat_lt, IfSome, ◌==◌, ◌⊎◌}
+use Rattle.std.specs.Prelude.{count_by, filter, nat_lt, IfNone, IfSome, ◌==◌, ◌⊎◌}
 use Rattle.std.specs.Int.{bit_at}
 use lib.Lanes.{mask_l}
-use Rattle.std.proofs.lemmas.Bool.{cases_Bool, cond-true, cond-false, ltb-true, ltb-false}
+use Rattle.std.proofs.lemmas.Bool.{cases_Bool, cond-true, cond-false, ltb-true, ltb-false, false≢true}
 use Rattle.std.proofs.lemmas.List.FromFn.{get_or-map-range_with_len, length-map-range_with_len}
 use Rattle.std.proofs.lemmas.List.Sums.{length-filter}
 use Rattle.std.proofs.lemmas.Simd.{bit_mask_l, mask_l-lt}
@@ -162,3 +162,25 @@ found_more P (Some f) now (Some r) b s = pick (nat_lt r.attacks f.success.attack
 pub found_now : (f : List ℕ → ℕ) (n m c count set : ℕ) (now : ArrayVec ℕ) (o : Option Success) → now.items ≡ members n set → length now.items ≡ count → IfSome o (Succeeds f n m c now.items) → IfSome o (λ s. IsFoundAmong f n m c count (record { traitors = now; success = s }))
 found_now f n m c count set now None is long h = tt
 found_now f n m c count set now (Some s) is long h = now_found f n m c count set now s is long h
+
+-- Proves the step of the loop over the attempts, at an attempt that is the best so far.
+pub one_better : (f : List ℕ → ℕ) (n m c : ℕ) (traitors : List ℕ) (tried : List Attempt) (a : Attempt) (best : Option Success) (zs : List Choice) (cost : ℕ) (test : Bool) → NoneCheaper f n m c traitors tried best → plan_for f n m c traitors a ≡ Some zs
+    → IfSome best (λ s. test ≡ nat_lt cost s.attacks) → test ≡ true → cost ≡ attacks zs → NoneCheaper f n m c traitors (tried ++ a ∷ []) (Some (record { attempt = a; attacks = cost }))
+one_better f n m c traitors tried a best zs cost test none e less it same =
+    subst (λ (k : ℕ). NoneCheaper f n m c traitors (tried ++ a ∷ []) (Some (record { attempt = a; attacks = k }))) (sym same)
+    (one_cheaper f n m c traitors tried a best zs none e (λ s is. below best less s is))
+  where
+    below : (o : Option Success) → IfSome o (λ s. test ≡ nat_lt cost s.attacks) → (s : Success) → o ≡ Some s → attacks zs ≤ s.attacks
+    below None h s is = absurd cc
+    below (Some r) h s is =
+        let own : r ≡ s = some_same r s is in
+        let cost' : r.attacks ≡ s.attacks = ap (λ (q : Success). q.attacks) own in
+        let l = ltb-true cost r.attacks (sym h ∙ it) in
+        omega arith
+
+-- Proves the step of the loop over the attempts, at an attempt that is not the best so far.
+pub one_kept : (f : List ℕ → ℕ) (n m c : ℕ) (traitors : List ℕ) (tried : List Attempt) (a : Attempt) (best : Option Success) (zs : List Choice) (cost : ℕ) (test : Bool) → NoneCheaper f n m c traitors tried best → plan_for f n m c traitors a ≡ Some zs
+    → IfNone best (test ≡ true) → IfSome best (λ s. test ≡ nat_lt cost s.attacks) → test ≡ false → cost ≡ attacks zs → NoneCheaper f n m c traitors (tried ++ a ∷ []) best
+one_kept f n m c traitors tried a None zs cost test none e first less it same = absurd (false≢true (sym it ∙ first))
+one_kept f n m c traitors tried a (Some s) zs cost test none e first less it same =
+    one_dearer f n m c traitors tried a s zs none e (let l = ltb-false cost s.attacks (sym less ∙ it) in omega arith)
