@@ -127,13 +127,13 @@ agrees f n m c order traitors M y none bad p q lp lq =
 pub agree_within : (f : List ℕ → ℕ) (n m c order : ℕ) (traitors : List ℕ) (M : Messages) → Played01 f n m c order (on traitors) M → NoneWithin f n m c traitors (attacks_in n m c (on traitors) M) → Agree n c order (on traitors) (om f n M m (c ∷ []))
 agree_within f n m c order traitors M y none = elim (cases_Bool (on traitors c)) [
   | inl bad ↦ record {
-      alike = λ p q lp lq. agrees f n m c order traitors M y none bad p q lp lq;
-      obeyed = λ good p l. absurd (false≢true (sym good ∙ bad));
-    }
+    alike = λ p q lp lq. agrees f n m c order traitors M y none bad p q lp lq;
+    obeyed = λ good p l. absurd (false≢true (sym good ∙ bad));
+  }
   | inr good ↦ record {
-      alike = λ p q lp lq. obeys f n m c order traitors M y none good p lp ∙ sym (obeys f n m c order traitors M y none good q lq);
-      obeyed = λ _ p l. obeys f n m c order traitors M y none good p l;
-    }
+    alike = λ p q lp lq. obeys f n m c order traitors M y none good p lp ∙ sym (obeys f n m c order traitors M y none good q lq);
+    obeyed = λ _ p l. obeys f n m c order traitors M y none good p l;
+  }
 ]
 
 -- Proves that the list of the traitors has the traitors.
@@ -160,13 +160,13 @@ agree_below rule n m c limit t inside none =
       };
     })
     (λ attempt zs i e.
-        let few = w.few in
-        let same : attacks_in n m c t M ≡ attacks_in n m c (on (filter t (generals n))) M =
-        same_from n c m t (on (filter t (generals n))) M M (record { traitors = λ j l. sym (listed_traitor n t j l); messages = λ v p label short l off. refl }) m (c ∷ []) c
-        (record { first = refl; below = (inside, tt); distinct = refl }) (omega arith) inside
-        in
-        let more = none attempt zs i e in
-        omega arith)))
+    let few = w.few in
+    let same : attacks_in n m c t M ≡ attacks_in n m c (on (filter t (generals n))) M =
+    same_from n c m t (on (filter t (generals n))) M M (record { traitors = λ j l. sym (listed_traitor n t j l); messages = λ v p label short l off. refl }) m (c ∷ []) c
+    (record { first = refl; below = (inside, tt); distinct = refl }) (omega arith) inside
+    in
+    let more = none attempt zs i e in
+    omega arith)))
   where
     loyal_too : (p : ℕ) → IsLoyalLieutenant n c t p → IsLoyalLieutenant n c (on (filter t (generals n))) p
     loyal_too p l = record { general = l.general; lieutenant = l.lieutenant; loyal = listed_traitor n t p l.general ∙ l.loyal }

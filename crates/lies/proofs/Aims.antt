@@ -89,8 +89,7 @@ entry_votes x k w aim j own same = elim (cases_Bool (aim.general == j)) [
       let is : entry x k w aim.general j ≡ own = cond-true (j == aim.general) (taken x.M w aim.general) (om x.f x.n x.M k (w ++ j ∷ []) aim.general) (eq-eqb j aim.general it) ∙ same it in
       (ap (λ (b : Bool). not b || entry x k w aim.general j == own) here ∙ eq-eqb (entry x k w aim.general j) own is, none (aim.general == j) here)
   | inr apart ↦
-      let ne : (j == aim.general) ≡ false = ne_eqb j aim.general (λ e. false≢true (sym apart ∙ eq-eqb aim.general j (sym e))) in
-      (
+      let ne : (j == aim.general) ≡ false = ne_eqb j aim.general (λ e. false≢true (sym apart ∙ eq-eqb aim.general j (sym e))) in (
         ap (λ (b : Bool). not b || entry x k w aim.general j == own) apart,
         some (aim.general == j) apart (sym (cond-false (j == aim.general) (taken x.M w aim.general) (om x.f x.n x.M k (w ++ j ∷ []) aim.general) ne)),
       )

@@ -333,14 +333,14 @@ complete x c m order y (suc k) u g s a h r t d e =
     let b : Built flat (voted x k (u ++ g ∷ []) a.first) (voted x k (u ++ g ∷ []) a.second) cost (others x.n (u ++ g ∷ [])) =
     built flat (voted x k (u ++ g ∷ []) a.first) (voted x k (u ++ g ∷ []) a.second) cost (others x.n (u ++ g ∷ []))
     (λ j i.
-        let there = others-on x.n (u ++ g ∷ []) j i in
-        let first = voted_may x k (u ++ g ∷ []) g s a.first j h.sends r in
-        let second = voted_may x k (u ++ g ∷ []) g s a.second j h.sends t in
-        one_choice x c m order y k (u ++ g ∷ []) g s a h.sends r t j i
-        (complete x c m order y k (u ++ g ∷ []) j (sender_of x.traitor j (took x (u ++ g ∷ []) s j))
-        (next_aims a j (vote_of (took x (u ++ g ∷ []) s j) (voted x k (u ++ g ∷ []) a.first j) (voted x k (u ++ g ∷ []) a.second j)))
-        (at_push x c m order k y u g s j h there.0 there.1)
-        (aimed_push x (u ++ g ∷ []) j (voted x k (u ++ g ∷ []) a.first j) a.first r) (aimed_push x (u ++ g ∷ []) j (voted x k (u ++ g ∷ []) a.second j) a.second t) first.1 second.1))
+    let there = others-on x.n (u ++ g ∷ []) j i in
+    let first = voted_may x k (u ++ g ∷ []) g s a.first j h.sends r in
+    let second = voted_may x k (u ++ g ∷ []) g s a.second j h.sends t in
+    one_choice x c m order y k (u ++ g ∷ []) g s a h.sends r t j i
+    (complete x c m order y k (u ++ g ∷ []) j (sender_of x.traitor j (took x (u ++ g ∷ []) s j))
+    (next_aims a j (vote_of (took x (u ++ g ∷ []) s j) (voted x k (u ++ g ∷ []) a.first j) (voted x k (u ++ g ∷ []) a.second j)))
+    (at_push x c m order k y u g s j h there.0 there.1)
+    (aimed_push x (u ++ g ∷ []) j (voted x k (u ++ g ∷ []) a.first j) a.first r) (aimed_push x (u ++ g ∷ []) j (voted x k (u ++ g ∷ []) a.second j) a.second t) first.1 second.1))
     in
     let p : PlanWithin x.f x.traitor (suc k) (others x.n (u ++ g ∷ [])) s a (attacks b.choices) =
     plan_within x.f x.traitor k (others x.n (u ++ g ∷ [])) s a b.choices b.chosen

@@ -105,13 +105,13 @@ cost_within x (suc k) w g s a h counted =
     let later : sum_by (λ j. attacks_by s (own j) + attacks_from x.n x.traitor x.M k (w ++ j ∷ []) j) (others x.n w) ≤ sum_by cost (others x.n w) =
     sum_at (λ j. attacks_by s (own j) + attacks_from x.n x.traitor x.M k (w ++ j ∷ []) j) cost (others x.n w)
     (λ j i.
-        let c : Child x k w s a h.choices j = child x k w s a h j i in
-        let rest = cost_within x k (w ++ j ∷ []) j (sender_of x.traitor j c.choice.vote.taken) (next_aims a j c.choice.vote) c.follows (counted_sender x j c.choice.vote.taken) in
-        let price = c.cost in
-        let e : own j ≡ c.choice.vote.taken = ap (λ (o : Option Choice). pick o (λ (z : Choice). z.vote.taken)) c.found in
-        let d : cost j ≡ c.choice.attacks = ap (λ (o : Option Choice). pick o (λ (z : Choice). z.attacks)) c.found in
-        let b : attacks_by s (own j) ≡ attacks_by s c.choice.vote.taken = ap (attacks_by s) e in
-        omega arith)
+    let c : Child x k w s a h.choices j = child x k w s a h j i in
+    let rest = cost_within x k (w ++ j ∷ []) j (sender_of x.traitor j c.choice.vote.taken) (next_aims a j c.choice.vote) c.follows (counted_sender x j c.choice.vote.taken) in
+    let price = c.cost in
+    let e : own j ≡ c.choice.vote.taken = ap (λ (o : Option Choice). pick o (λ (z : Choice). z.vote.taken)) c.found in
+    let d : cost j ≡ c.choice.attacks = ap (λ (o : Option Choice). pick o (λ (z : Choice). z.attacks)) c.found in
+    let b : attacks_by s (own j) ≡ attacks_by s c.choice.vote.taken = ap (attacks_by s) e in
+    omega arith)
     in
     let all : map (λ (z : Choice). z.attacks) h.choices ≡ map cost (others x.n w) =
     votes_are (flat_map (λ i. choices_of (λ q b. plan x.f x.traitor k (without (others x.n w) i) q b) s x.traitor a i) (others x.n w)) (λ (z : Choice). z.attacks) cost (others x.n w) h.choices is.choices (others-distinct x.n w)

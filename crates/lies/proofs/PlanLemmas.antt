@@ -151,11 +151,11 @@ choice_for choices [] zs j h i = absurd (false≢true i)
 choice_for choices (g ∷ js) [] j h i = absurd h
 choice_for choices (g ∷ js) (z ∷ zs) j h i = elim (cases_Bool (z.general == j)) [
   | inl here ↦ record {
-      choice = z;
-      found = cond-true (z.general == j) (Some z) (find (λ (choice : Choice). choice.general == j) zs) here;
-      listed = h.0;
-      own = eqb-true z.general j here;
-    }
+    choice = z;
+    found = cond-true (z.general == j) (Some z) (find (λ (choice : Choice). choice.general == j) zs) here;
+    listed = h.0;
+    own = eqb-true z.general j here;
+  }
   | inr apart ↦
       let there : on js j ≡ true = elim (or_cases (g == j) (on js j) i) [
         | inl it ↦ absurd (false≢true (sym apart ∙ eq-eqb z.general j (h.1 ∙ eqb-true g j it)))

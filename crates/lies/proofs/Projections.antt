@@ -73,9 +73,9 @@ unfolding majority
 majority_most xs v e ne = cases_find (is_most xs) xs (length xs < 2 * count_by (λ x. x == v) xs)
     (λ none. absurd (ne (sym (sym (ap (λ (o : Option ℕ). unwrap_or o 0) none) ∙ e))))
     (λ u found.
-        let same : u ≡ v = sym (ap (λ (o : Option ℕ). unwrap_or o 0) found) ∙ e in
-        let most : length xs < 2 * count_by (λ x. x == u) xs = ltb-true (length xs) (2 * count_by (λ x. x == u) xs) (find_passes (is_most xs) xs u found) in
-        rw same at most)
+    let same : u ≡ v = sym (ap (λ (o : Option ℕ). unwrap_or o 0) found) ∙ e in
+    let most : length xs < 2 * count_by (λ x. x == u) xs = ltb-true (length xs) (2 * count_by (λ x. x == u) xs) (find_passes (is_most xs) xs u found) in
+    rw same at most)
 
 majority_commutes : (v : ℕ) → v ≢ 0 → (xs : List ℕ) → majority (map (is_v v) xs) ≡ is_v v (majority xs)
 majority_commutes v ne xs = elim (cases_lt (length xs) (2 * count_by (λ x. x == v) xs)) [

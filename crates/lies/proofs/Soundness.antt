@@ -220,9 +220,9 @@ sound x (suc k) w s a h r t =
     let met = meets_parts x.f a h.choices is.meeting in
     let below : (j : ℕ) (i : on (others x.n w) j ≡ true) → BothDecide x k (w ++ j ∷ []) (next_aims a j (child x k w s a h j i).choice.vote) =
     λ j i.
-        let c : Child x k w s a h.choices j = child x k w s a h j i in
-        sound x k (w ++ j ∷ []) (sender_of x.traitor j c.choice.vote.taken) (next_aims a j c.choice.vote) c.follows
-        (aimed_push x w j c.choice.vote.first a.first r) (aimed_push x w j c.choice.vote.second a.second t)
+    let c : Child x k w s a h.choices j = child x k w s a h j i in
+    sound x k (w ++ j ∷ []) (sender_of x.traitor j c.choice.vote.taken) (next_aims a j c.choice.vote) c.follows
+    (aimed_push x w j c.choice.vote.first a.first r) (aimed_push x w j c.choice.vote.second a.second t)
     in
     record {
       first = step_decides x k w s a h (λ (v : Vote). v.first) a.first r met.0
@@ -240,9 +240,12 @@ pub extends : (n : ℕ) (w u : List ℕ) → AllBelow n u → is_distinct u ≡ 
 extends n w [] b d off = tt
 extends n w (j ∷ u) b d off =
     let both = and_parts (not (on u j)) (is_distinct u) d in
-    let out : on u j ≡ false = not-true (on u j) both.0 in
-    (b.0, off j (or_here j u), extends n (w ++ j ∷ []) u b.1 both.1
-    (λ g i. on-push w j g ∙ or_from (on w g) (j == g) (off g (or_there j u g i)) (ne_eqb j g (λ same. false≢true (sym out ∙ (ap (on u) same ∙ i))))))
+    let out : on u j ≡ false = not-true (on u j) both.0 in (
+      b.0,
+      off j (or_here j u),
+      extends n (w ++ j ∷ []) u b.1 both.1
+          (λ g i. on-push w j g ∙ or_from (on w g) (j == g) (off g (or_there j u g i)) (ne_eqb j g (λ same. false≢true (sym out ∙ (ap (on u) same ∙ i))))),
+    )
   where
     or_here : (j : ℕ) (u : List ℕ) → on (j ∷ u) j ≡ true
     or_here j u = on_in (j ∷ u) j (inl refl)

@@ -38,7 +38,14 @@ pub(crate) fn cheapest_attempt<C: Combine>(
     let off = others(generals, &[commander]);
     let mut best: Option<Success> = None;
     for attempt in &attempts {
-        let found = plan(rule, traitors, bound, off.as_slice(), attempt.sender, &attempt.aims);
+        let found = plan(
+            rule,
+            traitors,
+            bound,
+            off.as_slice(),
+            attempt.sender,
+            &attempt.aims,
+        );
         if let Some(plan) = found {
             let attacks = total(plan.as_slice(), bound);
             if is_cheaper(attacks, best) {
@@ -127,8 +134,14 @@ fn disagreement(first: u8, second: u8) -> Attempt
     Attempt {
         sender: Sender::Traitor,
         aims: Aims {
-            first: Some(Aim { general: first, order: 0 }),
-            second: Some(Aim { general: second, order: 1 }),
+            first: Some(Aim {
+                general: first,
+                order: 0,
+            }),
+            second: Some(Aim {
+                general: second,
+                order: 1,
+            }),
         },
     }
 }
@@ -140,7 +153,10 @@ fn disobedience(general: u8, order: u32, other: u32) -> Attempt
     Attempt {
         sender: Sender::Loyal(order),
         aims: Aims {
-            first: Some(Aim { general, order: other }),
+            first: Some(Aim {
+                general,
+                order: other,
+            }),
             second: None,
         },
     }

@@ -58,7 +58,10 @@ pub fn shortest_break(
     for count in 0..most.min(generals) + 1 {
         if let Some(found) = cheapest_break(alloc, &rule, generals, bound, commander, count)? {
             let table = written(alloc, &found, generals, bound, commander, rule)?;
-            let Found { traitors, success: _ } = found;
+            let Found {
+                traitors,
+                success: _,
+            } = found;
             return Ok(Some(BreakTable { traitors, table }));
         }
     }

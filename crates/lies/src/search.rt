@@ -37,8 +37,14 @@ pub(crate) fn cheapest_break<C: Combine>(
     for set in 0..1u32 << generals {
         let traitors = members(generals, set);
         if traitors.len() == usize::from(count) {
-            let success =
-                cheapest_attempt(alloc, rule, generals, bound, commander, traitors.as_slice())?;
+            let success = cheapest_attempt(
+                alloc,
+                rule,
+                generals,
+                bound,
+                commander,
+                traitors.as_slice(),
+            )?;
             best = cheaper(best, traitors, success);
         }
     }
@@ -60,7 +66,11 @@ fn members(generals: u8, set: u32) -> ArrayVec<u8, 13>
 }
 
 /// Returns the best break so far, or the success of these traitors if it is cheaper.
-fn cheaper(best: Option<Found>, traitors: ArrayVec<u8, 13>, success: Option<Success>) -> Option<Found>
+fn cheaper(
+    best: Option<Found>,
+    traitors: ArrayVec<u8, 13>,
+    success: Option<Success>,
+) -> Option<Found>
     ensures { result ≡ cheaper_break best traitors success }
 {
     match (best, success) {

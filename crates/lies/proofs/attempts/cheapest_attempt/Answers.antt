@@ -60,9 +60,9 @@ loop-attempt-preserved g c =
                 (one_kept f c.args.generals c.args.bound c.args.commander c.args.traitors.now tried x c.loop-attempt.best w.in-Some.plan.items w.total-attacks.result w.is_cheaper.result c.loop-attempt.invariant.least there w.is_cheaper.ensures.none w.is_cheaper.ensures.some w.if-is_cheaper.false cost));
           }
       | in_default w ↦ record {
-          success = subst S (sym w.best-is) c.loop-attempt.invariant.success;
-          least = subst (N (take (c.loop-attempt.attempt-index + 1) c.deref-attempt-items.result.now)) (sym w.best-is)
-              (subst (λ (as' : List Attempt). N as' c.loop-attempt.best) (sym more)
-              (one_failed f c.args.generals c.args.bound c.args.commander c.args.traitors.now tried x c.loop-attempt.best c.loop-attempt.invariant.least (planned ∙ ap items_of w.in_default.is)));
-        }
+        success = subst S (sym w.best-is) c.loop-attempt.invariant.success;
+        least = subst (N (take (c.loop-attempt.attempt-index + 1) c.deref-attempt-items.result.now)) (sym w.best-is)
+            (subst (λ (as' : List Attempt). N as' c.loop-attempt.best) (sym more)
+            (one_failed f c.args.generals c.args.bound c.args.commander c.args.traitors.now tried x c.loop-attempt.best c.loop-attempt.invariant.least (planned ∙ ap items_of w.in_default.is)));
+      }
     ]

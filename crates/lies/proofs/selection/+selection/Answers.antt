@@ -52,13 +52,13 @@ cheapest_by-loop-choice-preserved g t c =
             cheap = subst Cheap (sym w.best-is) w.cheaper-best.ensures.cheap;
           }
       | cheapest_by-else-choice-general w ↦ record {
-          kept = ap (λ v. v.items) w.begun-is ∙ c.loop-choice.invariant.kept;
-          best =
-              ap items_of w.best-is
-              ∙ (c.loop-choice.invariant.best
-              ∙ step_other passes c.args.begun.now.items (selections c.args.choices.now c.args.later.now) own c.args.choices.now c.loop-choice.choice-index none c.loop-choice-test.true (ne_eqb x.general c.args.general w.if-choice-general.false));
-          cheap = subst Cheap (sym w.best-is) c.loop-choice.invariant.cheap;
-        }
+        kept = ap (λ v. v.items) w.begun-is ∙ c.loop-choice.invariant.kept;
+        best =
+            ap items_of w.best-is
+            ∙ (c.loop-choice.invariant.best
+            ∙ step_other passes c.args.begun.now.items (selections c.args.choices.now c.args.later.now) own c.args.choices.now c.loop-choice.choice-index none c.loop-choice-test.true (ne_eqb x.general c.args.general w.if-choice-general.false));
+        cheap = subst Cheap (sym w.best-is) c.loop-choice.invariant.cheap;
+      }
     ]
 
 pub cheapest_by-returns-clause-plan : goal.cheapest_by-returns-clause-plan
