@@ -1,32 +1,28 @@
 -- The loyal lieutenants agree if no attempt succeeds, and a successful attempt breaks their agreement.
-use Rattle.std.proofs.Common.{ℕ, zero, suc, ◌+◌, ◌<◌, ◌≤◌, ◌≡◌, ◌≢◌, Bool, true, false, not, cond, List, [], ◌∷◌, ◌++◌, map, length, refl, sym, ap, subst, ◌∙◌, arith, inl, inr, Option, None, Some}
-use Rattle.std.specs.Prelude.{count_by, filter, flat_map, ◌||◌, ◌==◌, ◌⊎◌}
-use Rattle.std.proofs.lemmas.Bool.{cases_Bool, cases_lt, or_from, or_parts, eq-eqb, ne_eqb, eqb-false, cond-true, cond-false, false≢true, true≢false}
+use Rattle.std.proofs.Common.{ℕ, ◌<◌, ◌≤◌, ◌≡◌, Bool, true, false, cond, List, [], ◌∷◌, map, refl, sym, ap, ◌∙◌, arith, inl, inr, None, Some}
+use Rattle.std.specs.Prelude.{count_by, filter, ◌==◌, ◌⊎◌}
+use Rattle.std.proofs.lemmas.Bool.{cases_Bool, or_from, ne_eqb, cond-true, cond-false, false≢true}
 use Rattle.combine.specs.declared.campaign_rule.Rule.{Rule}
 use Rattle.combine.specs.Rule.{combined_by}
-use Rattle.label.specs.Labels.{on, is_distinct, generals, others}
-use Rattle.label.specs.Oral.{AllBelow, IsLabel, Messages, taken, heard, om, order_of, IsFaithful, IsLoyalLieutenant, Agree}
-use Rattle.label.proofs.Counting.{on-filter, others-on, range-on}
+use Rattle.label.specs.Labels.{on, generals, others}
+use Rattle.label.specs.Oral.{Messages, om, order_of, IsLoyalLieutenant, Agree}
+use Rattle.label.proofs.Counting.{on-filter, range-on}
 use Rattle.label.proofs.Counts.{among}
-use Rattle.lies.specs.Attempts.{IsIn, attempts, attempts_on, disagreement, disobedience, plan_for, Succeeds, NoneCheaper, NoneCheaperAmong}
+use Rattle.lies.specs.Attempts.{IsIn, attempts, disagreement, disobedience, plan_for, NoneCheaperAmong}
 use Rattle.lies.specs.Break.{ToleratesUnder, attacks_in}
-use Rattle.lies.specs.Plans.{attacks, plan, sender_of}
-use Rattle.lies.specs.PlannedMessages.{message, planned}
+use Rattle.lies.specs.Plans.{attacks, plan}
 use Rattle.lies.specs.TwoOrders.{Within}
-use Rattle.lies.specs.declared.aim.Aim.{Aim}
 use Rattle.lies.specs.declared.aim.Aims.{Aims}
 use Rattle.lies.specs.declared.attempt.Attempt.{Attempt}
-use Rattle.lies.specs.declared.attempt.Success.{Success}
 use Rattle.lies.specs.declared.choice.Choice.{Choice}
 use Rattle.lies.specs.declared.sender.Sender.{Sender}
 use Rattle.lies.specs.declared.sender.Sender.TheVariants.{Loyal, Traitor}
 use Rattle.lies.proofs.Aims.{Setting, IsReceiver, IsAimed, Decides}
 use Rattle.lies.proofs.Completeness.{Played, At, Sends, complete, om_small, below_two}
-use Rattle.lies.proofs.Costs.{IsCounted, SameAt, cost_within, same_from}
-use Rattle.lies.proofs.Members.{on_in, in_on, in_left, in_flat_map, in_map, in_filter, from_flat_map, from_map, FromFlatMap, FromMap}
+use Rattle.lies.proofs.Costs.{same_from}
+use Rattle.lies.proofs.Members.{on_in, in_on, in_flat_map, in_map, in_filter}
 use Rattle.lies.proofs.PlanLemmas.{PlanWithin}
 use Rattle.lies.proofs.Projections.{proved_rules_project}
-use Rattle.lies.proofs.Soundness.{Follows, BothDecide, Extends, extends, relays, sound}
 use Rattle.lies.proofs.TwoOrderLaws.{proved_two_orders_suffice}
 
 -- States that the messages are those of a campaign with these traitors, in which everyone takes 0 or 1.

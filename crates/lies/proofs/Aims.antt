@@ -1,8 +1,7 @@
 -- Aims at loyal lieutenants off a label, and what they are to decide about it.
 use Rattle.std.proofs.Common.{ℕ, zero, suc, ◌<◌, ◌≡◌, ◌≢◌, Bool, true, false, not, cond, List, [], ◌∷◌, ◌++◌, map, refl, sym, ap, ◌∙◌, inl, inr, Option, None, Some}
-use Rattle.std.specs.Prelude.{◌||◌, ◌==◌, ◌⊎◌}
-use Rattle.std.proofs.lemmas.Bool.Decides.{eqb_tells}
-use Rattle.std.proofs.lemmas.Bool.{cases_Bool, or_from, ne_eqb, eq-eqb, eqb-true, eqb-false, cond-true, cond-false, false≢true}
+use Rattle.std.specs.Prelude.{◌||◌, ◌==◌}
+use Rattle.std.proofs.lemmas.Bool.{cases_Bool, or_from, ne_eqb, eq-eqb, eqb-true, cond-true, cond-false, false≢true}
 use Rattle.label.specs.Labels.{on, others}
 use Rattle.label.specs.Oral.{Messages, taken, om}
 use Rattle.label.proofs.Counting.{on-push}

@@ -1,17 +1,15 @@
 -- A successful attempt is a break: loyal generals are faithful in its messages, and the decisions break IC1 or IC2.
-use Rattle.std.proofs.Common.{ℕ, zero, suc, ◌+◌, ◌^◌, ◌<◌, ◌≤◌, ◌≡◌, ◌≢◌, Bool, true, false, not, cond, List, [], ◌∷◌, ◌++◌, map, length, refl, sym, ap, subst, ◌∙◌, arith, inl, inr, Option, None, Some}
-use Rattle.std.specs.Prelude.{count_by, filter, flat_map, ◌||◌, ◌==◌, ◌⊎◌}
-use Rattle.std.proofs.lemmas.Bool.{cases_Bool, cases_lt, and_parts, or_from, or_parts, not-true, eq-eqb, eqb-true, ne_eqb, eqb-false, cond-true, cond-false, false≢true, true≢false}
-use Rattle.label.specs.Labels.{on, is_distinct, generals, others}
-use Rattle.label.specs.Oral.{AllBelow, IsLabel, Messages, taken, heard, om, IsFaithful, IsLoyalLieutenant, Agree}
+use Rattle.std.proofs.Common.{ℕ, ◌<◌, ◌≤◌, ◌≡◌, ◌≢◌, Bool, true, false, not, List, [], ◌∷◌, ◌++◌, map, length, refl, sym, ap, subst, ◌∙◌, arith, inl, inr, Some}
+use Rattle.std.specs.Prelude.{◌==◌, ◌⊎◌}
+use Rattle.std.proofs.lemmas.Bool.{and_parts, or_from, or_parts, not-true, ne_eqb, eqb-false, false≢true}
+use Rattle.label.specs.Labels.{on, is_distinct, others}
+use Rattle.label.specs.Oral.{IsLabel, taken, om, IsFaithful, IsLoyalLieutenant}
 use Rattle.label.proofs.Counting.{others-on}
 use Rattle.book.specs.WrittenLaws.{AreOrders}
 use Rattle.lies.specs.Attempts.{IsIn, attempts, attempts_on, disagreement, disobedience, plan_for, Succeeds}
 use Rattle.lies.specs.Break.{Breaks, attacks_in}
-use Rattle.lies.specs.BreakTrees.{messages_of}
-use Rattle.lies.specs.Plans.{attacks, plan}
+use Rattle.lies.specs.Plans.{attacks}
 use Rattle.lies.specs.PlannedMessages.{received, message, planned}
-use Rattle.lies.specs.declared.aim.Aims.{Aims}
 use Rattle.lies.specs.declared.attempt.Attempt.{Attempt}
 use Rattle.lies.specs.declared.attempt.Success.{Success}
 use Rattle.lies.specs.declared.choice.Choice.{Choice}
@@ -19,9 +17,9 @@ use Rattle.lies.specs.declared.sender.Sender.{Sender}
 use Rattle.lies.specs.declared.sender.Sender.TheVariants.{Loyal, Traitor}
 use Rattle.lies.proofs.Aims.{Setting, IsReceiver}
 use Rattle.lies.proofs.Costs.{cost_within}
-use Rattle.lies.proofs.Members.{on_in, in_on, from_flat_map, from_map, FromFlatMap, FromMap}
-use Rattle.lies.proofs.SmallOrders.{IsSmallSender, AreSmall, small_planned}
-use Rattle.lies.proofs.Soundness.{Follows, BothDecide, Extends, extends, relays, sound, own_message}
+use Rattle.lies.proofs.Members.{on_in, from_flat_map, from_map, FromFlatMap, FromMap}
+use Rattle.lies.proofs.SmallOrders.{small_planned}
+use Rattle.lies.proofs.Soundness.{Follows, BothDecide, extends, relays, sound, own_message}
 
 -- States that the attempt is that two loyal lieutenants disagree under a traitor.
 pub record Disagrees (n c : ℕ) (traitors : List ℕ) (attempt : Attempt) : Type 0 where

@@ -5,10 +5,9 @@ use Rattle.std.proofs.lemmas.Bool.{cases_lt, cases_Bool, cond-true, cond-false}
 use Rattle.std.proofs.lemmas.Option.{slice_get_within}
 use Rattle.std.proofs.lemmas.Slice.Eq.{bytes_eq-Decides}
 use Rattle.label.specs.Labels.{on, labels}
-use Rattle.label.specs.Oral.{Messages, IsLabel, om}
+use Rattle.label.specs.Oral.{Messages, IsLabel}
 use Rattle.label.proofs.Listing.{proved_labels_are_exact}
 use Rattle.tree.specs.LieutenantTree.{LieutenantTree, IsFilled, SameCampaign, levels_from, told_also}
-use Rattle.resolve.specs.Decided.{Decides}
 use Rattle.book.specs.Trees.{tree_of}
 use Rattle.book.proofs.TreeLemmas.{refilled}
 use Rattle.lies.specs.BreakTrees.{HoldsBelow}

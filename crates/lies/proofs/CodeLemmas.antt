@@ -8,7 +8,7 @@ use Rattle.std.proofs.lemmas.List.Concat.{flat_map-append}
 use Rattle.std.proofs.lemmas.List.Elements.{filter-append}
 use Rattle.std.proofs.lemmas.List.FromFn.{length-range_with_len}
 use Rattle.std.proofs.lemmas.List.Sums.{length-filter, count_by-le-length}
-use Rattle.label.specs.Labels.{on, generals, others}
+use Rattle.label.specs.Labels.{generals, others}
 use Rattle.label.proofs.Ranks.{others-count}
 use Rattle.lies.specs.Plans.{all_votes, attacks, attacks_by, cheapest, choices_of, chosen, may_cast, meets, next_aims, plan, selections, sender_of, without}
 use Rattle.lies.specs.PlannedMessages.{after, choice_in, message, received}

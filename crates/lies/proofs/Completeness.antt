@@ -1,12 +1,11 @@
 -- Whatever traitors say with the orders 0 and 1, there is a plan for the decisions that their messages lead to, and it needs no more orders other than RETREAT.
-use Rattle.std.proofs.Common.{ℕ, zero, suc, ◌+◌, ◌<◌, ◌≤◌, ◌≡◌, ◌≢◌, Bool, true, false, not, cond, List, [], ◌∷◌, ◌++◌, map, length, refl, sym, ap, subst, ◌∙◌, arith, inl, inr, Option, None, Some, length-append, add-zero}
+use Rattle.std.proofs.Common.{ℕ, zero, suc, ◌+◌, ◌<◌, ◌≤◌, ◌≡◌, Bool, true, false, not, cond, List, [], ◌∷◌, ◌++◌, map, length, refl, sym, ap, ◌∙◌, arith, inl, inr, Option, None, Some, length-append}
 use Rattle.std.specs.Prelude.{◌&&◌, ◌||◌, ◌==◌, ◌⊎◌, flat_map, sum_by, count_by}
-use Rattle.std.proofs.lemmas.Bool.Decides.{nat_tests}
-use Rattle.std.proofs.lemmas.Bool.{cases_Bool, and_from, or_from, eqb-true, eq-eqb, ne_eqb, cond-true, cond-false, false≢true, true≢false}
+use Rattle.std.proofs.lemmas.Bool.{cases_Bool, and_from, eqb-true, eq-eqb, cond-true, cond-false}
 use Rattle.std.proofs.lemmas.List.Sums.{sum_by-cons}
 use Rattle.label.specs.Labels.{on, others}
-use Rattle.label.specs.Oral.{AllBelow, IsLabel, Messages, taken, om, order_of, heard, IsFaithful}
-use Rattle.label.proofs.Counting.{on-push, others-on}
+use Rattle.label.specs.Oral.{AllBelow, IsLabel, taken, om, order_of, IsFaithful}
+use Rattle.label.proofs.Counting.{others-on}
 use Rattle.label.proofs.Pushes.{IsLabel-push, heard-push}
 use Rattle.lies.specs.Attempts.{IsIn}
 use Rattle.lies.specs.Break.{attacks_at, attacks_from}

@@ -1,21 +1,21 @@
 -- The orders that traitors send: those of a plan are no more than its cost, and messages that agree at all places have the same.
 use Rattle.std.proofs.Common.{ℕ, zero, suc, ◌+◌, ◌<◌, ◌≤◌, ◌≡◌, Bool, true, false, not, cond, List, [], ◌∷◌, ◌++◌, map, length, refl, sym, ap, ◌∙◌, arith, inl, inr, Option, None, Some, length-append}
 use Rattle.std.specs.Prelude.{count_by, sum_by, flat_map, ◌&&◌, ◌==◌, ◌⊎◌}
-use Rattle.std.proofs.lemmas.Bool.{cases_Bool, and_parts, not-true, eq-eqb, ne_eqb, cond-true, cond-false, false≢true, true≢false}
+use Rattle.std.proofs.lemmas.Bool.{cases_Bool, cond-true, cond-false, true≢false}
 use Rattle.std.proofs.lemmas.List.Sums.{sum_by-cons}
-use Rattle.label.specs.Labels.{on, is_distinct, others}
+use Rattle.label.specs.Labels.{on, others}
 use Rattle.label.specs.Oral.{IsLabel, Messages, taken, order_of}
 use Rattle.label.proofs.Counting.{others-on, others-distinct}
 use Rattle.label.proofs.Pushes.{IsLabel-push}
 use Rattle.lies.specs.Break.{attacks_at, attacks_from}
-use Rattle.lies.specs.Plans.{without, sender_of, next_aims, attacks, attacks_by, choices_of, last_taken, last_choice, last_plan, plan}
+use Rattle.lies.specs.Plans.{without, sender_of, next_aims, attacks, attacks_by, choices_of, last_taken, last_choice, plan}
 use Rattle.lies.specs.PlannedMessages.{choice_in}
 use Rattle.lies.specs.declared.aim.Aims.{Aims}
 use Rattle.lies.specs.declared.choice.Choice.{Choice}
 use Rattle.lies.specs.declared.sender.Sender.{Sender}
 use Rattle.lies.specs.declared.sender.Sender.TheVariants.{Loyal, Traitor}
 use Rattle.lies.proofs.Members.{on_in, in_on}
-use Rattle.lies.proofs.PlanLemmas.{AreChosen, attacks_none, attacks_cons, votes_are, IsPlan, plan_is}
+use Rattle.lies.proofs.PlanLemmas.{attacks_none, attacks_cons, votes_are, IsPlan, plan_is}
 use Rattle.lies.proofs.Aims.{Setting}
 use Rattle.lies.proofs.Soundness.{Follows, Child, child, takes_choice, last_taken_by}
 

@@ -1,7 +1,7 @@
 -- What is known of a plan: it is a selection of choices, one for each general off the label, and no selection that meets the aims is cheaper.
-use Rattle.std.proofs.Common.{ℕ, zero, suc, ◌+◌, ◌<◌, ◌≤◌, ◌≡◌, ◌≢◌, Bool, true, false, not, cond, List, [], ◌∷◌, ◌++◌, map, refl, sym, ap, subst, ◌∙◌, arith, inl, inr, Option, None, Some}
-use Rattle.std.specs.Prelude.{filter, find, flat_map, sum_by, nat_lt, ◌&&◌, ◌||◌, ◌==◌, ◌⊎◌}
-use Rattle.std.proofs.lemmas.Bool.{cases_Bool, and_parts, and_from, not-true, or_parts, or_left, or_right, or_cases, eqb-true, eq-eqb, ne_eqb, cond-true, cond-false, ltb-true, ltb-false, false≢true}
+use Rattle.std.proofs.Common.{ℕ, suc, ◌+◌, ◌<◌, ◌≤◌, ◌≡◌, Bool, true, false, not, cond, List, [], ◌∷◌, ◌++◌, map, refl, sym, ap, subst, ◌∙◌, arith, inl, inr, Option, None, Some}
+use Rattle.std.specs.Prelude.{filter, find, flat_map, nat_lt, ◌||◌, ◌==◌}
+use Rattle.std.proofs.lemmas.Bool.{cases_Bool, and_parts, not-true, or_left, or_right, or_cases, eqb-true, eq-eqb, ne_eqb, cond-true, cond-false, ltb-true, ltb-false, false≢true}
 use Rattle.std.proofs.lemmas.List.Sums.{sum_by-cons}
 use Rattle.label.specs.Labels.{on, is_distinct, others, generals}
 use Rattle.label.proofs.Counting.{on-push}

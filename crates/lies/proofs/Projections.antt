@@ -1,14 +1,14 @@
 -- Maps of orders to 0 and 1 with which the rules commute.
-use Rattle.std.proofs.Common.{ℕ, zero, suc, ◌+◌, ◌*◌, ◌/◌, ◌<◌, ◌≤◌, ◌≡◌, ◌≢◌, Bool, true, false, cond, List, [], ◌∷◌, map, length, refl, sym, ap, ◌∙◌, arith, inl, inr, Option, None, Some}
-use Rattle.std.specs.Prelude.{count_by, find, sum_by, unwrap_or, nat_lt, nat_le, ◌&&◌, ◌==◌, ◌⊎◌}
+use Rattle.std.proofs.Common.{ℕ, zero, suc, ◌+◌, ◌*◌, ◌/◌, ◌<◌, ◌≤◌, ◌≡◌, ◌≢◌, Bool, true, false, cond, List, [], ◌∷◌, map, length, refl, sym, ap, ◌∙◌, arith, inl, inr, Option, Some}
+use Rattle.std.specs.Prelude.{count_by, find, sum_by, unwrap_or, nat_lt, nat_le, ◌==◌, ◌⊎◌}
 use Rattle.std.proofs.lemmas.Bool.Decides.{nat_tests}
-use Rattle.std.proofs.lemmas.Bool.{cases_Bool, cases_eq, cases_lt, cases_order, and_parts, and_from, lt-ltb, le-ltb, le-leb, ltb-true, ltb-false, leb-true, leb-false, eqb-true, eq-eqb, ne_eqb, cond-true, cond-false, true≢false}
+use Rattle.std.proofs.lemmas.Bool.{cases_Bool, cases_eq, cases_lt, cases_order, and_parts, and_from, lt-ltb, le-ltb, le-leb, ltb-true, leb-true, eq-eqb, ne_eqb, cond-true, cond-false}
 use Rattle.std.proofs.lemmas.List.{length-map}
 use Rattle.std.proofs.lemmas.List.Sums.{sum_by-cons}
 use Rattle.combine.specs.declared.campaign_rule.Rule.{Rule}
 use Rattle.combine.specs.declared.campaign_rule.Rule.TheVariants.{Majority, Median}
 use Rattle.combine.specs.Rule.{combined_by, is_most, is_middle, majority, median}
-use Rattle.combine.specs.Laws.{find_only, most_found, majority_is_rule, only_middle}
+use Rattle.combine.specs.Laws.{find_only, majority_is_rule, only_middle}
 use Rattle.combine.proofs.Found.{find_passes, cases_find}
 use Rattle.label.specs.Oral.{AllBelow}
 use Rattle.lies.specs.TwoOrders.{Projection, RulesProject}

@@ -1,22 +1,17 @@
 -- The search over the sets of traitors, and what it shows.
-use Rattle.std.proofs.Common.{ℕ, zero, suc, ◌+◌, ◌-◌, ◌*◌, ◌^◌, ◌/◌, ◌%◌, ◌<◌, ◌≤◌, ◌≡◌, ◌≢◌, Bool, true, false, not, cond, List, [], ◌∷◌, ◌++◌, map, length, refl, sym, ap, subst, ◌∙◌, arith, inl, inr, Option, None, Some}
-use Rattle.std.specs.Prelude.{count_by, filter, nat_lt, ◌==◌, ◌⊎◌}
-use Rattle.std.specs.Int.{bit_at}
-use Rattle.std.proofs.lemmas.Bool.{cases_Bool, cases_lt, cases_order, cond-true, cond-false, ltb-true, ltb-false, false≢true}
-use Rattle.std.proofs.lemmas.List.Sums.{length-filter, sum_by-cons}
+use Rattle.std.proofs.Common.{ℕ, ◌<◌, ◌≤◌, ◌≡◌, Bool, true, cond, List, refl, sym, ap, ◌∙◌, arith, inl, inr, Option, None, Some}
+use Rattle.std.specs.Prelude.{count_by, filter}
+use Rattle.std.proofs.lemmas.Bool.{cases_lt, cases_order}
 use Rattle.combine.specs.declared.campaign_rule.Rule.{Rule}
 use Rattle.combine.specs.Rule.{combined_by}
-use Rattle.label.specs.Labels.{on, generals, others}
-use Rattle.label.specs.Oral.{Messages, Agree}
+use Rattle.label.specs.Labels.{on, generals}
+use Rattle.label.specs.Oral.{Messages}
 use Rattle.label.proofs.Counting.{range-on_within}
-use Rattle.lies.specs.Attempts.{IsIn, attempts, plan_for, members, Succeeds, NoneCheaper, NoneCheaperAmong}
+use Rattle.lies.specs.Attempts.{attempts, NoneCheaper, NoneCheaperAmong}
 use Rattle.lies.specs.Break.{Breaks, IsShortest, ToleratesUnder, attacks_in}
 use Rattle.lies.specs.BreakTrees.{messages_of}
-use Rattle.lies.specs.Plans.{attacks}
-use Rattle.lies.specs.Search.{IsFoundAmong, success_of}
-use Rattle.lies.specs.declared.attempt.Attempt.{Attempt}
+use Rattle.lies.specs.Search.{IsFoundAmong}
 use Rattle.lies.specs.declared.attempt.Success.{Success}
-use Rattle.lies.specs.declared.choice.Choice.{Choice}
 use Rattle.lies.specs.declared.found.Found.{Found}
 use Rattle.lies.proofs.Agreement.{NoneWithin, agree_below, none_tolerated, listed_traitor}
 use Rattle.lies.proofs.BreakLemmas.{IsBreak, break_is}

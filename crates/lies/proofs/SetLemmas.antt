@@ -1,16 +1,16 @@
 -- The search, attempt by attempt and set by set.
-use Rattle.std.proofs.Common.{ℕ, zero, suc, ◌+◌, ◌^◌, ◌<◌, ◌≤◌, ◌≡◌, Bool, true, false, cond, List, [], ◌∷◌, ◌++◌, map, length, get_or, refl, sym, ap, subst, ◌∙◌, arith, inl, inr, Option, None, Some}
-use Rattle.std.specs.Prelude.{count_by, filter, nat_lt, IfNone, IfSome, ◌==◌, ◌⊎◌}
+use Rattle.std.proofs.Common.{ℕ, ◌^◌, ◌<◌, ◌≤◌, ◌≡◌, Bool, true, false, cond, List, [], ◌∷◌, ◌++◌, map, length, refl, sym, ap, subst, ◌∙◌, arith, inl, inr, Option, None, Some}
+use Rattle.std.specs.Prelude.{count_by, filter, nat_lt, IfNone, IfSome, ◌==◌}
 use Rattle.std.specs.Int.{bit_at}
 use lib.Lanes.{mask_l}
-use Rattle.std.proofs.lemmas.Bool.{cases_Bool, cond-true, cond-false, ltb-true, ltb-false, false≢true}
+use Rattle.std.proofs.lemmas.Bool.{ltb-true, ltb-false, false≢true}
 use Rattle.std.proofs.lemmas.List.FromFn.{get_or-map-range_with_len, length-map-range_with_len}
 use Rattle.std.proofs.lemmas.List.Sums.{length-filter}
 use Rattle.std.proofs.lemmas.Simd.{bit_mask_l, mask_l-lt}
 use Rattle.arrayvec.specs.ArrayVec.{ArrayVec}
 use Rattle.label.specs.Labels.{on, generals}
 use Rattle.label.proofs.Counting.{range-on_within}
-use Rattle.lies.specs.Attempts.{IsIn, attempts, plan_for, members, Succeeds, NoneCheaper, NoneCheaperAmong}
+use Rattle.lies.specs.Attempts.{IsIn, plan_for, members, Succeeds, NoneCheaper, NoneCheaperAmong}
 use Rattle.lies.specs.Plans.{attacks}
 use Rattle.lies.specs.Search.{IsFoundAmong, cheaper_break, success_of}
 use Rattle.lies.specs.declared.attempt.Attempt.{Attempt}

@@ -1,9 +1,9 @@
 -- The orders of planned messages are 0 and 1.
 use Rattle.std.proofs.Common.{ℕ, zero, suc, ◌^◌, ◌<◌, ◌≡◌, Bool, true, false, cond, List, [], ◌∷◌, map, refl, sym, ap, subst, ◌∙◌, arith, inl, inr, Option, None, Some}
-use Rattle.std.specs.Prelude.{flat_map, ◌==◌, ◌⊎◌}
+use Rattle.std.specs.Prelude.{flat_map, ◌==◌}
 use Rattle.label.specs.Labels.{others}
 use Rattle.lies.specs.Attempts.{IsIn}
-use Rattle.lies.specs.Plans.{without, sender_of, next_aim, next_aims, all_votes, choices_of, aimed_or, last_taken, last_choice, last_plan, plan}
+use Rattle.lies.specs.Plans.{without, sender_of, next_aim, next_aims, all_votes, choices_of, aimed_or, last_taken, last_choice, plan}
 use Rattle.lies.specs.PlannedMessages.{choice_in, message_of, received, after, message, planned}
 use Rattle.lies.specs.declared.aim.Aim.{Aim}
 use Rattle.lies.specs.declared.aim.Aims.{Aims}

@@ -1,14 +1,13 @@
 -- The messages of a plan lead to its aims, and loyal generals are faithful in them.
-use Rattle.std.proofs.Common.{ℕ, zero, suc, ◌+◌, ◌<◌, ◌≤◌, ◌≡◌, ◌≢◌, Bool, true, false, not, cond, List, [], ◌∷◌, ◌++◌, map, length, refl, sym, ap, subst, ◌∙◌, arith, inl, inr, Option, None, Some, append_assoc}
-use Rattle.std.specs.Prelude.{◌&&◌, ◌||◌, ◌==◌, ◌⊎◌, find, flat_map}
-use Rattle.std.proofs.lemmas.Bool.{cases_Bool, and_parts, or_from, or_parts, not-true, eqb-true, eq-eqb, ne_eqb, eqb-false, cond-true, cond-false, false≢true}
+use Rattle.std.proofs.Common.{ℕ, zero, suc, ◌+◌, ◌<◌, ◌≡◌, Bool, true, false, not, cond, List, [], ◌∷◌, ◌++◌, map, length, refl, sym, ap, subst, ◌∙◌, arith, inl, inr, Option, None, Some, append_assoc}
+use Rattle.std.specs.Prelude.{◌&&◌, ◌||◌, ◌==◌, flat_map}
+use Rattle.std.proofs.lemmas.Bool.{cases_Bool, and_parts, or_from, not-true, eqb-true, ne_eqb, cond-true, cond-false, false≢true}
 use Rattle.std.proofs.lemmas.List.{append-nil}
 use Rattle.label.specs.Labels.{on, is_distinct, others}
-use Rattle.label.specs.Oral.{AllBelow, Messages, taken, om, order_of}
-use Rattle.label.proofs.Counting.{on-push, others-on, others-distinct}
+use Rattle.label.specs.Oral.{AllBelow, taken, order_of}
+use Rattle.label.proofs.Counting.{on-push, others-distinct}
 use Rattle.label.proofs.Counts.{among}
-use Rattle.lies.specs.Attempts.{IsIn}
-use Rattle.lies.specs.Plans.{without, sender_of, may_take, may_vote, may_cast, next_aim, next_aims, attacks, attacks_by, choices_of, is_met, meets, aimed_or, last_taken, is_taken, last_choice, last_plan, plan}
+use Rattle.lies.specs.Plans.{without, sender_of, may_take, may_vote, may_cast, next_aim, next_aims, attacks, attacks_by, choices_of, is_met, meets, last_taken, is_taken, last_choice, last_plan, plan}
 use Rattle.lies.specs.PlannedMessages.{choice_in, message_of, received, after, message}
 use Rattle.lies.specs.declared.aim.Aim.{Aim}
 use Rattle.lies.specs.declared.aim.Aims.{Aims}
@@ -17,8 +16,8 @@ use Rattle.lies.specs.declared.choice.Vote.{Vote}
 use Rattle.lies.specs.declared.sender.Sender.{Sender}
 use Rattle.lies.specs.declared.sender.Sender.TheVariants.{Loyal, Traitor}
 use Rattle.lies.proofs.Members.{on_in, in_on, from_flat_map, FromFlatMap}
-use Rattle.lies.proofs.PlanLemmas.{AreChosen, ChoiceFor, choice_for, votes_are, IsChoice, choice_is, others_without, IsPlan, plan_is}
-use Rattle.lies.proofs.Aims.{Setting, IsReceiver, IsAimed, Decides, receiver_push, entry, om_step, om_last, aimed_push, entry_is}
+use Rattle.lies.proofs.PlanLemmas.{ChoiceFor, choice_for, votes_are, IsChoice, choice_is, others_without, IsPlan, plan_is}
+use Rattle.lies.proofs.Aims.{Setting, IsAimed, Decides, entry, om_step, om_last, aimed_push, entry_is}
 
 -- States that the messages about the label w and the longer ones that begin with it are those of a plan.
 pub record Follows (x : Setting) (k : ℕ) (w : List ℕ) (s : Sender) (a : Aims) : Type 0 where

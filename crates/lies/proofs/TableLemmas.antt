@@ -1,17 +1,16 @@
 -- The message table of a break.
-use Rattle.std.proofs.Common.{ℕ, ◌+◌, ◌^◌, ◌<◌, ◌≤◌, ◌≡◌, Bool, true, false, not, cond, List, [], ◌∷◌, ◌++◌, map, length, refl, sym, ap, ◌∙◌, arith, inl, inr, Option, None, Some, length-append}
-use Rattle.std.specs.Prelude.{◌==◌, ◌⊎◌, find, count_by}
+use Rattle.std.proofs.Common.{ℕ, ◌<◌, ◌≤◌, ◌≡◌, true, false, not, List, [], ◌∷◌, ◌++◌, map, refl, sym, ap, ◌∙◌, arith, inl, inr, Option, Some, length-append}
+use Rattle.std.specs.Prelude.{◌==◌, find, count_by}
 use Rattle.std.proofs.lemmas.Bool.{cases_Bool, cond-true, cond-false, and_parts, and_from, not-true, or_cases, or_from, or_parts, eqb-true, eq-eqb, ne_eqb, true≢false}
 use Rattle.combine.specs.declared.campaign_rule.Rule.{Rule}
 use Rattle.combine.specs.declared.campaign_rule.Rule.TheVariants.{Majority}
 use Rattle.combine.specs.Rule.{combined_by}
 use Rattle.label.specs.Labels.{on, is_distinct, generals}
 use Rattle.label.specs.Lieutenants.{lieutenants}
-use Rattle.label.specs.Oral.{Messages, AllBelow, IsLabel, IsFaithful, IsLoyalLieutenant, Agree, om, order_of}
+use Rattle.label.specs.Oral.{Messages, AllBelow, IsLabel, IsFaithful, order_of}
 use Rattle.label.proofs.Counting.{on-push}
 use Rattle.label.proofs.Counts.{among}
 use Rattle.tree.specs.LieutenantTree.{LieutenantTree, IsCampaign}
-use Rattle.book.specs.Decisions.{decision_of}
 use Rattle.book.specs.Grammar.{is_within, table_told}
 use Rattle.book.specs.Hearing.{heard, value_of}
 use Rattle.book.specs.Table.{AreNumbersWithin, MessageTable, told}
@@ -23,8 +22,8 @@ use Rattle.book.proofs.Hearing.{value_told}
 use Rattle.book.proofs.Places.{is_place_of}
 use Rattle.book.proofs.Reread.{apart_first, limits, place_from, proved_tables_are_read}
 use Rattle.book.proofs.TreeLemmas.{place_of_tree}
-use Rattle.lies.specs.Break.{Breaks, IsBreakTable, IsShortest, HasNumbers, attacks_in}
-use Rattle.lies.proofs.Costs.{SameAt, same_from}
+use Rattle.lies.specs.Break.{Breaks, IsBreakTable, IsShortest, attacks_in}
+use Rattle.lies.proofs.Costs.{same_from}
 
 -- Proves that the search finds the tree of a lieutenant.
 find_tree : (n m c p : ℕ) (M : Messages) (ps : List ℕ) → on ps p ≡ true → find (λ (t : LieutenantTree). t.general == p) (map (tree_of n m c M) ps) ≡ Some (tree_of n m c M p)

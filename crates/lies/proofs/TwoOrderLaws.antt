@@ -1,14 +1,14 @@
 -- The law that the orders 0 and 1 suffice, as specs/TwoOrders states it.
-use Rattle.std.proofs.Common.{ℕ, zero, suc, ◌+◌, ◌<◌, ◌≤◌, ◌≡◌, ◌≢◌, Bool, true, false, not, cond, List, [], ◌∷◌, ◌++◌, map, refl, sym, ap, ◌∙◌, arith, inl, inr, Option, None, Some}
-use Rattle.std.specs.Prelude.{count_by, sum_by, ◌&&◌, ◌==◌, ◌⊎◌}
+use Rattle.std.proofs.Common.{ℕ, zero, suc, ◌<◌, ◌≤◌, ◌≡◌, Bool, true, false, not, cond, List, [], ◌∷◌, ◌++◌, map, refl, sym, ap, ◌∙◌, arith, inl, inr, Option, Some}
+use Rattle.std.specs.Prelude.{count_by, sum_by, ◌&&◌, ◌==◌}
 use Rattle.std.proofs.lemmas.Bool.{cases_eq, eq-eqb, eqb-true, false≢true}
 use Rattle.std.proofs.lemmas.List.Sums.{sum_by-cons}
 use Rattle.combine.specs.declared.campaign_rule.Rule.{Rule}
 use Rattle.combine.specs.Rule.{combined_by}
-use Rattle.label.specs.Labels.{on, others}
-use Rattle.label.specs.Oral.{IsLabel, Messages, taken, heard, om, order_of, IsFaithful, IsLoyalLieutenant, Agree}
+use Rattle.label.specs.Labels.{others}
+use Rattle.label.specs.Oral.{Messages, taken, om, order_of, IsFaithful, Agree}
 use Rattle.label.proofs.Counting.{map_agree}
-use Rattle.lies.specs.Break.{attacks_at, attacks_from, attacks_in}
+use Rattle.lies.specs.Break.{attacks_at, attacks_from}
 use Rattle.lies.specs.TwoOrders.{Projection, TwoOrdersSuffice, Within}
 use Rattle.lies.proofs.Projections.{proved_rules_project}
 

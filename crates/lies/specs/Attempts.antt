@@ -1,6 +1,6 @@
 -- What traitors can attempt: that a loyal lieutenant disobeys a loyal commander, or that two loyal lieutenants disagree
 -- under a commander who is a traitor. The agreement of the loyal lieutenants fails exactly if one of these happens.
-use Rattle.std.specs.Prelude.{ℕ, ◌≤◌, ◌≡◌, ◌==◌, ◌⊎◌, Bool, if◌then◌else◌, List, [], ◌∷◌, map, filter, flat_map, count_by, Option, None, Some}
+use Rattle.std.specs.Prelude.{ℕ, ◌≤◌, ◌≡◌, ◌==◌, ◌⊎◌, Bool, if◌then◌else◌, List, [], ◌∷◌, map, filter, flat_map, Option, None, Some}
 use Rattle.std.specs.Int.{bit_at}
 use Rattle.label.specs.Labels.{on, generals, others}
 use Rattle.lies.specs.declared.aim.Aim.{Aim}

@@ -3,7 +3,7 @@
 -- It exists exactly if some messages of the traitors lead to these decisions, since the messages about the labels that
 -- begin with w.j and those that begin with w.i are independent. Only the orders that loyal generals take for w itself
 -- count in several of these parts, and the plan for w has them.
-use Rattle.std.specs.Prelude.{ℕ, zero, suc, ◌+◌, ◌==◌, ◌&&◌, ◌||◌, not, nat_lt, Bool, true, false, if◌then◌else◌, List, [], ◌∷◌, map, filter, flat_map, sum_by, Option, None, Some}
+use Rattle.std.specs.Prelude.{ℕ, zero, suc, ◌+◌, ◌==◌, ◌&&◌, ◌||◌, not, nat_lt, Bool, true, if◌then◌else◌, List, [], ◌∷◌, map, filter, flat_map, sum_by, Option, None, Some}
 use Rattle.arrayvec.specs.ArrayVec.{ArrayVec}
 use Rattle.lies.specs.declared.aim.Aim.{Aim}
 use Rattle.lies.specs.declared.aim.Aims.{Aims}

@@ -1,7 +1,7 @@
 -- The search over all sets of traitors.
-use Rattle.std.specs.Prelude.{ℕ, ◌<◌, ◌≡◌, nat_lt, Bool, if◌then◌else◌, List, length, count_by, filter, Option, None, Some}
+use Rattle.std.specs.Prelude.{ℕ, ◌≡◌, nat_lt, Bool, if◌then◌else◌, List, count_by, filter, Option, None, Some}
 use Rattle.arrayvec.specs.ArrayVec.{ArrayVec}
-use Rattle.label.specs.Labels.{on, generals}
+use Rattle.label.specs.Labels.{generals}
 use Rattle.lies.specs.Attempts.{Succeeds}
 use Rattle.lies.specs.declared.attempt.Success.{Success}
 use Rattle.lies.specs.declared.found.Found.{Found}

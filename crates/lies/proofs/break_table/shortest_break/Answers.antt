@@ -1,4 +1,4 @@
-use Rattle.std.proofs.Common.{ℕ, ◌≡◌, ◌+◌, ◌≤◌, ◌<◌, ◌∷◌, [], Bool, List, true, map, sym, ap, ◌∙◌, arith, refl, Option, Some}
+use Rattle.std.proofs.Common.{◌≡◌, ◌≤◌, true, map, sym, ◌∙◌, arith, refl}
 use Rattle.std.specs.Prelude.{count_by, string_bytes}
 use Rattle.combine.specs.Rule.{combined_by}
 use Rattle.label.specs.Labels.{on, generals}

@@ -1,4 +1,4 @@
-use Rattle.std.proofs.Common.{◌≡◌, ◌≤◌, ◌∷◌, [], length, sym, ap, ◌∙◌, arith}
+use Rattle.std.proofs.Common.{◌≡◌, ◌∷◌, [], length, ap, ◌∙◌, arith}
 use Rattle.label.specs.Labels.{others}
 use Rattle.lies.proofs.CodeLemmas.{off_few}
 use Rattle.lies.proofs.break_trees.sent.Goals as goal

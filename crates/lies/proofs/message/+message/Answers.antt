@@ -1,6 +1,6 @@
-use Rattle.std.proofs.Common.{ℕ, ◌≡◌, ◌+◌, ◌-◌, ◌*◌, ◌≤◌, ◌<◌, suc, length, sym, ap, ◌∙◌, arith, List, Option, None, Some}
+use Rattle.std.proofs.Common.{◌≡◌, ◌-◌, suc, length, sym, ap, ◌∙◌, arith, List, Option}
 use Rattle.label.specs.Labels.{on}
-use Rattle.lies.specs.Plans.{plan, without}
+use Rattle.lies.specs.Plans.{without}
 use Rattle.lies.specs.PlannedMessages.{choice_in, received}
 use Rattle.lies.specs.declared.choice.Choice.{Choice}
 use Rattle.lies.proofs.CodeLemmas.{message_last, message_step, message_stops, without_few}

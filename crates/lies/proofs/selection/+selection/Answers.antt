@@ -1,10 +1,10 @@
-use Rattle.std.proofs.Common.{ℕ, ◌≡◌, ◌+◌, ◌≤◌, ◌<◌, Bool, true, false, List, [], ◌∷◌, ◌++◌, length, take, refl, sym, ap, subst, ◌∙◌, arith, Option, Some}
+use Rattle.std.proofs.Common.{◌≡◌, Bool, List, [], ◌∷◌, ◌++◌, refl, sym, ap, subst, ◌∙◌, arith, Option, Some}
 use Rattle.std.specs.Prelude.{◌==◌, IfSome, slice_index_or}
 use Rattle.std.proofs.lemmas.Bool.{eq-eqb, ne_eqb}
 use Rattle.std.proofs.lemmas.List.{take_all}
 use Rattle.arrayvec.specs.ArrayVec.{ArrayVec}
 use Rattle.lies.specs.Limits.{AreCheap}
-use Rattle.lies.specs.Plans.{cheaper, items_of, meets, selections}
+use Rattle.lies.specs.Plans.{items_of, meets, selections}
 use Rattle.lies.specs.declared.choice.Choice.{Choice}
 use Rattle.lies.proofs.Selecting.{best_of, best_none, best_all, popped, step_own, step_other, whole_passes, whole_fails}
 use Rattle.lies.proofs.selection.+selection.Goals as goal
