@@ -4,6 +4,10 @@ use mathlib.Core.List.{IsPrefix}
 use Rattle.board.specs.Board.{Access}
 use Rattle.threads.proofs.musters.by_board.Goals as goal
 
+pub judge-requires-clause-all : goal.judge-requires-clause-all
+judge-requires-clause-all g c =
+    g.met.D.Delivered.counted c.args.scenario.now c.in_ok-rounds.rounds.items c.in_ok-rounds.told c.in_ok-rounds.ensures.told ∙ c.in_ok-rounds.ensures.rounds
+
 pub returns-clause-history : goal.returns-clause-history
 returns-clause-history g c =
-    subst (λ (l : List Access). IsPrefix c.args.witness.seen l) (sym (c.conclude.ensures.accesses ∙ c.into_ledger.ensures.same)) c.into_board-board.ensures.met
+    subst (λ (l : List Access). IsPrefix c.args.witness.seen l) (sym c.into_ledger.ensures.same) c.into_board-board.ensures.met
