@@ -10,7 +10,7 @@ use Rattle.world.specs.declared.schedule.Repeat.{Repeat}
 use Rattle.world.specs.Chronicle.{Chronicle, chronicle_of}
 use Rattle.world.specs.KindLists.{replay_world, replayed}
 use Rattle.world.specs.Lists.{listed, names_in}
-use Rattle.world.specs.Promises.{AgreeUnderBound, IsVerdictOn, IsWellUnderBound}
+use Rattle.world.specs.Promises.{AgreeIfTolerable, IsVerdictOn, IsWellUnderBound}
 use Rattle.world.specs.Replay.{replay_of}
 use Rattle.world.specs.Schedules.{lines_by}
 use Rattle.world.specs.World.{oral_kind}
@@ -61,7 +61,7 @@ pub record IsOralPlayed (s : Scenario) (schedule : List (List Repeat)) (account 
   pub told : IsAccount account (played s schedule) front
   pub behind : IsFollowed explained (played s schedule) front text
   pub run : IsCompleteRun oral_kind s (listed s (lines_by schedule)) (played s schedule)
-  pub agree : AgreeUnderBound s (played s schedule).decisions
+  pub agree : AgreeIfTolerable s (played s schedule).decisions
   pub verdict : IsVerdictOn s (played s schedule).decisions (played s schedule).verdict
   pub well : IsWellUnderBound (played s schedule).verdict
 
@@ -97,7 +97,7 @@ pub record IsOralMustered (s : Scenario) (explained : Option Lieutenants) (text 
   pub told : IsFollowed explained chronicle (chronicle_text chronicle) text
   pub replay : chronicle ≡ chronicle_of (replay_of s chronicle.accesses)
   pub run : IsCompleteRun oral_kind s (replayed oral_kind s (names_in 1 chronicle.accesses (suc s.bound))) chronicle
-  pub agree : AgreeUnderBound s chronicle.decisions
+  pub agree : AgreeIfTolerable s chronicle.decisions
   pub verdict : IsVerdictOn s chronicle.decisions chronicle.verdict
   pub well : IsWellUnderBound chronicle.verdict
 

@@ -6,7 +6,7 @@ ghost use Rattle.round.specs.Letters.{Letter as LetterSeen, messages};
 ghost use Rattle.world.specs.KindAccounted.{AreAccounted};
 ghost use Rattle.world.specs.Chronicle.{decisions, chronicle_of};
 ghost use Rattle.world.specs.Lists.{IsComplete, replayed, names_in};
-ghost use Rattle.world.specs.Promises.{AgreeUnderBound, AreSafeThroughout, AreWhole, IsVerdictOn, IsWellUnderBound};
+ghost use Rattle.world.specs.Promises.{AgreeIfTolerable, AreSafeThroughout, AreWhole, IsVerdictOn, IsWellUnderBound};
 ghost use Rattle.world.specs.Replay.{replay_of};
 ghost use Rattle.world.specs.Safety.{IsShort};
 ghost use Rattle.world.specs.World.{oral_kind};
@@ -163,7 +163,7 @@ pub(crate) fn conclude(
     ensures whole { AreWhole oral_kind scenario result.accesses result.letters }
     ensures short { All (λ letters. All IsShort letters) result.letters }
     ensures decisions { result.decisions ≡ decisions scenario (messages result.letters) }
-    ensures agree { AgreeUnderBound scenario result.decisions }
+    ensures agree { AgreeIfTolerable scenario result.decisions }
     ensures verdict { IsVerdictOn scenario result.decisions result.verdict }
     ensures well { IsWellUnderBound result.verdict }
 {

@@ -6,7 +6,7 @@ ghost use Rattle.round.specs.Letters.{Letter as LetterSeen, messages};
 ghost use Rattle.world.specs.Chronicle.{decisions, chronicle_of};
 ghost use Rattle.world.specs.KindAccounted.{AreAccounted};
 ghost use Rattle.world.specs.Lists.{IsComplete, replayed, names_in};
-ghost use Rattle.world.specs.Promises.{AgreeUnderBound, AreSafeThroughout, AreWhole, IsVerdictOn, IsWellUnderBound};
+ghost use Rattle.world.specs.Promises.{AgreeIfTolerable, AreSafeThroughout, AreWhole, IsVerdictOn, IsWellUnderBound};
 ghost use Rattle.world.specs.Replay.{replay_of};
 ghost use Rattle.world.specs.Safety.{IsShort};
 ghost use Rattle.world.specs.World.{oral_kind};
@@ -44,8 +44,8 @@ pub const STACK: usize = 1 << 20;
 /// - No activation traps or takes more steps than its program has instructions (`safe`).
 /// - Each letter is complete: a traitor's letter is the run of his program to its end, with his accesses (`whole`).
 /// - Each lieutenant decides what OM(m) gives from the recorded messages.
-/// - If the bound holds, all loyal lieutenants decide on the same order, and on the commander's order if he is loyal
-///   (TOPLAS 1982, Theorem 1).
+/// - If the traitors are few enough, all loyal lieutenants decide on the same order, and on the commander's order if he
+///   is loyal (TOPLAS 1982, Theorem 1). At most m traitors among more than 3m generals are few enough.
 ///
 /// For each access in a letter of the chronicle, `Gate::passed` holds for its general, its round and its number in the
 /// letter, counted from 0.
@@ -75,7 +75,7 @@ pub fn muster<R: Threads + Wait + Sync, G: Gate + Sync>(
     ensures short { IfOk result (λ chronicle. All (λ letters. All IsShort letters) chronicle.letters) }
     ensures decisions { IfOk result
         (λ chronicle. chronicle.decisions ≡ decisions scenario (messages chronicle.letters)) }
-    ensures agree { IfOk result (λ chronicle. AgreeUnderBound scenario chronicle.decisions) }
+    ensures agree { IfOk result (λ chronicle. AgreeIfTolerable scenario chronicle.decisions) }
     ensures verdict { IfOk result (λ chronicle. IsVerdictOn scenario chronicle.decisions chronicle.verdict) }
     ensures well { IfOk result (λ chronicle. IsWellUnderBound chronicle.verdict) }
     ensures passed { IfOk result (λ chronicle. AreGated (G.passed gate.now) chronicle.letters) }
@@ -106,7 +106,7 @@ pub fn muster_with<R: Threads + Wait + Sync, G: Gate + Sync>(
     ensures short { IfOk result (λ chronicle. All (λ letters. All IsShort letters) chronicle.letters) }
     ensures decisions { IfOk result
         (λ chronicle. chronicle.decisions ≡ decisions scenario (messages chronicle.letters)) }
-    ensures agree { IfOk result (λ chronicle. AgreeUnderBound scenario chronicle.decisions) }
+    ensures agree { IfOk result (λ chronicle. AgreeIfTolerable scenario chronicle.decisions) }
     ensures verdict { IfOk result (λ chronicle. IsVerdictOn scenario chronicle.decisions chronicle.verdict) }
     ensures well { IfOk result (λ chronicle. IsWellUnderBound chronicle.verdict) }
     ensures passed { IfOk result (λ chronicle. AreGated (G.passed gate.now) chronicle.letters) }

@@ -6,7 +6,7 @@ ghost use Rattle.world.specs.Agreement.{IsFinished};
 ghost use Rattle.world.specs.Chronicle.{decisions, chronicle_of};
 ghost use Rattle.world.specs.Lists.{IsComplete, listed, replayed};
 ghost use Rattle.world.specs.Playing.{lists_in, line_events};
-ghost use Rattle.world.specs.Promises.{AgreeUnderBound, AreSafeThroughout, AreWhole, IsVerdictOn, IsWellUnderBound};
+ghost use Rattle.world.specs.Promises.{AgreeIfTolerable, AreSafeThroughout, AreWhole, IsVerdictOn, IsWellUnderBound};
 ghost use Rattle.world.specs.Schedules.{lines_by, entries_of};
 ghost use Rattle.world.specs.World.{opening, oral_kind, run};
 ghost use Rattle.world.specs.declared.event.Event.TheVariants.{Tick, Post, Close};
@@ -37,7 +37,7 @@ pub fn play(alloc: Global, scenario: Scenario, schedule: &Schedule) -> Result<Ch
     ensures letters { IfOk result (λ chronicle. AreWhole oral_kind scenario chronicle.accesses chronicle.letters) }
     ensures decisions { IfOk result
         (λ chronicle. chronicle.decisions ≡ decisions scenario (messages chronicle.letters)) }
-    ensures agree { IfOk result (λ chronicle. AgreeUnderBound scenario chronicle.decisions) }
+    ensures agree { IfOk result (λ chronicle. AgreeIfTolerable scenario chronicle.decisions) }
     ensures verdict { IfOk result (λ chronicle. IsVerdictOn scenario chronicle.decisions chronicle.verdict) }
     ensures well { IfOk result (λ chronicle. IsWellUnderBound chronicle.verdict) }
 {
@@ -64,7 +64,7 @@ pub fn replay(alloc: Global, scenario: Scenario, names: &[Vec<u8>]) -> Result<Ch
     ensures letters { IfOk result (λ chronicle. AreWhole oral_kind scenario chronicle.accesses chronicle.letters) }
     ensures decisions { IfOk result
         (λ chronicle. chronicle.decisions ≡ decisions scenario (messages chronicle.letters)) }
-    ensures agree { IfOk result (λ chronicle. AgreeUnderBound scenario chronicle.decisions) }
+    ensures agree { IfOk result (λ chronicle. AgreeIfTolerable scenario chronicle.decisions) }
     ensures verdict { IfOk result (λ chronicle. IsVerdictOn scenario chronicle.decisions chronicle.verdict) }
     ensures well { IfOk result (λ chronicle. IsWellUnderBound chronicle.verdict) }
 {

@@ -23,7 +23,7 @@ pub use campaign::{named_round, play, play_listed, play_named, play_names, repla
 pub use chronicle::Chronicle;
 pub use event::{Event, EventError};
 pub use laws::{
-    accounts_are_runs, activations_are_runs, activations_are_safe, decisions_agree,
+    accounts_are_runs, activations_are_runs, activations_are_safe, bound_suffices, decisions_agree,
     idle_events_change_nothing, ledgers_are_legal, ledgers_decide, lists_are_complete,
     parts_are_placed, refusals_change_nothing, runs_are_accounted, runs_are_replays, verdicts_mean,
     worlds_agree,
