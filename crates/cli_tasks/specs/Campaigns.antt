@@ -53,8 +53,8 @@ IsFollowed explained c front text = (behind : List ℕ) × (text ≡ front ++ be
 
 -- States that `text` is the chronicle or the message table of the oral campaign when it is played by the schedule. The
 -- explanation of the decisions follows if it is asked for. The run is complete, no activation in it traps or takes more
--- steps than its program has instructions, and each letter is complete. If the bound holds, the decisions agree. The
--- verdict describes them correctly.
+-- steps than its program has instructions, and each letter is complete. The decisions agree if the traitors are few
+-- enough. The verdict describes them correctly.
 pub record IsOralPlayed (s : Scenario) (schedule : List (List Repeat)) (account : Account)
     (explained : Option Lieutenants) (text : List ℕ) : Type 0 where
   pub front : List ℕ
@@ -90,8 +90,8 @@ IsPlayed (Signed s) schedule account explained text = IsSignedPlayed s schedule 
 
 -- States that `text` is the chronicle of a complete run of an oral campaign with threads. The explanation of the
 -- decisions follows if it is asked for. The run is the replay of its own accesses, no activation in it traps or takes
--- more steps than its program has instructions, and each letter is complete. If the bound holds, the decisions agree.
--- The verdict describes them correctly.
+-- more steps than its program has instructions, and each letter is complete. The decisions agree if the traitors are
+-- few enough. The verdict describes them correctly.
 pub record IsOralMustered (s : Scenario) (explained : Option Lieutenants) (text : List ℕ) : Type 0 where
   pub chronicle : Chronicle
   pub told : IsFollowed explained chronicle (chronicle_text chronicle) text

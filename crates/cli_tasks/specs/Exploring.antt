@@ -15,7 +15,7 @@ abbrev pub limit : Option ℕ → ℕ
 limit most = unwrap_or most (2 ^ 64 - 1)
 
 -- States that `text` lists the outcomes of all orders of an oral campaign. If there are more than `most` orders, it
--- covers only the `most` least ones. If the bound holds, the decisions of each outcome agree.
+-- covers only the `most` least ones. The decisions of each outcome agree if the traitors are few enough.
 pub record IsExplored (s : Scenario) (most : ℕ) (text : List ℕ) : Type 0 where
   pub exploration : Exploration
   pub explores : IsExploration oral_kind oral_outcome s most exploration

@@ -16,8 +16,8 @@ abbrev pub AreFaithful : Chronicle → Type 0
 AreFaithful c = (g : ℕ) → g < c.scenario.generals → is_traitor c.scenario g ≡ false →
     IsFaithful c.scenario.generals c.scenario.commander c.scenario.bound c.scenario.order (messages c.letters) g
 
--- States what Theorem 1 promises for oral messages. If the bound holds, all loyal lieutenants decide alike, and obey a
--- loyal commander. The verdict describes the decisions correctly.
+-- States what Theorem 1 promises for oral messages. If the traitors are few enough, all loyal lieutenants decide alike,
+-- and obey a loyal commander. The verdict describes the decisions correctly.
 pub record KeepsPromises (s : Scenario) (c : Chronicle) : Type 0 where
   pub agree : AgreeIfTolerable s c.decisions
   pub verdict : IsVerdictOn s c.decisions c.verdict
