@@ -196,7 +196,7 @@ fn tick_to_access<W: PlayableWorld>(world: &mut W, general: u32) -> Result<(), A
 ///
 /// Fails with `AllocError` if it runs out of memory. The world is then valid, but nothing else is known about it, and
 /// it should be dropped.
-pub fn play_names<W: PlayableWorld>(world: &mut W, names: &[u8]) -> Result<(), AllocError>
+pub(crate) fn play_names<W: PlayableWorld>(world: &mut W, names: &[u8]) -> Result<(), AllocError>
     ensures { OnOk result (W.seen world.new
         ≡ run_of W.kind (W.seen world.old) (names_events W.kind (W.seen world.old) names.now)) }
 {
@@ -274,7 +274,7 @@ fn end_round<W: PlayableWorld>(world: &mut W) -> Result<(), AllocError>
 ///
 /// Fails with `AllocError` if it runs out of memory. The world is then valid, but nothing else is known about it, and
 /// it should be dropped.
-pub fn wind_up<W: PlayableWorld>(world: &mut W) -> Result<(), AllocError>
+pub(crate) fn wind_up<W: PlayableWorld>(world: &mut W) -> Result<(), AllocError>
     ensures { OnOk result (W.seen world.new ≡ run_of W.kind (W.seen world.old) (wound_up (W.seen world.old).scenario)) }
 {
     all_post(world);
@@ -301,7 +301,7 @@ fn listed_round<W: PlayableWorld>(world: &mut W, line: &[Repeat]) -> Result<(), 
 ///
 /// Fails with `AllocError` if it runs out of memory. The world is then valid, but nothing else is known about it, and
 /// it should be dropped.
-pub fn named_round<W: PlayableWorld>(world: &mut W, names: &[u8]) -> Result<(), AllocError>
+pub(crate) fn named_round<W: PlayableWorld>(world: &mut W, names: &[u8]) -> Result<(), AllocError>
     ensures { OnOk result (W.seen world.new
         ≡ run_of W.kind (run_of W.kind (W.seen world.old) (names_events W.kind (W.seen world.old) names.now))
         (wound_up (W.seen world.old).scenario)) }
@@ -316,7 +316,7 @@ pub fn named_round<W: PlayableWorld>(world: &mut W, names: &[u8]) -> Result<(), 
 ///
 /// Fails with `AllocError` if it runs out of memory. The world is then valid, but nothing else is known about it, and
 /// it should be dropped.
-pub fn play_listed<W: PlayableWorld>(world: &mut W, schedule: &Schedule) -> Result<(), AllocError>
+pub(crate) fn play_listed<W: PlayableWorld>(world: &mut W, schedule: &Schedule) -> Result<(), AllocError>
     ensures { OnOk result (W.seen world.new
         ≡ run_of W.kind (W.seen world.old)
         (listed_rounds (W.seen world.old).scenario (suc (W.seen world.old).scenario.bound) (lines_by schedule.now))) }
@@ -336,7 +336,7 @@ pub fn play_listed<W: PlayableWorld>(world: &mut W, schedule: &Schedule) -> Resu
 ///
 /// Fails with `AllocError` if it runs out of memory. The world is then valid, but nothing else is known about it, and
 /// it should be dropped.
-pub fn play_named<W: PlayableWorld>(world: &mut W, names: &[Vec<u8>]) -> Result<(), AllocError>
+pub(crate) fn play_named<W: PlayableWorld>(world: &mut W, names: &[Vec<u8>]) -> Result<(), AllocError>
     ensures { OnOk result (W.seen world.new
         ≡ run_of W.kind (W.seen world.old)
         (replayed_rounds W.kind (W.seen world.old) (suc (W.seen world.old).scenario.bound) (lists_in names.now))) }

@@ -13,13 +13,14 @@ mod opening;
 mod outcome;
 mod part;
 pub mod parts;
+mod played;
 mod plays;
 mod schedule;
 mod verdict;
 mod world;
 mod world_view;
 
-pub use campaign::{named_round, play, play_listed, play_named, play_names, replay, wind_up};
+pub use campaign::{play, replay};
 pub use chronicle::Chronicle;
 pub use event::{Event, EventError};
 pub use laws::{
@@ -29,6 +30,7 @@ pub use laws::{
     worlds_agree,
 };
 pub use part::Progress;
+pub use played::{names_played, round_finished, round_played, rounds_played, schedule_played};
 pub use plays::PlayableWorld;
 pub use schedule::{Repeat, Schedule, ScheduleLine};
 pub use verdict::Verdict;
