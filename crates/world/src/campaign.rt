@@ -316,7 +316,10 @@ pub(crate) fn named_round<W: PlayableWorld>(world: &mut W, names: &[u8]) -> Resu
 ///
 /// Fails with `AllocError` if it runs out of memory. The world is then valid, but nothing else is known about it, and
 /// it should be dropped.
-pub(crate) fn play_listed<W: PlayableWorld>(world: &mut W, schedule: &Schedule) -> Result<(), AllocError>
+pub(crate) fn play_listed<W: PlayableWorld>(
+    world: &mut W,
+    schedule: &Schedule,
+) -> Result<(), AllocError>
     ensures { OnOk result (W.seen world.new
         ≡ run_of W.kind (W.seen world.old)
         (listed_rounds (W.seen world.old).scenario (suc (W.seen world.old).scenario.bound) (lines_by schedule.now))) }
@@ -336,7 +339,10 @@ pub(crate) fn play_listed<W: PlayableWorld>(world: &mut W, schedule: &Schedule) 
 ///
 /// Fails with `AllocError` if it runs out of memory. The world is then valid, but nothing else is known about it, and
 /// it should be dropped.
-pub(crate) fn play_named<W: PlayableWorld>(world: &mut W, names: &[Vec<u8>]) -> Result<(), AllocError>
+pub(crate) fn play_named<W: PlayableWorld>(
+    world: &mut W,
+    names: &[Vec<u8>],
+) -> Result<(), AllocError>
     ensures { OnOk result (W.seen world.new
         ≡ run_of W.kind (W.seen world.old)
         (replayed_rounds W.kind (W.seen world.old) (suc (W.seen world.old).scenario.bound) (lists_in names.now))) }
