@@ -268,6 +268,28 @@ const SHAPES: &[Shape] = &[
         holds: false,
         within: Within::Nothing,
     },
+    Shape {
+        line: "certified",
+        parts: &[("certified", "-"), ("generals", "-"), ("N", "generals")],
+        mark: "",
+        holds: false,
+        within: Within::Nothing,
+    },
+    Shape {
+        line: "uncertified",
+        parts: &[
+            ("uncertified", "-"),
+            ("majority", "-"),
+            ("N", "majority"),
+            ("result", "-"),
+            ("N", "result"),
+            ("list", "-"),
+            ("*", "list"),
+        ],
+        mark: "",
+        holds: false,
+        within: Within::Nothing,
+    },
 ];
 
 /// Returns the shape of lines that describe an access, where `wording` gives the words of the request.

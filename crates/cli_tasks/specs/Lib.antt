@@ -23,6 +23,7 @@ pub mod Exploring
 pub mod AuditLines
 pub mod CampaignRefusals
 pub mod Retracing
+pub mod RuleCertificates
 pub mod Diagrams
 pub mod Pages
 pub mod Promises

@@ -5,6 +5,7 @@ use bounds::RefutationError;
 use campaign_schedules::{AccessFault, AccessesError};
 use cli_report::{ShownScenarioError, ShownSettingError};
 use codec::CodecError;
+use rule_program::CallFound;
 use scenario::ScenarioError;
 use std::alloc::AllocError;
 use std::error::Error;
@@ -44,6 +45,8 @@ pub enum InputRefusal {
     /// There are too many generals for a refutation: with more than 3m generals, no message table with at most m
     /// traitors breaks the rule.
     Tolerated,
+    /// The program calls a helper, first at this unit, so it is no rule.
+    RuleCall { unit: usize },
     /// The bytes are not UTF-8 text.
     NotText,
     /// Memory ran out.
@@ -72,6 +75,7 @@ impl fmt::Display for InputRefusal {
             InputRefusal::Tolerated => f.write_str(
                 "B5 more than 3m generals tolerate m traitors: no message table with at most m traitors breaks the rule",
             ),
+            InputRefusal::RuleCall { unit } => write!(f, "R1 unit {unit}"),
             InputRefusal::NotText => f.write_str("not UTF-8"),
             InputRefusal::Memory => f.write_str("out of memory"),
         }
@@ -170,6 +174,17 @@ impl From<RefutationError> for InputRefusal {
             RefutationError::Table(error) => InputRefusal::Table(error),
             RefutationError::Enough => InputRefusal::Tolerated,
         }
+    }
+}
+
+impl From<CallFound> for InputRefusal {
+    ghost use Rattle.std.specs.Prelude.{◌≡◌};
+    ghost use Rattle.cli_tasks.specs.Refusals.{call_refusal};
+
+    ghost from_gives = { λ found refusal. refusal ≡ call_refusal found };
+
+    fn from(found: CallFound) -> InputRefusal {
+        InputRefusal::RuleCall { unit: found.unit }
     }
 }
 

@@ -15,6 +15,7 @@ use crate::parts::{assembled_partly, assembled_partly_raw, disassembled_partly};
 use crate::program_check::accepted_in;
 use crate::refusal::InputRefusal;
 use crate::refutations::refuted;
+use crate::rule_certificates::certificate;
 use crate::schedules::arranged;
 use crate::texts::as_text;
 use crate::tree_pictures::pictured;
@@ -114,6 +115,9 @@ pub fn answer(alloc: Global, task: &Task, bytes: &[u8]) -> Result<FirstAnswer, I
             *rule,
             *story,
         )?)),
+        Task::Certify {
+            notation, generals, ..
+        } => Ok(FirstAnswer::Text(certificate(alloc, notation, bytes, *generals)?)),
         Task::Tree {
             general,
             traitors,

@@ -46,6 +46,7 @@ pub fn is_explained(task: &Task) -> bool
         Task::Book(_)
         | Task::Form { .. }
         | Task::Refute { .. }
+        | Task::Certify { .. }
         | Task::Explore { .. }
         | Task::Tree { .. }
         | Task::Draw { .. }
@@ -154,6 +155,7 @@ fn told_by(
             cli_report::of_stranger(alloc, name, bytes, *general, *generals)
         }
         InputRefusal::Tolerated => Ok(String::new(alloc)),
+        InputRefusal::RuleCall { .. } => Ok(String::new(alloc)),
         InputRefusal::NotText => Ok(String::new(alloc)),
         InputRefusal::Memory => Ok(String::new(alloc)),
     }

@@ -5,7 +5,7 @@ use Rattle.std.specs.Borrow.{Bor}
 use Rattle.std.specs.Option.{option_map_or}
 use Rattle.combine.specs.Names.{rule_named}
 use Rattle.bounds.specs.Stories.{story_numbered}
-use Rattle.cli_words.specs.Generals.{count_in, depth_in, general_in, generals_in, order_in, seed_in}
+use Rattle.cli_words.specs.Generals.{count_in, depth_in, general_in, generals_in, order_in, seed_in, size_in}
 use Rattle.cli_words.specs.Tasks.{Told, are_two, campaigns, coursed, has, is_of, is_text, of_one, of_traitors, programs, word_of}
 use Rattle.cli_words.specs.Usage.{Text, Usage, taken_in, value_at}
 use Rattle.cli_words.specs.Usages.{usage_named}
@@ -82,6 +82,7 @@ is_meant told = if_of programs told (has_notation told)
     && if_of coursed told (excludes (codes "chronicle") (codes "schedule") told)
     && if_of (codes "play" ∷ []) told (has_turns told)
     && if_of (codes "refute" ∷ []) told (has_refutation told)
+    && if_of (codes "rule" ∷ []) told (reads size_in (codes "generals") told)
 
 -- Returns the subcommand and the values of its words, or `None` if `clap`, the parser of the command line, rejects the
 -- words or they are misused.

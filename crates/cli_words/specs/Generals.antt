@@ -25,6 +25,10 @@ count_in word = decimal_of word >>= λ n. if nat_lt 0 n && nat_lt n (2 ^ 64) the
 unfoldable pub seed_in : List ℕ → Option ℕ
 seed_in word = below (2 ^ 64) word
 
+-- Returns a number of generals, 2 to 13.
+unfoldable pub size_in : List ℕ → Option ℕ
+size_in word = decimal_of word >>= λ n. if nat_lt 1 n && nat_lt n 14 then Some n else None
+
 -- Parses a number of levels of a tree, 0 to 4. Returns `None` for any other word.
 unfoldable pub depth_in : List ℕ → Option ℕ
 depth_in word = below 5 word

@@ -11,7 +11,7 @@ use Rattle.bounds.specs.declared.story.Story.{Story}
 use Rattle.clap.specs.Words.{kind_of}
 use Rattle.clap.specs.declared.error.Error.{Error}
 use Rattle.clap.specs.declared.error.kind.ErrorKind.TheVariants.{OutOfMemory}
-use Rattle.cli_words.specs.Generals.{count_in, depth_in, general_in, generals_in, order_in, seed_in}
+use Rattle.cli_words.specs.Generals.{count_in, depth_in, general_in, generals_in, order_in, seed_in, size_in}
 use Rattle.cli_words.specs.Usage.{Text}
 use Rattle.cli_words.specs.declared.tasks.Accesses.{Accesses}
 use Rattle.cli_words.specs.declared.tasks.Accesses.TheVariants.{OfChronicle, Listed}
@@ -30,11 +30,11 @@ use Rattle.cli_words.specs.declared.tasks.TaskRequest.{TaskRequest}
 use Rattle.cli_words.specs.declared.tasks.Spelling.{Spelling}
 use Rattle.cli_words.specs.declared.tasks.Spelling.TheVariants.{Hex, Raw}
 use Rattle.cli_words.specs.declared.tasks.Task.{Task}
-use Rattle.cli_words.specs.declared.tasks.Task.TheVariants.{Check, Assemble, AssemblePartly, Disassemble, DisassemblePartly, Book, ExplainDecisions, Form, Refute, Play, Muster, Audit, Explore, Tree, Draw, Page, Retrace}
+use Rattle.cli_words.specs.declared.tasks.Task.TheVariants.{Check, Assemble, AssemblePartly, Disassemble, DisassemblePartly, Book, ExplainDecisions, Form, Refute, Certify, Play, Muster, Audit, Explore, Tree, Draw, Page, Retrace}
 use Rattle.cli_words.specs.declared.tasks.Turns.{Turns}
 use Rattle.cli_words.specs.declared.tasks.Turns.TheVariants.{OfFile, OfSeed}
 use Rattle.cli_words.specs.declared.errors.Misuse.{Misuse}
-use Rattle.cli_words.specs.declared.errors.Misuse.TheVariants.{Traitors, Of, Lie, Loyal, Most, Depth, NobodyNamed, TwoDrawings, TwoNotations, UnitsOfParts, TwoCourses, EntryAlone, OfAlone, LieAlone, Seed, Rule as BadRule, Story as BadStory, TwoSchedules, OutAlone}
+use Rattle.cli_words.specs.declared.errors.Misuse.TheVariants.{Traitors, Of, Lie, Loyal, Most, Depth, NobodyNamed, TwoDrawings, TwoNotations, UnitsOfParts, TwoCourses, EntryAlone, OfAlone, LieAlone, Seed, Rule as BadRule, Story as BadStory, Generals as BadSize, TwoSchedules, OutAlone}
 use Rattle.cli_words.specs.declared.errors.TaskError.{TaskError}
 use Rattle.cli_words.specs.declared.errors.TaskError.TheVariants as error
 
@@ -58,7 +58,7 @@ is_of names told = list_any (λ name. bytes_eq name told.name) names
 
 -- The subcommands that read a program and have `--elf`, since it may be an ELF object.
 abbrev pub programs : List Text
-programs = codes "check" ∷ codes "dis" ∷ []
+programs = codes "check" ∷ codes "dis" ∷ codes "rule" ∷ []
 
 -- The subcommands that print a campaign and may explain its decisions.
 abbrev pub campaigns : List Text
@@ -121,6 +121,11 @@ rule_in (Some word) = rule_named word
 abbrev pub NamesStory : Told → Option Story → Type 0
 NamesStory told None = word_of (codes "story") told ≡ None
 NamesStory told (Some story) = (word_of (codes "story") told >>= story_numbered) ≡ Some story
+
+-- Returns how many generals the word names, or 13 if there is no word.
+abbrev pub size_given : Option Text → Option ℕ
+size_given None = Some 13
+size_given (Some word) = size_in word
 
 -- Checks whether a campaign is printed as its message table, and not as its chronicle.
 abbrev pub is_table : Account → Bool
@@ -222,6 +227,9 @@ Says told (Refute n m c rule story) = (told.name ≡ codes "refute")
     × (word_of (codes "GENERALS") told ≡ Some (string_bytes n)) × (word_of (codes "BOUND") told ≡ Some (string_bytes m))
     × (word_of (codes "COMMANDER") told ≡ Some (string_bytes c))
     × (rule_in (word_of (codes "rule") told) ≡ Some rule) × NamesStory told story
+Says told (Certify file notation generals) = (told.name ≡ codes "rule")
+    × (word_of (codes "FILE") told ≡ Some (string_bytes file)) × IsNotation told notation
+    × (size_given (word_of (codes "generals") told) ≡ Some generals)
 Says told (Play scenario turns account explained) = (told.name ≡ codes "play")
     × (word_of (codes "SCENARIO") told ≡ Some (string_bytes scenario)) × AreTurns told turns
     × (has (codes "table") told ≡ is_table account) × AreExplained told explained
@@ -265,6 +273,7 @@ file_of (Book file) = Some (string_bytes file)
 file_of (ExplainDecisions file traitors) = Some (string_bytes file)
 file_of (Form n m c filling) = None
 file_of (Refute n m c rule story) = None
+file_of (Certify file notation generals) = Some (string_bytes file)
 file_of (Play scenario turns account explained) = Some (string_bytes scenario)
 file_of (Muster scenario explained) = Some (string_bytes scenario)
 file_of (Audit scenario chronicle explained) = Some (string_bytes scenario)
@@ -361,6 +370,8 @@ IsMisused told (BadRule word) = (is_of (codes "refute" ∷ []) told ≡ true)
     × (word_of (codes "rule") told ≡ Some (string_bytes word)) × (rule_named (string_bytes word) ≡ None)
 IsMisused told (BadStory word) = (is_of (codes "refute" ∷ []) told ≡ true)
     × (word_of (codes "story") told ≡ Some (string_bytes word)) × (story_numbered (string_bytes word) ≡ None)
+IsMisused told (BadSize word) = (is_of (codes "rule" ∷ []) told ≡ true)
+    × (word_of (codes "generals") told ≡ Some (string_bytes word)) × (size_in (string_bytes word) ≡ None)
 IsMisused told NobodyNamed = (is_of (codes "tree" ∷ []) told ≡ true) × (has (codes "of") told ≡ false)
 IsMisused told TwoDrawings = (is_of (codes "tree" ∷ []) told ≡ true)
     × (are_two (is_text told) (has (codes "dot") told) (has (codes "svg") told) ≡ true)

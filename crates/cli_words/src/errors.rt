@@ -36,6 +36,8 @@ pub enum Misuse {
     Rule(String),
     /// The value of `--story` is not the number of a story.
     Story(String),
+    /// The value of `--generals` is not a number of generals.
+    Generals(String),
     /// `--asm` and `--elf` are used together, so that a file has two notations.
     TwoNotations,
     /// `--units` and `--partial` are used together. With `--partial`, some units are no instructions, and a unit is
@@ -117,6 +119,10 @@ impl fmt::Display for Misuse {
             Misuse::Story(word) => write!(
                 f,
                 "invalid value {word:?} for '--story <K>': the number of a story, 1 to 3"
+            ),
+            Misuse::Generals(word) => write!(
+                f,
+                "invalid value {word:?} for '--generals <N>': how many generals there are, 2 to 13"
             ),
             Misuse::NobodyNamed => f.write_str("the argument '--of <G>' is required"),
             Misuse::TwoDrawings => f.write_str(

@@ -4,10 +4,10 @@ ghost use Rattle.clap.specs.Words.{subcommand_rows_of};
 ghost use Rattle.cli_words.specs.Lab.{is_given, task_met};
 ghost use Rattle.cli_words.specs.Tasks.{IsDrawing, levels_in, named};
 ghost use Rattle.cli_words.specs.Met.{has_places, told_by};
-ghost use Rattle.cli_words.specs.Tasks.{AreExplained, AreTurns, Asks, IsCourse, IsErrorOf, IsFilling, IsNotation, NamesCount, NamesGeneral, NamesSeed, NamesStory, Says, campaigns, coursed, has, is_of, is_raw, is_table, programs, rule_in, word_of};
+ghost use Rattle.cli_words.specs.Tasks.{AreExplained, AreTurns, Asks, IsCourse, IsErrorOf, IsFilling, IsNotation, NamesCount, NamesGeneral, NamesSeed, NamesStory, Says, campaigns, coursed, has, is_of, is_raw, is_table, programs, rule_in, size_given, word_of};
 
 use crate::errors::{Misuse, TaskError};
-use crate::generals::{GeneralsError, count, depth, general, generals, order, seed};
+use crate::generals::{GeneralsError, count, depth, general, generals, order, seed, size};
 use crate::tasks::{
     Accesses, Account, Course, Drawing, Filling, Lieutenants, Notation, Spelling, Task,
     TaskRequest, Turns,
@@ -100,6 +100,7 @@ impl<'m, 'a> ParsedWords<'m, 'a> {
             "book" => self.book(alloc),
             "table" => self.form(alloc),
             "refute" => self.refute(alloc),
+            "rule" => self.certify(alloc),
             "muster" => self.muster(alloc),
             "play" => self.play(alloc),
             "audit" => self.audit(alloc),
@@ -261,6 +262,35 @@ impl<'m, 'a> ParsedWords<'m, 'a> {
             rule: self.rule(alloc)?,
             story: self.story(alloc)?,
         })
+    }
+
+    /// Returns the task of `rule`.
+    fn certify(self, alloc: Global) -> Result<Task, TaskError>
+        requires name { self.name.now ≡ codes "rule" }
+        requires file { has (codes "FILE") (told_by self) ≡ true }
+        ensures task { IfOk result (Says (told_by self.entry)) }
+        ensures refused { IfErr result (IsErrorOf (told_by self.entry)) }
+    {
+        Ok(Task::Certify {
+            program: self.required(alloc, "FILE")?,
+            notation: self.notation(alloc)?,
+            generals: self.size(alloc)?,
+        })
+    }
+
+    /// Returns how many generals `--generals` names, or 13 without it.
+    fn size(self, alloc: Global) -> Result<u8, TaskError>
+        requires { is_of (codes "rule" ∷ []) (told_by self) ≡ true }
+        ensures given { IfOk result (λ size. size_given (word_of (codes "generals") (told_by self.entry)) ≡ Some size) }
+        ensures refused { IfErr result (IsErrorOf (told_by self.entry)) }
+    {
+        let Some(word) = self.value("generals") else {
+            return Ok(13);
+        };
+        match size(word.as_bytes()) {
+            Some(size) => Ok(size),
+            None => Err(TaskError::Misuse(Misuse::Generals(String::from_str(alloc, word)?))),
+        }
     }
 
     /// Builds the task of the subcommand `play` from its words.

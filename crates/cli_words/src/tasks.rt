@@ -79,6 +79,12 @@ pub enum Task {
         rule: Rule,
         story: Option<Story>,
     },
+    /// Find out whether a program is a rule that keeps majorities among this many generals, 2 to 13.
+    Certify {
+        program: String,
+        notation: Notation,
+        generals: u8,
+    },
     /// Play a campaign by this schedule, and print its chronicle or its message table.
     Play {
         scenario: String,
@@ -304,6 +310,7 @@ impl Task {
             | Task::DisassemblePartly { program: file, .. }
             | Task::Book(file)
             | Task::ExplainDecisions { table: file, .. }
+            | Task::Certify { program: file, .. }
             | Task::Play { scenario: file, .. }
             | Task::Muster { scenario: file, .. }
             | Task::Audit { scenario: file, .. }

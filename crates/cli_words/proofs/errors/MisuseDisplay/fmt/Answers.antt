@@ -50,3 +50,8 @@ pub returns-in-Seed-clause-writes : goal.returns-in-Seed-clause-writes
 returns-in-Seed-clause-writes g c =
     rw c.in-Seed.is (quoting (λ text. DisplaysOnOk g.W.Write.write_str_gives c.args.f.now c.write-in-Seed.result text c.write-in-Seed.new.self) (debug_str (string_bytes c.in-Seed.word))
     (codes " for '--seed <S>': a whole number, 0 to 18446744073709551615") (codes "--seed <S>") (codes "a whole number, 0 to 18446744073709551615") refl c.write-in-Seed.ensures.writes)
+
+pub returns-in-Generals-clause-writes : goal.returns-in-Generals-clause-writes
+returns-in-Generals-clause-writes g c =
+    rw c.in-Generals.is (quoting (λ text. DisplaysOnOk g.W.Write.write_str_gives c.args.f.now c.write-in-Generals.result text c.write-in-Generals.new.self) (debug_str (string_bytes c.in-Generals.word))
+    (codes " for '--generals <N>': how many generals there are, 2 to 13") (codes "--generals <N>") (codes "how many generals there are, 2 to 13") refl c.write-in-Generals.ensures.writes)
