@@ -1,0 +1,9 @@
+pub mod Break
+pub mod TwoOrders
+pub mod Plans
+pub mod Limits
+pub mod PlannedMessages
+pub mod Attempts
+pub mod Search
+pub mod Refusal
+pub mod BreakTrees

@@ -1,0 +1,13 @@
+//! A break that was found: who the traitors are, and what they bring about.
+
+use crate::attempt::Success;
+use arrayvec::ArrayVec;
+
+/// The traitors of a break in ascending order, and their attempt.
+#[derive(Drop)]
+pub(crate) struct Found {
+    /// The numbers of the traitors.
+    pub(crate) traitors: ArrayVec<u8, 13>,
+    /// What they attempt, and what it costs.
+    pub(crate) success: Success,
+}

@@ -1,0 +1,26 @@
+//! Whether traitors, whatever they say, break IC1 or IC2: the shortest break by OM(m) as a message table, or the
+//! certificate that there is none. The files in specs/ define both.
+#![tactic(auto)]
+
+mod aim;
+mod attempt;
+mod attempts;
+mod break_table;
+mod break_trees;
+mod choice;
+mod cost;
+mod found;
+mod generals;
+mod last_plan;
+mod laws;
+mod message;
+mod plan;
+mod refusal;
+mod search;
+mod selection;
+mod sender;
+mod votes;
+
+pub use break_table::{BreakTable, shortest_break};
+pub use laws::{rules_project, two_orders_suffice};
+pub use refusal::BreakError;
