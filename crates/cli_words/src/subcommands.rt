@@ -3,7 +3,7 @@ ghost use Rattle.std.specs.Prelude.{◌≡◌, map};
 ghost use Rattle.cli_words.specs.Asked.{words_of};
 ghost use Rattle.cli_words.specs.Lab.{named_in, usages_for};
 ghost use Rattle.cli_words.specs.Subcommand.{usage_of};
-ghost use Rattle.cli_words.specs.Usages.{asm, book, dis, draw, explore, muster, page, refute, rule, schedule, table, tree, usages};
+ghost use Rattle.cli_words.specs.Usages.{asm, book, dis, draw, exhaust, explore, muster, page, refute, rule, schedule, table, tree, usages};
 
 use crate::subcommand::{Flag, Place, Subcommand};
 use std::slice;
@@ -294,6 +294,48 @@ fn refute() -> Subcommand<'static>
     }
 }
 
+/// Returns the row of `exhaust`.
+fn exhaust() -> Subcommand<'static>
+    ensures { usage_of result ≡ exhaust }
+{
+    Subcommand {
+        name: "exhaust",
+        about: "Says whether any traitors, whatever they say, break IC1 or IC2",
+        places: &[],
+        flags: &[
+            Flag::Switch {
+                name: "json",
+                help: JSON,
+            },
+            Flag::Option {
+                name: "generals",
+                value: "N",
+                help: "How many generals there are, 2 to 13",
+            },
+            Flag::Option {
+                name: "bound",
+                value: "M",
+                help: "The bound of OM(m), 0 to 4, and at most two less than the generals",
+            },
+            Flag::Option {
+                name: "traitors",
+                value: "K",
+                help: "The greatest number of traitors, 0 to 12",
+            },
+            Flag::Option {
+                name: "commander",
+                value: "C",
+                help: "The commander's number, from 0; by default each general commands in turn",
+            },
+            Flag::Option {
+                name: "rule",
+                value: "RULE",
+                help: "The rule of combination, majority or median; by default the majority",
+            },
+        ],
+    }
+}
+
 /// Returns the row of `rule`.
 fn rule() -> Subcommand<'static>
     ensures { usage_of result ≡ rule }
@@ -551,7 +593,7 @@ fn schedule() -> Subcommand<'static>
 
 /// Returns the rows of all subcommands, in the order in which help lists them. All but three rows are results of
 /// functions, since the proof about a literal of all rows would take too many steps.
-pub(crate) fn subcommands() -> [Subcommand<'static>; 15]
+pub(crate) fn subcommands() -> [Subcommand<'static>; 16]
     ensures { map usage_of result ≡ usages }
 {
     [
@@ -561,6 +603,7 @@ pub(crate) fn subcommands() -> [Subcommand<'static>; 15]
         book(),
         table(),
         refute(),
+        exhaust(),
         rule(),
         muster(),
         PLAY,

@@ -79,6 +79,15 @@ pub enum Task {
         rule: Rule,
         story: Option<Story>,
     },
+    /// Find out whether any traitors, at most this many, break IC1 or IC2 among this many generals, whatever they send.
+    /// `bound` is the m of OM(m), 0 to 4. Without a commander, each general commands in turn.
+    Exhaust {
+        generals: u8,
+        bound: u8,
+        traitors: u8,
+        commander: Option<u8>,
+        rule: Rule,
+    },
     /// Find out whether a program is a rule that keeps majorities among this many generals, 2 to 13.
     Certify {
         program: String,
@@ -319,7 +328,7 @@ impl Task {
             | Task::Draw { scenario: file, .. }
             | Task::Page { scenario: file, .. }
             | Task::Retrace { scenario: file, .. } => Some(file.as_str()),
-            Task::Form { .. } | Task::Refute { .. } => None,
+            Task::Form { .. } | Task::Refute { .. } | Task::Exhaust { .. } => None,
         }
     }
 
