@@ -11,7 +11,7 @@ use Rattle.cli_tasks.specs.Refusals.{RefusesAsked, RefusesScenario, RefusesText}
 use Rattle.cli_tasks.specs.Schedules.{TellsCampaign}
 use Rattle.cli_tasks.specs.Strangers.{IsOf}
 use Rattle.cli_tasks.specs.declared.refusal.InputRefusal.{InputRefusal}
-use Rattle.cli_tasks.specs.declared.refusal.InputRefusal.TheVariants.{Codec, Object, Verifier, Assembly, Table, Scenario, Setting, Trace, Threads, Accesses, Stranger, Tolerated, RuleCall, NotText, Memory}
+use Rattle.cli_tasks.specs.declared.refusal.InputRefusal.TheVariants.{Codec, Object, Verifier, Assembly, Table, Scenario, Setting, Trace, Threads, Accesses, Stranger, Tolerated, RuleCall, LongSearch, NotText, Memory}
 
 -- A campaign is accepted if the general whose decision is explained is a lieutenant.
 pub told_asked : (any : Bool) (explained : Option Lieutenants) (bytes : List ℕ) (c : Campaign) → TellsCampaign any bytes c → stranger_asked (scenario_of c) explained ≡ None → TellsAsked any explained bytes c
@@ -33,6 +33,7 @@ unread_asked true explained bytes (Stranger g n) refuses = absurd refuses
 unread_asked false explained bytes (Stranger g n) refuses = absurd refuses
 unread_asked any explained bytes Tolerated refuses = refuses
 unread_asked any explained bytes (RuleCall unit) refuses = refuses
+unread_asked any explained bytes (LongSearch evaluations) refuses = refuses
 unread_asked any explained bytes NotText refuses = refuses
 unread_asked any explained bytes Memory refuses = refuses
 
@@ -52,6 +53,7 @@ strange_asked any explained bytes c (Accesses fault) tells strange = absurd stra
 strange_asked any explained bytes c (Stranger g n) tells strange = (c, tells, sym strange.0, strange.1)
 strange_asked any explained bytes c Tolerated tells strange = absurd strange
 strange_asked any explained bytes c (RuleCall unit) tells strange = absurd strange
+strange_asked any explained bytes c (LongSearch evaluations) tells strange = absurd strange
 strange_asked any explained bytes c NotText tells strange = absurd strange
 strange_asked any explained bytes c Memory tells strange = absurd strange
 
@@ -73,6 +75,7 @@ unread_oral explained bytes (Accesses fault) refuses = refuses
 unread_oral explained bytes (Stranger g n) refuses = absurd refuses
 unread_oral explained bytes Tolerated refuses = refuses
 unread_oral explained bytes (RuleCall unit) refuses = refuses
+unread_oral explained bytes (LongSearch evaluations) refuses = refuses
 unread_oral explained bytes NotText refuses = refuses
 unread_oral explained bytes Memory refuses = refuses
 

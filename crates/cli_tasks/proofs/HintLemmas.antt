@@ -26,6 +26,7 @@ by_text (refusal.Threads error) file text tells t = (refl, (λ e. cc), (λ e. cc
 by_text (refusal.Accesses fault) file text tells t = (refl, (λ e. cc), (λ e. cc), t)
 by_text refusal.Tolerated file text tells t = (refl, (λ e. cc), (λ e. cc), t)
 by_text (refusal.RuleCall unit) file text tells t = (refl, (λ e. cc), (λ e. cc), t)
+by_text (refusal.LongSearch evaluations) file text tells t = (refl, (λ e. cc), (λ e. cc), t)
 by_text (refusal.Stranger general generals) file text tells t = (refl, (λ e. cc), (λ e. cc), t)
 by_text refusal.NotText file text tells t = (refl, refl)
 by_text refusal.Memory file text tells t = tt

@@ -11,7 +11,7 @@ use Rattle.trace.specs.ErrorText as trace
 use Rattle.verify.specs.ErrorText as verify
 use Rattle.cli_report.specs.ShownErrors.{scenario_text, setting_text}
 use Rattle.cli_tasks.specs.declared.refusal.InputRefusal.{InputRefusal}
-use Rattle.cli_tasks.specs.declared.refusal.InputRefusal.TheVariants.{Codec, Object, Verifier, Assembly, Table, Scenario, Setting, Trace, Threads, Accesses, Tolerated, RuleCall, Stranger, NotText, Memory}
+use Rattle.cli_tasks.specs.declared.refusal.InputRefusal.TheVariants.{Codec, Object, Verifier, Assembly, Table, Scenario, Setting, Trace, Threads, Accesses, Tolerated, RuleCall, LongSearch, Stranger, NotText, Memory}
 
 -- Returns the text of a refusal: the code of the fault and, as far as there is one, where the fault is.
 abbrev pub refusal_text : InputRefusal → List ℕ
@@ -28,5 +28,7 @@ refusal_text (Accesses fault) = fault_told fault
 refusal_text (Stranger general generals) = codes "G1 general " ++ decimal general
 refusal_text Tolerated = codes "B5 more than 3m generals tolerate m traitors: no message table with at most m traitors breaks the rule"
 refusal_text (RuleCall unit) = codes "R1 unit " ++ decimal unit
+refusal_text (LongSearch evaluations) =
+    codes "B6 the search evaluates the rule up to " ++ decimal evaluations ++ codes " times, which would take too long"
 refusal_text NotText = codes "not UTF-8"
 refusal_text Memory = codes "out of memory"

@@ -34,6 +34,7 @@ pub fn reads_scenario(task: &Task) -> bool
         | Task::ExplainDecisions { .. }
         | Task::Form { .. }
         | Task::Refute { .. }
+        | Task::Exhaust { .. }
         | Task::Certify { .. } => false,
     }
 }

@@ -5,6 +5,7 @@ use bounds::RefutationError;
 use campaign_schedules::{AccessFault, AccessesError};
 use cli_report::{ShownScenarioError, ShownSettingError};
 use codec::CodecError;
+use lies::BreakError;
 use rule_program::CallFound;
 use scenario::ScenarioError;
 use std::alloc::AllocError;
@@ -47,6 +48,8 @@ pub enum InputRefusal {
     Tolerated,
     /// The program calls a helper, first at this unit, so it is no rule.
     RuleCall { unit: usize },
+    /// The search for lies that break a rule is out of reach: it evaluates the rule up to this many times.
+    LongSearch { evaluations: u64 },
     /// The bytes are not UTF-8 text.
     NotText,
     /// Memory ran out.
@@ -76,6 +79,10 @@ impl fmt::Display for InputRefusal {
                 "B5 more than 3m generals tolerate m traitors: no message table with at most m traitors breaks the rule",
             ),
             InputRefusal::RuleCall { unit } => write!(f, "R1 unit {unit}"),
+            InputRefusal::LongSearch { evaluations } => write!(
+                f,
+                "B6 the search evaluates the rule up to {evaluations} times, which would take too long"
+            ),
             InputRefusal::NotText => f.write_str("not UTF-8"),
             InputRefusal::Memory => f.write_str("out of memory"),
         }
@@ -173,6 +180,20 @@ impl From<RefutationError> for InputRefusal {
             RefutationError::Table(TableError::Memory) => InputRefusal::Memory,
             RefutationError::Table(error) => InputRefusal::Table(error),
             RefutationError::Enough => InputRefusal::Tolerated,
+        }
+    }
+}
+
+impl From<BreakError> for InputRefusal {
+    ghost use Rattle.std.specs.Prelude.{◌≡◌};
+    ghost use Rattle.cli_tasks.specs.Refusals.{break_refusal};
+
+    ghost from_gives = { λ error refusal. refusal ≡ break_refusal error };
+
+    fn from(error: BreakError) -> InputRefusal {
+        match error {
+            BreakError::Table(TableError::Memory) => InputRefusal::Memory,
+            BreakError::Table(error) => InputRefusal::Table(error),
         }
     }
 }

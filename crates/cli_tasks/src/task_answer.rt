@@ -17,6 +17,7 @@ use crate::refusal::InputRefusal;
 use crate::refutations::refuted;
 use crate::rule_certificates::certificate;
 use crate::schedules::arranged;
+use crate::searches::exhausted;
 use crate::texts::as_text;
 use crate::tree_pictures::pictured;
 use crate::trials::checked_in;
@@ -114,6 +115,15 @@ pub fn answer(alloc: Global, task: &Task, bytes: &[u8]) -> Result<FirstAnswer, I
             commander.as_str(),
             *rule,
             *story,
+        )?)),
+        Task::Exhaust {
+            generals,
+            bound,
+            traitors,
+            commander,
+            rule,
+        } => Ok(FirstAnswer::Text(exhausted(
+            alloc, *generals, *bound, *traitors, *commander, *rule,
         )?)),
         Task::Certify {
             notation, generals, ..

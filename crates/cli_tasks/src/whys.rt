@@ -46,6 +46,7 @@ pub fn is_explained(task: &Task) -> bool
         Task::Book(_)
         | Task::Form { .. }
         | Task::Refute { .. }
+        | Task::Exhaust { .. }
         | Task::Certify { .. }
         | Task::Explore { .. }
         | Task::Tree { .. }
@@ -156,6 +157,7 @@ fn told_by(
         }
         InputRefusal::Tolerated => Ok(String::new(alloc)),
         InputRefusal::RuleCall { .. } => Ok(String::new(alloc)),
+        InputRefusal::LongSearch { .. } => Ok(String::new(alloc)),
         InputRefusal::NotText => Ok(String::new(alloc)),
         InputRefusal::Memory => Ok(String::new(alloc)),
     }
