@@ -41,14 +41,14 @@ attacks_from n traitor M (suc k) w g =
 abbrev pub attacks_in : ℕ → ℕ → ℕ → (ℕ → Bool) → Messages → ℕ
 attacks_in n m c traitor M = attacks_from n traitor M m (c ∷ []) c
 
--- States that no break has fewer traitors, or as many traitors who send fewer orders other than RETREAT to loyal
--- generals.
-abbrev pub IsShortest : (List ℕ → ℕ) → ℕ → ℕ → ℕ → (ℕ → Bool) → Messages → Type 0
-IsShortest f n m c traitor M =
-    (order : ℕ) (rival : ℕ → Bool) (N : Messages) → Breaks f n m c order rival N →
+-- States that no break under the commander d has fewer traitors than a break under the commander c, or as many traitors
+-- who send fewer orders other than RETREAT to loyal generals.
+abbrev pub IsShortest : (List ℕ → ℕ) → ℕ → ℕ → ℕ → ℕ → (ℕ → Bool) → Messages → Type 0
+IsShortest f n m d c traitor M =
+    (order : ℕ) (rival : ℕ → Bool) (N : Messages) → Breaks f n m d order rival N →
     (count_by traitor (generals n) < count_by rival (generals n))
     ⊎ ((count_by traitor (generals n) ≡ count_by rival (generals n))
-    × (attacks_in n m c traitor M ≤ attacks_in n m c rival N))
+    × (attacks_in n m c traitor M ≤ attacks_in n m d rival N))
 
 -- States that a table has these numbers and this rule.
 pub record HasNumbers (n m c : ℕ) (by : Rule) (t : MessageTable) : Type 0 where
@@ -56,15 +56,3 @@ pub record HasNumbers (n m c : ℕ) (by : Rule) (t : MessageTable) : Type 0 wher
   pub bound : t.bound ≡ m
   pub commander : t.commander ≡ c
   pub rule : t.rule ≡ by
-
--- States that a text is the message table of a shortest break by at most `most` traitors: it is read as a table with
--- these numbers and this rule, all generals but the traitors are faithful in it, and its decisions break IC1 or IC2.
-pub record IsBreakTable (rule : Rule) (n m c most : ℕ) (traitors text : List ℕ) : Type 0 where
-  pub order : ℕ
-  pub table : MessageTable
-  pub read : table_told text ≡ Ok table
-  pub numbers : HasNumbers n m c rule table
-  pub few : count_by (on traitors) (generals n) ≤ most
-  pub faithful : (g : ℕ) → g < n → on traitors g ≡ false → IsFaithful n c m order (told table.messages) g
-  pub broken : ¬ Agree n c order (on traitors) (decision_of table)
-  pub shortest : IsShortest (combined_by rule) n m c (on traitors) (told table.messages)

@@ -7,30 +7,34 @@ ghost use Rattle.book.specs.Hearing.{heard};
 ghost use Rattle.book.specs.Table.{AreNumbersWithin};
 ghost use Rattle.book.specs.Trees.{tree_of};
 ghost use Rattle.book.specs.Written.{table_text};
-ghost use Rattle.lies.specs.Break.{IsBreakTable, ToleratesUnder};
+ghost use Rattle.lies.specs.Asked.{ToleratesAsked, first_asked};
+ghost use Rattle.lies.specs.BreakTable.{IsBreakTable};
 ghost use Rattle.lies.specs.BreakTrees.{messages_of};
 ghost use Rattle.lies.specs.Refusal.{IsRefused, no_memory};
 
 use crate::break_trees::break_trees;
-use crate::found::Found;
+use crate::commanders::cheapest_asked;
+use crate::found::{Found, FoundUnder};
 use crate::refusal::BreakError;
-use crate::search::cheapest_break;
 use arrayvec::ArrayVec;
 use book::{TableError, TableFault, table_of};
 use combine::Rule;
 use std::alloc::{AllocError, Global};
 
-/// A break: who the traitors are, and the messages as a message table.
+/// A break: its commander, who the traitors are, and the messages as a message table.
 #[derive(Drop)]
 pub struct BreakTable {
+    /// The number of the commander.
+    pub commander: u8,
     /// The numbers of the traitors, in ascending order.
     pub traitors: ArrayVec<u8, 13>,
     /// The text of the message table.
     pub table: String,
 }
 
-/// Returns a shortest break of OM(m) by at most `most` traitors, or `None` if the rule tolerates these traitors under
-/// this commander, whatever they send or leave out. `bound` is m.
+/// Returns a shortest break of OM(m) by at most `most` traitors, or `None` if the rule tolerates these traitors,
+/// whatever they send or leave out. `bound` is m. The search is over the breaks under the commander, or under all
+/// commanders if none is given.
 ///
 /// A shortest break has the fewest traitors. Of those it is one in which they send the fewest orders other than RETREAT
 /// to loyal generals.
@@ -42,27 +46,32 @@ pub fn shortest_break(
     alloc: Global,
     generals: u8,
     bound: u8,
-    commander: u8,
+    commander: Option<u8>,
     rule: Rule,
     most: u8,
 ) -> Result<Option<BreakTable>, BreakError>
     ensures tolerates { IfOk result (λ found. IfNone found
-        (ToleratesUnder (combined_by rule) generals bound most commander)) }
-    ensures broken { IfOk result (λ found. IfSome found
-        (λ found. IsBreakTable rule generals bound commander most found.traitors.items (string_bytes found.table))) }
-    ensures refused { IfErr result (λ e. e ≢ no_memory → IsRefused generals bound commander e) }
+        (ToleratesAsked (combined_by rule) generals bound most commander)) }
+    ensures broken { IfOk result (λ found. IfSome found (λ found. IsBreakTable rule generals bound commander most
+        found.commander found.traitors.items (string_bytes found.table))) }
+    ensures refused { IfErr result (λ e. e ≢ no_memory → IsRefused generals bound (first_asked commander) e) }
 {
-    if !is_within(generals, bound, commander) {
+    if !is_within(generals, bound, commander.unwrap_or(0)) {
         return Err(BreakError::Table(TableError::At(TableFault::Range, 1)));
     }
     for count in 0..most.min(generals) + 1 {
-        if let Some(found) = cheapest_break(alloc, &rule, generals, bound, commander, count)? {
+        if let Some(under) = cheapest_asked(alloc, &rule, generals, bound, commander, count)? {
+            let FoundUnder { commander, found } = under;
             let table = written(alloc, &found, generals, bound, commander, rule)?;
             let Found {
                 traitors,
                 success: _,
             } = found;
-            return Ok(Some(BreakTable { traitors, table }));
+            return Ok(Some(BreakTable {
+                commander,
+                traitors,
+                table,
+            }));
         }
     }
     Ok(None)
@@ -88,7 +97,7 @@ fn written(
 }
 
 /// Returns whether the numbers are within the limits of a message table.
-fn is_within(generals: u8, bound: u8, commander: u8) -> bool
+pub(crate) fn is_within(generals: u8, bound: u8, commander: u8) -> bool
     ensures { result ≡ is_within generals bound commander }
 {
     generals <= 13 && bound <= 4 && bound + 2 <= generals && commander < generals

@@ -11,3 +11,12 @@ pub(crate) struct Found {
     /// What they attempt, and what it costs.
     pub(crate) success: Success,
 }
+
+/// A break that was found, and its commander.
+#[derive(Drop)]
+pub(crate) struct FoundUnder {
+    /// The number of the commander.
+    pub(crate) commander: u8,
+    /// The break.
+    pub(crate) found: Found,
+}

@@ -1,5 +1,5 @@
 //! Whether traitors, whatever they say, break IC1 or IC2: the shortest break by OM(m) as a message table, or the
-//! certificate that there is none. The files in specs/ define both.
+//! certificate that there is none. The files in specs/ define both, and how much work the search is.
 #![tactic(auto)]
 
 mod aim;
@@ -8,12 +8,15 @@ mod attempts;
 mod break_table;
 mod break_trees;
 mod choice;
+mod commanders;
 mod cost;
+mod estimate;
 mod found;
 mod generals;
 mod last_plan;
 mod laws;
 mod message;
+mod places;
 mod plan;
 mod refusal;
 mod search;
@@ -22,5 +25,7 @@ mod sender;
 mod votes;
 
 pub use break_table::{BreakTable, shortest_break};
+pub use estimate::estimate;
 pub use laws::{rules_project, two_orders_suffice};
+pub use places::most_places;
 pub use refusal::BreakError;
