@@ -85,4 +85,6 @@ shapes =
     ∷ plain (codes "certified") (codes "certified generals N") (codes "- - generals") Nothing
     ∷ plain (codes "uncertified") (codes "uncertified majority N result N list *")
     (codes "- - majority - result - list") Nothing
+    ∷ plain (codes "none") (codes "none of E") (codes "- - exponent") Nothing
+    ∷ plain (codes "broken") (codes "broken traitors *") (codes "- - traitors") Nothing
     ∷ []

@@ -57,8 +57,14 @@ places words = option_map array (all place_of words)
 abbrev pub rule_of : Word → Option Data
 rule_of word = if is_some (rule_named word) then Some (string (utf8_lossy word)) else None
 
+-- Returns the exponent of a power of two, such as `2^18`, as a JSON number, or None for any other word.
+abbrev pub power_of : Word → Option Data
+power_of (50 ∷ 94 ∷ exponent) = number_of exponent
+power_of _ = None
+
 -- Returns the JSON value of a word, if it is what `kind` says. For N it is a number, for P a number or null, for A a
--- boolean or null, for S an array of numbers, and for C the word of a rule. Any other `kind` is the word itself.
+-- boolean or null, for S an array of numbers, for C the word of a rule, and for E the exponent of a power of two. Any
+-- other `kind` is the word itself.
 unfoldable pub told : Word → Word → Option Data
 told kind word =
     if bytes_eq kind (codes "N") then number_of word
@@ -66,5 +72,6 @@ told kind word =
     else if bytes_eq kind (codes "A") then yes_no_of word
     else if bytes_eq kind (codes "S") then joined word
     else if bytes_eq kind (codes "C") then rule_of word
+    else if bytes_eq kind (codes "E") then power_of word
     else if bytes_eq word kind then Some (string (utf8_lossy word))
     else None
