@@ -1,6 +1,6 @@
 -- The JSON objects of printed lines have no floats.
 use Rattle.std.proofs.Common.{◌≡◌, ℕ, Bool, true, false, List, [], ◌∷◌, Option, None, Some, Ordering, Less, Equal, Greater, option_map, option_and_then, bytes_eq, codes, refl}
-use Rattle.std.specs.Prelude.{if◌then◌else◌, ◌||◌, ◌==◌, is_some, length, slice_get}
+use Rattle.std.specs.Prelude.{drop, take, if◌then◌else◌, ◌||◌, ◌==◌, is_some, length, slice_get}
 use Rattle.std.specs.Str.Lossy.{utf8_lossy}
 use Rattle.std.specs.Cmp.Lexicographic.{slice_cmp}
 use Rattle.std.specs.Ordering.{match_ordering, nat_cmp}
@@ -94,11 +94,8 @@ rule_clean : (w : Word) → IsClean (rule_of w)
 rule_clean w = either IsClean (is_some (rule_named w)) (Some (string (utf8_lossy w))) None refl tt
 
 power_clean : (w : Word) → IsClean (power_of w)
-power_clean w = cases w
-  where
-    cases : (w : Word) → IsClean (power_of w)
-    cases (50 ∷ 94 ∷ exponent) = number_clean (small exponent)
-    cases _ = tt
+power_clean w =
+    either IsClean (bytes_eq (take 2 w) (codes "2^")) (number_of (drop 2 w)) None (number_clean (small (drop 2 w))) tt
 
 pub told_clean : (k w : Word) → IsClean (told k w)
 unfolding told

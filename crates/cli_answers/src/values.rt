@@ -115,10 +115,8 @@ fn rule(alloc: Global, word: &[u8]) -> Result<Option<Value>, AllocError>
 fn power(word: &[u8]) -> Option<Value>
     ensures { option_map view result ≡ power_of word.now }
 {
-    match word {
-        [b'2', b'^', exponent @ ..] => number(exponent),
-        _ => None,
-    }
+    let exponent = word.strip_prefix(b"2^")?;
+    number(exponent)
 }
 
 /// Returns the JSON value of a word, if it is what `kind` says. For `N` it is a number, for `P` a number or null, for
