@@ -107,6 +107,10 @@ named explained (Some word) = generals_in word
 named true None = Some []
 named false None = None
 
+-- States that the words have the option `name`, and that `read` parses its value as x.
+abbrev pub HasValue : {X : Type 0} → (Text → Option X) → Text → Told → X → Type 0
+HasValue read name told x = (word_of name told >>= read) ≡ Some x
+
 -- States that the value of the option `name` is this general, or that the words do not have the option and there is no
 -- general.
 abbrev pub NamesGeneral : Text → Told → Option ℕ → Type 0
@@ -236,9 +240,8 @@ Says told (Refute n m c rule story) = (told.name ≡ codes "refute")
     × (word_of (codes "COMMANDER") told ≡ Some (string_bytes c))
     × (rule_in (word_of (codes "rule") told) ≡ Some rule) × NamesStory told story
 Says told (Exhaust generals bound traitors commander rule) = (told.name ≡ codes "exhaust")
-    × ((word_of (codes "generals") told >>= size_in) ≡ Some generals)
-    × ((word_of (codes "bound") told >>= bound_in) ≡ Some bound)
-    × ((word_of (codes "traitors") told >>= traitors_in) ≡ Some traitors)
+    × HasValue size_in (codes "generals") told generals × HasValue bound_in (codes "bound") told bound
+    × HasValue traitors_in (codes "traitors") told traitors
     × NamesGeneral (codes "commander") told commander × (rule_in (word_of (codes "rule") told) ≡ Some rule)
 Says told (Certify file notation generals) = (told.name ≡ codes "rule")
     × (word_of (codes "FILE") told ≡ Some (string_bytes file)) × IsNotation told notation

@@ -1,12 +1,11 @@
 //! Turns the words that `clap`, the parser of the command line, accepted into a task, or finds why they name none.
 ghost use Rattle.std.specs.Prelude.{◌≡◌, ◌≢◌, if◌then◌else◌, IfOk, IfErr, IsSome, None, Some, [], ◌∷◌, codes, is_some, option_map, string_bytes, true, false};
 ghost use Rattle.clap.specs.Words.{subcommand_rows_of};
-ghost use Rattle.text.specs.Options.{◌>>=◌};
 ghost use Rattle.cli_words.specs.Generals.{bound_in, size_in, traitors_in};
 ghost use Rattle.cli_words.specs.Lab.{is_given, task_met};
 ghost use Rattle.cli_words.specs.Tasks.{IsDrawing, levels_in, named};
 ghost use Rattle.cli_words.specs.Met.{has_places, told_by};
-ghost use Rattle.cli_words.specs.Tasks.{AreExplained, AreTurns, Asks, IsCourse, IsErrorOf, IsFilling, IsNotation, NamesCount, NamesGeneral, NamesSeed, NamesStory, Says, campaigns, coursed, has, is_of, is_raw, is_table, programs, rule_in, ruled, size_given, word_of};
+ghost use Rattle.cli_words.specs.Tasks.{AreExplained, AreTurns, Asks, HasValue, IsCourse, IsErrorOf, IsFilling, IsNotation, NamesCount, NamesGeneral, NamesSeed, NamesStory, Says, campaigns, coursed, has, is_of, is_raw, is_table, programs, rule_in, ruled, size_given, word_of};
 
 use crate::errors::{Misuse, TaskError};
 use crate::generals::{
@@ -288,7 +287,7 @@ impl<'m, 'a> ParsedWords<'m, 'a> {
     /// generals.
     fn generals(self, alloc: Global) -> Result<u8, TaskError>
         requires { is_of (codes "exhaust" ∷ []) (told_by self) ≡ true }
-        ensures named { IfOk result (λ size. (word_of (codes "generals") (told_by self.entry) >>= size_in) ≡ Some size) }
+        ensures named { IfOk result (HasValue size_in (codes "generals") (told_by self.entry)) }
         ensures refused { IfErr result (IsErrorOf (told_by self.entry)) }
         ensures memory { has (codes "generals") (told_by self.entry) ≡ false → IfErr result (λ error. error ≢ TaskError.Memory) }
     {
@@ -304,7 +303,7 @@ impl<'m, 'a> ParsedWords<'m, 'a> {
     /// Returns the value of `--bound`, the bound on the traitors. Fails if it is missing, or is not a bound.
     fn bound(self, alloc: Global) -> Result<u8, TaskError>
         requires { is_of (codes "exhaust" ∷ []) (told_by self) ≡ true }
-        ensures named { IfOk result (λ bound. (word_of (codes "bound") (told_by self.entry) >>= bound_in) ≡ Some bound) }
+        ensures named { IfOk result (HasValue bound_in (codes "bound") (told_by self.entry)) }
         ensures refused { IfErr result (IsErrorOf (told_by self.entry)) }
         ensures memory { has (codes "bound") (told_by self.entry) ≡ false → IfErr result (λ error. error ≢ TaskError.Memory) }
     {
@@ -321,7 +320,7 @@ impl<'m, 'a> ParsedWords<'m, 'a> {
     /// of traitors.
     fn traitor_count(self, alloc: Global) -> Result<u8, TaskError>
         requires { is_of (codes "exhaust" ∷ []) (told_by self) ≡ true }
-        ensures named { IfOk result (λ most. (word_of (codes "traitors") (told_by self.entry) >>= traitors_in) ≡ Some most) }
+        ensures named { IfOk result (HasValue traitors_in (codes "traitors") (told_by self.entry)) }
         ensures refused { IfErr result (IsErrorOf (told_by self.entry)) }
         ensures memory { has (codes "traitors") (told_by self.entry) ≡ false → IfErr result (λ error. error ≢ TaskError.Memory) }
     {
