@@ -16,3 +16,6 @@ pub mod LimitLemmas
 pub mod CodeLemmas
 pub mod SetLemmas
 pub mod SearchLemmas
+pub mod CommanderLemmas
+pub mod Estimates
+pub mod PlaceLemmas

@@ -22,7 +22,9 @@ use Rattle.book.proofs.Hearing.{value_told}
 use Rattle.book.proofs.Places.{is_place_of}
 use Rattle.book.proofs.Reread.{apart_first, limits, place_from, proved_tables_are_read}
 use Rattle.book.proofs.TreeLemmas.{place_of_tree}
-use Rattle.lies.specs.Break.{Breaks, IsBreakTable, IsShortest, attacks_in}
+use Rattle.lies.specs.Asked.{IsAsked}
+use Rattle.lies.specs.Break.{Breaks, IsShortest, attacks_in}
+use Rattle.lies.specs.BreakTable.{IsBreakTable}
 use Rattle.lies.proofs.Costs.{same_from}
 
 -- Proves that the search finds the tree of a lieutenant.
@@ -75,9 +77,9 @@ faithful_same n m c order g M N same is (x ∷ xs) p label short within off =
     ∙ ap (λ o. Some (order_of o)) (sym (same (x ∷ xs) g (place_from n m c (x ∷ xs) g front ends.1 once.1 (omega arith)))))
 
 -- Proves that the table that is written from the trees of a shortest break is its message table.
-pub table_is : (rule : Rule) (n m c most order : ℕ) (traitors : List ℕ) (M : Messages) (trees : List LieutenantTree) (text : List ℕ) → is_within n m c ≡ true → AreOrders M → Breaks (combined_by rule) n m c order (on traitors) M
-    → count_by (on traitors) (generals n) ≤ most → IsShortest (combined_by rule) n m c (on traitors) M → trees ≡ map (tree_of n m c M) (lieutenants n c) → text ≡ table_text (heard trees) n m c rule → IsBreakTable rule n m c most traitors text
-table_is rule n m c most order traitors M trees text within orders breaks few shortest are written =
+pub table_is : (rule : Rule) (n m : ℕ) (given : Option ℕ) (c most order : ℕ) (traitors : List ℕ) (M : Messages) (trees : List LieutenantTree) (text : List ℕ) → is_within n m c ≡ true → AreOrders M → Breaks (combined_by rule) n m c order (on traitors) M
+    → count_by (on traitors) (generals n) ≤ most → IsAsked n given c → ((d : ℕ) → IsAsked n given d → IsShortest (combined_by rule) n m d c (on traitors) M) → trees ≡ map (tree_of n m c M) (lieutenants n c) → text ≡ table_text (heard trees) n m c rule → IsBreakTable rule n m given most c traitors text
+table_is rule n m given c most order traitors M trees text within orders breaks few asked shortest are written =
     let inside : AreNumbersWithin n m c = limits n m c within in
     let is = proved_tables_are_read M orders n m c rule within in
     let t : MessageTable = is.0 in
@@ -98,13 +100,14 @@ table_is rule n m c most order traitors M trees text within orders breaks few sh
       table = t;
       read = ap table_told same ∙ is.1;
       numbers = record { generals = contents.generals; bound = contents.bound; commander = contents.commander; rule = contents.rule };
+      asked = asked;
       few = few;
       faithful = λ g l loyal. faithful_same n m c order g M (told t.messages) places (breaks.faithful g l loyal);
       broken = λ agree. breaks.broken (record {
         alike = λ p q lp lq. sym (contents.decides p lp.general lp.lieutenant) ∙ (agree.alike p q lp lq ∙ contents.decides q lq.general lq.lieutenant);
         obeyed = λ loyal p lp. sym (contents.decides p lp.general lp.lieutenant) ∙ agree.obeyed loyal p lp;
       });
-      shortest = λ v rival N other. elim (shortest v rival N other) [
+      shortest = λ d it v rival N other. elim (shortest d it v rival N other) [
         | inl fewer ↦ inl fewer
         | inr equal ↦ inr (equal.0, (let l = equal.1 in omega arith))
       ];

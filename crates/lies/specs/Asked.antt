@@ -1,5 +1,5 @@
 -- The commanders that are asked about: one that is given, or every general.
-use Rattle.std.specs.Prelude.{ℕ, ◌<◌, ◌≡◌, ◌==◌, Bool, true, List, Option, None, Some}
+use Rattle.std.specs.Prelude.{ℕ, ◌<◌, ◌≡◌, ◌==◌, Bool, true, List, unwrap_or, Option, None, Some}
 use Rattle.bounds.specs.Tolerance.{Tolerates}
 use Rattle.lies.specs.Break.{ToleratesUnder}
 
@@ -15,8 +15,7 @@ pub record IsAsked (n : ℕ) (given : Option ℕ) (c : ℕ) : Type 0 where
 
 -- Returns the first commander asked about.
 abbrev pub first_asked : Option ℕ → ℕ
-first_asked None = 0
-first_asked (Some given) = given
+first_asked given = unwrap_or given 0
 
 -- States that OM(m) with the rule f tolerates k traitors among n generals under each commander asked about. If none is
 -- given, this is the tolerance that bounds on traitors are about.

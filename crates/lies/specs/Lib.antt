@@ -12,3 +12,4 @@ pub mod Refusal
 pub mod BreakTrees
 pub mod Estimate
 pub mod Places
+pub mod PlaceCounts
