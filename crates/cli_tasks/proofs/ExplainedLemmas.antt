@@ -33,7 +33,7 @@ unread_asked true explained bytes (Stranger g n) refuses = absurd refuses
 unread_asked false explained bytes (Stranger g n) refuses = absurd refuses
 unread_asked any explained bytes Tolerated refuses = refuses
 unread_asked any explained bytes (RuleCall unit) refuses = refuses
-unread_asked any explained bytes (LongSearch evaluations) refuses = refuses
+unread_asked any explained bytes (LongSearch steps) refuses = refuses
 unread_asked any explained bytes NotText refuses = refuses
 unread_asked any explained bytes Memory refuses = refuses
 
@@ -53,7 +53,7 @@ strange_asked any explained bytes c (Accesses fault) tells strange = absurd stra
 strange_asked any explained bytes c (Stranger g n) tells strange = (c, tells, sym strange.0, strange.1)
 strange_asked any explained bytes c Tolerated tells strange = absurd strange
 strange_asked any explained bytes c (RuleCall unit) tells strange = absurd strange
-strange_asked any explained bytes c (LongSearch evaluations) tells strange = absurd strange
+strange_asked any explained bytes c (LongSearch steps) tells strange = absurd strange
 strange_asked any explained bytes c NotText tells strange = absurd strange
 strange_asked any explained bytes c Memory tells strange = absurd strange
 
@@ -75,7 +75,7 @@ unread_oral explained bytes (Accesses fault) refuses = refuses
 unread_oral explained bytes (Stranger g n) refuses = absurd refuses
 unread_oral explained bytes Tolerated refuses = refuses
 unread_oral explained bytes (RuleCall unit) refuses = refuses
-unread_oral explained bytes (LongSearch evaluations) refuses = refuses
+unread_oral explained bytes (LongSearch steps) refuses = refuses
 unread_oral explained bytes NotText refuses = refuses
 unread_oral explained bytes Memory refuses = refuses
 

@@ -59,7 +59,7 @@ stopped_first task known bytes own (Threads error) file are named refuses is = (
 stopped_first task known bytes own (Accesses fault) file are named refuses is = ((λ e. cc), refused_first task known bytes (Accesses fault) _ are refuses (λ e. cc) is)
 stopped_first task known bytes own Tolerated file are named refuses is = ((λ e. cc), refused_first task known bytes Tolerated _ are refuses (λ e. cc) is)
 stopped_first task known bytes own (RuleCall unit) file are named refuses is = ((λ e. cc), refused_first task known bytes (RuleCall unit) _ are refuses (λ e. cc) is)
-stopped_first task known bytes own (LongSearch evaluations) file are named refuses is = ((λ e. cc), refused_first task known bytes (LongSearch evaluations) _ are refuses (λ e. cc) is)
+stopped_first task known bytes own (LongSearch steps) file are named refuses is = ((λ e. cc), refused_first task known bytes (LongSearch steps) _ are refuses (λ e. cc) is)
 stopped_first task known bytes own (Stranger general generals) file are named refuses is = ((λ e. cc), refused_first task known bytes (Stranger general generals) _ are refuses (λ e. cc) is)
 stopped_first task known bytes own NotText file are named refuses is = (refused_first task known bytes NotText _ are refuses (λ e. cc) is, named)
 stopped_first task known bytes own Memory file are named refuses is = tt
@@ -108,7 +108,7 @@ explained_first task notation known bytes (Threads error) text are refuses is wh
 explained_first task notation known bytes (Accesses fault) text are refuses is why = absurd cc
 explained_first task notation known bytes Tolerated text are refuses is why = absurd cc
 explained_first task notation known bytes (RuleCall unit) text are refuses is why = absurd cc
-explained_first task notation known bytes (LongSearch evaluations) text are refuses is why = absurd cc
+explained_first task notation known bytes (LongSearch steps) text are refuses is why = absurd cc
 explained_first task notation known bytes (Stranger general generals) text are refuses is why = absurd cc
 explained_first task notation known bytes NotText text are refuses is why = absurd cc
 explained_first task notation known bytes Memory text are refuses is why = absurd cc
@@ -139,7 +139,7 @@ hint_told task bytes (Threads error) hint is not told = subst (λ (own : Bool). 
 hint_told task bytes (Accesses fault) hint is not told = subst (λ (own : Bool). IsHintBy own (Accesses fault) task bytes (bytecode_in task bytes) hint) (sym is) told
 hint_told task bytes Tolerated hint is not told = subst (λ (own : Bool). IsHintBy own Tolerated task bytes (bytecode_in task bytes) hint) (sym is) told
 hint_told task bytes (RuleCall unit) hint is not told = subst (λ (own : Bool). IsHintBy own (RuleCall unit) task bytes (bytecode_in task bytes) hint) (sym is) told
-hint_told task bytes (LongSearch evaluations) hint is not told = subst (λ (own : Bool). IsHintBy own (LongSearch evaluations) task bytes (bytecode_in task bytes) hint) (sym is) told
+hint_told task bytes (LongSearch steps) hint is not told = subst (λ (own : Bool). IsHintBy own (LongSearch steps) task bytes (bytecode_in task bytes) hint) (sym is) told
 hint_told task bytes (Stranger general generals) hint is not told = subst (λ (own : Bool). IsHintBy own (Stranger general generals) task bytes (bytecode_in task bytes) hint) (sym is) told
 hint_told task bytes NotText hint is not told = subst (λ (own : Bool). IsHintBy own NotText task bytes (bytecode_in task bytes) hint) (sym is) told
 hint_told task bytes Memory hint is not told = subst (λ (own : Bool). IsHintBy own Memory task bytes (bytecode_in task bytes) hint) (sym is) told
@@ -237,7 +237,7 @@ not_judged task bytes (Threads error) refuses is none = tt
 not_judged task bytes (Accesses fault) refuses is none = tt
 not_judged task bytes Tolerated refuses is none = tt
 not_judged task bytes (RuleCall unit) refuses is none = tt
-not_judged task bytes (LongSearch evaluations) refuses is none = tt
+not_judged task bytes (LongSearch steps) refuses is none = tt
 not_judged task bytes (Stranger general generals) refuses is none = tt
 not_judged task bytes NotText refuses is none = tt
 not_judged task bytes Memory refuses is none = tt
@@ -264,7 +264,7 @@ asked_in task notation (Threads error) is = absurd cc
 asked_in task notation (Accesses fault) is = absurd cc
 asked_in task notation Tolerated is = absurd cc
 asked_in task notation (RuleCall unit) is = absurd cc
-asked_in task notation (LongSearch evaluations) is = absurd cc
+asked_in task notation (LongSearch steps) is = absurd cc
 asked_in task notation (Stranger general generals) is = absurd cc
 asked_in task notation NotText is = absurd cc
 asked_in task notation Memory is = absurd cc
@@ -284,7 +284,7 @@ unspelt code (Threads error) refuses = absurd refuses
 unspelt code (Accesses fault) refuses = absurd refuses
 unspelt code Tolerated refuses = absurd refuses
 unspelt code (RuleCall unit) refuses = absurd refuses
-unspelt code (LongSearch evaluations) refuses = absurd refuses
+unspelt code (LongSearch steps) refuses = absurd refuses
 unspelt code (Stranger general generals) refuses = absurd refuses
 unspelt code NotText refuses = absurd refuses
 
@@ -305,7 +305,7 @@ by_notation Texts bytes (Threads error) refuses = absurd refuses
 by_notation Texts bytes (Accesses fault) refuses = absurd refuses
 by_notation Texts bytes Tolerated refuses = absurd refuses
 by_notation Texts bytes (RuleCall unit) refuses = absurd refuses
-by_notation Texts bytes (LongSearch evaluations) refuses = absurd refuses
+by_notation Texts bytes (LongSearch steps) refuses = absurd refuses
 by_notation Texts bytes (Stranger general generals) refuses = absurd refuses
 by_notation (Objects entry) bytes refusal (inl (fault, is, none)) = (inl (fault, is, none), subst (λ (r : InputRefusal). IsNotJudged r) (sym is) tt)
 by_notation (Objects entry) bytes refusal (inr (code, is, refuses)) = let both = unspelt code refusal refuses in (inr (code, is, both.0), both.1)
@@ -369,7 +369,7 @@ quiet_first (Threads error) file own told other is e = (let z : FaultMemory ≡ 
 quiet_first (Accesses fault) file own told other is e = (let z : FaultMemory ≡ Refused (Accesses fault) (seems_behind (Accesses fault) own) = sym e ∙ is in cc)
 quiet_first Tolerated file own told other is e = (let z : FaultMemory ≡ Refused Tolerated (seems_behind Tolerated own) = sym e ∙ is in cc)
 quiet_first (RuleCall unit) file own told other is e = (let z : FaultMemory ≡ Refused (RuleCall unit) (seems_behind (RuleCall unit) own) = sym e ∙ is in cc)
-quiet_first (LongSearch evaluations) file own told other is e = (let z : FaultMemory ≡ Refused (LongSearch evaluations) (seems_behind (LongSearch evaluations) own) = sym e ∙ is in cc)
+quiet_first (LongSearch steps) file own told other is e = (let z : FaultMemory ≡ Refused (LongSearch steps) (seems_behind (LongSearch steps) own) = sym e ∙ is in cc)
 quiet_first (Stranger general generals) file own told other is e = (let z : FaultMemory ≡ Refused (Stranger general generals) (seems_behind (Stranger general generals) own) = sym e ∙ is in cc)
 quiet_first NotText file own told other is e = (let z : FaultMemory ≡ Text file = sym e ∙ is in cc)
 quiet_first Memory file own told other is e = other refl
@@ -387,7 +387,7 @@ asked_reports task (Threads error) notation is = absurd cc
 asked_reports task (Accesses fault) notation is = absurd cc
 asked_reports task Tolerated notation is = absurd cc
 asked_reports task (RuleCall unit) notation is = absurd cc
-asked_reports task (LongSearch evaluations) notation is = absurd cc
+asked_reports task (LongSearch steps) notation is = absurd cc
 asked_reports task (Stranger general generals) notation is = absurd cc
 asked_reports task NotText notation is = absurd cc
 asked_reports task Memory notation is = absurd cc

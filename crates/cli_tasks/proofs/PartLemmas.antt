@@ -19,6 +19,6 @@ cut_said text bytes (Threads error) said refuses = absurd refuses
 cut_said text bytes (Accesses fault) said refuses = absurd refuses
 cut_said text bytes Tolerated said refuses = absurd refuses
 cut_said text bytes (RuleCall unit) said refuses = absurd refuses
-cut_said text bytes (LongSearch evaluations) said refuses = absurd refuses
+cut_said text bytes (LongSearch steps) said refuses = absurd refuses
 cut_said text bytes (Stranger general generals) said refuses = absurd refuses
 cut_said text bytes NotText said refuses = absurd refuses

@@ -121,7 +121,7 @@ check_long unread file context explained traced known name (Refused (Threads err
 check_long unread file context explained traced known name (Refused (Accesses fault) hint) stops = absurd stops.1
 check_long unread file context explained traced known name (Refused Tolerated hint) stops = absurd stops.1
 check_long unread file context explained traced known name (Refused (RuleCall unit) hint) stops = absurd stops.1
-check_long unread file context explained traced known name (Refused (LongSearch evaluations) hint) stops = absurd stops.1
+check_long unread file context explained traced known name (Refused (LongSearch steps) hint) stops = absurd stops.1
 check_long unread file context explained traced known name (Refused (Stranger general generals) hint) stops = absurd stops.1
 check_long unread file context explained traced known name (Refused NotText hint) stops = absurd stops.1
 check_long unread file context explained traced known name (Refused NoMemoryLeft hint) stops = absurd stops.1
@@ -144,7 +144,7 @@ listing_long unread file units explained known name (Refused (Threads error) hin
 listing_long unread file units explained known name (Refused (Accesses fault) hint) stops = absurd stops.1
 listing_long unread file units explained known name (Refused Tolerated hint) stops = absurd stops.1
 listing_long unread file units explained known name (Refused (RuleCall unit) hint) stops = absurd stops.1
-listing_long unread file units explained known name (Refused (LongSearch evaluations) hint) stops = absurd stops.1
+listing_long unread file units explained known name (Refused (LongSearch steps) hint) stops = absurd stops.1
 listing_long unread file units explained known name (Refused (Stranger general generals) hint) stops = absurd stops.1
 listing_long unread file units explained known name (Refused NotText hint) stops = absurd stops.1
 listing_long unread file units explained known name (Refused NoMemoryLeft hint) stops = absurd stops.1

@@ -56,7 +56,7 @@ plain unread known R of (refusal.Threads error) file refused = ((λ e. cc), (ref
 plain unread known R of (refusal.Accesses fault) file refused = ((λ e. cc), (refused (λ e. cc), refl))
 plain unread known R of refusal.Tolerated file refused = ((λ e. cc), (refused (λ e. cc), refl))
 plain unread known R of (refusal.RuleCall unit) file refused = ((λ e. cc), (refused (λ e. cc), refl))
-plain unread known R of (refusal.LongSearch evaluations) file refused = ((λ e. cc), (refused (λ e. cc), refl))
+plain unread known R of (refusal.LongSearch steps) file refused = ((λ e. cc), (refused (λ e. cc), refl))
 plain unread known R of (refusal.Stranger general generals) file refused = ((λ e. cc), (refused (λ e. cc), refl))
 plain unread known R of refusal.NotText file refused = ((refused (λ e. cc), refl), refl)
 plain unread known R of refusal.Memory file refused = tt
@@ -124,6 +124,6 @@ unmustered unread true known s who (refusal.Trace error) file fault refused told
 unmustered unread true known s who (refusal.Accesses own) file fault refused told = absurd (refused (λ e. cc)).1
 unmustered unread true known s who refusal.Tolerated file fault refused told = absurd (refused (λ e. cc)).1
 unmustered unread true known s who (refusal.RuleCall unit) file fault refused told = absurd (refused (λ e. cc)).1
-unmustered unread true known s who (refusal.LongSearch evaluations) file fault refused told = absurd (refused (λ e. cc)).1
+unmustered unread true known s who (refusal.LongSearch steps) file fault refused told = absurd (refused (λ e. cc)).1
 unmustered unread true known s who (refusal.Stranger general generals) file fault refused told = absurd (refused (λ e. cc)).1
 unmustered unread true known s who refusal.NotText file fault refused told = absurd (refused (λ e. cc)).1

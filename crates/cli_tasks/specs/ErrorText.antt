@@ -28,7 +28,7 @@ refusal_text (Accesses fault) = fault_told fault
 refusal_text (Stranger general generals) = codes "G1 general " ++ decimal general
 refusal_text Tolerated = codes "B5 more than 3m generals tolerate m traitors: no message table with at most m traitors breaks the rule"
 refusal_text (RuleCall unit) = codes "R1 unit " ++ decimal unit
-refusal_text (LongSearch evaluations) =
-    codes "B6 the search evaluates the rule up to " ++ decimal evaluations ++ codes " times, which would take too long"
+refusal_text (LongSearch steps) =
+    codes "B6 the search takes some " ++ decimal steps ++ codes " steps, and at most 100000000 are allowed"
 refusal_text NotText = codes "not UTF-8"
 refusal_text Memory = codes "out of memory"

@@ -6,16 +6,16 @@ use Rattle.combine.specs.declared.campaign_rule.Rule.{Rule}
 use Rattle.combine.specs.Rule.{combined_by}
 use Rattle.lies.specs.Asked.{ToleratesAsked, first_asked}
 use Rattle.lies.specs.BreakTable.{IsBreakTable}
-use Rattle.lies.specs.Estimate.{estimate, stored}
+use Rattle.lies.specs.Estimate.{steps as steps_of, stored}
 use Rattle.lies.specs.Places.{AreMostPlaces}
 use Rattle.lies.specs.Refusal.{IsRefused}
 use Rattle.lies.specs.declared.refusal.BreakError.TheVariants as lies
 use Rattle.cli_tasks.specs.declared.refusal.InputRefusal.{InputRefusal}
 use Rattle.cli_tasks.specs.declared.refusal.InputRefusal.TheVariants.{Table, LongSearch, Memory}
 
--- The most evaluations of the rule that a search may take by its estimate.
-abbrev pub most_evaluations : ℕ
-most_evaluations = 1000000000
+-- The most steps that a search may take by its estimate.
+abbrev pub most_steps : ℕ
+most_steps = 100000000
 
 -- Writes the line of a rule that no lies break. Traitors send up to `places` orders to loyal generals.
 abbrev pub none_line : ℕ → List ℕ
@@ -43,10 +43,10 @@ abbrev pub Exhausts : ℕ → ℕ → ℕ → Option ℕ → Rule → List ℕ �
 Exhausts n m k given rule text = SaysNone n m k given rule text ⊎ ShowsBreak n m k given rule text
 
 -- States why `exhaust` prints nothing. The numbers are out of the limits of a message table. Or the search would
--- evaluate the rule too often, or memory ran out.
+-- take too many steps, or memory ran out.
 abbrev pub RefusesSearch : ℕ → ℕ → ℕ → Option ℕ → InputRefusal → Type 0
 RefusesSearch n m k given (Table error) = IsRefused n m (first_asked given) (lies.Table error)
-RefusesSearch n m k given (LongSearch evaluations) =
-    (evaluations ≡ stored (estimate n m given k)) × (most_evaluations < evaluations)
+RefusesSearch n m k given (LongSearch steps) =
+    (steps ≡ stored (steps_of n m given k)) × (most_steps < steps)
 RefusesSearch n m k given Memory = Unit {0}
 RefusesSearch n m k given _ = ⊥

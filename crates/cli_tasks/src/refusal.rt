@@ -48,8 +48,8 @@ pub enum InputRefusal {
     Tolerated,
     /// The program calls a helper, first at this unit, so it is no rule.
     RuleCall { unit: usize },
-    /// The search for lies that break a rule is out of reach: it evaluates the rule up to this many times.
-    LongSearch { evaluations: u64 },
+    /// The search for a break is out of reach: it takes this many steps by its estimate.
+    LongSearch { steps: u64 },
     /// The bytes are not UTF-8 text.
     NotText,
     /// Memory ran out.
@@ -79,9 +79,9 @@ impl fmt::Display for InputRefusal {
                 "B5 more than 3m generals tolerate m traitors: no message table with at most m traitors breaks the rule",
             ),
             InputRefusal::RuleCall { unit } => write!(f, "R1 unit {unit}"),
-            InputRefusal::LongSearch { evaluations } => write!(
+            InputRefusal::LongSearch { steps } => write!(
                 f,
-                "B6 the search evaluates the rule up to {evaluations} times, which would take too long"
+                "B6 the search takes some {steps} steps, and at most 100000000 are allowed"
             ),
             InputRefusal::NotText => f.write_str("not UTF-8"),
             InputRefusal::Memory => f.write_str("out of memory"),

@@ -1,15 +1,15 @@
 //! Decides whether traitors, whatever they say, break a rule (subcommand `exhaust`).
 ghost use Rattle.std.specs.Prelude.{◌≡◌, ◌++◌, ◌≤◌, IfOk, IfErr, string_bytes};
-ghost use Rattle.lies.specs.Estimate.{estimate as estimate_of, stored};
-ghost use Rattle.cli_tasks.specs.Searches.{Exhausts, RefusesSearch, broken_line, most_evaluations};
+ghost use Rattle.lies.specs.Estimate.{steps as steps_of, stored};
+ghost use Rattle.cli_tasks.specs.Searches.{Exhausts, RefusesSearch, broken_line, most_steps};
 
 use crate::refusal::InputRefusal;
 use combine::Rule;
 use lies::{BreakTable, estimate, most_places, shortest_break};
 use std::alloc::{AllocError, Global};
 
-/// The most evaluations of the rule that a search may take by its estimate.
-const MOST_EVALUATIONS: u64 = 1_000_000_000;
+/// The most steps that a search may take by its estimate.
+const MOST_STEPS: u64 = 100_000_000;
 
 /// Searches all that at most `most` traitors can say for a break of IC1 or IC2 by OM(m) with the rule. `bound` is m.
 /// Without a commander, each general commands in turn. Returns the line that says that there is no break, or the
@@ -17,8 +17,8 @@ const MOST_EVALUATIONS: u64 = 1_000_000_000;
 ///
 /// # Errors
 ///
-/// Fails with `Table` if the numbers are out of the limits of a message table, with `LongSearch` if the search would
-/// evaluate the rule more than 1,000,000,000 times by its estimate, and with `Memory` if memory runs out.
+/// Fails with `Table` if the numbers are out of the limits of a message table, with `LongSearch` if the search takes
+/// more than 100,000,000 steps by its estimate, and with `Memory` if memory runs out.
 pub fn exhausted(
     alloc: Global,
     generals: u8,
@@ -28,12 +28,12 @@ pub fn exhausted(
     rule: Rule,
 ) -> Result<String, InputRefusal>
     ensures decides { IfOk result (λ text. Exhausts generals bound most commander rule (string_bytes text)) }
-    ensures reach { IfOk result (λ _. stored (estimate_of generals bound commander most) ≤ most_evaluations) }
+    ensures reach { IfOk result (λ _. stored (steps_of generals bound commander most) ≤ most_steps) }
     ensures refused { IfErr result (RefusesSearch generals bound most commander) }
 {
-    let evaluations = estimate(generals, bound, commander, most);
-    if MOST_EVALUATIONS < evaluations {
-        return Err(InputRefusal::LongSearch { evaluations });
+    let steps = estimate(generals, bound, commander, most);
+    if MOST_STEPS < steps {
+        return Err(InputRefusal::LongSearch { steps });
     }
     match shortest_break(alloc, generals, bound, commander, rule, most)? {
         Some(found) => Ok(broken(alloc, &found)?),
