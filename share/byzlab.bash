@@ -7,7 +7,7 @@
 
 _byzlab() {
     local words=("${COMP_WORDS[@]}") at=$COMP_CWORD script="prove release install uninstall serve --try" offered program= start=
-    local commands="check asm dis book table refute muster play audit explore tree draw page schedule survey help"
+    local commands="check asm dis book table refute exhaust rule muster play audit explore tree draw page schedule survey help"
     program=$(type -P -- "${words[0]}") && LC_ALL=C read -r -n 4 start <"$program"
     if [ "$start" = $'\x7fELF' ]; then
         script= commands=${commands/ survey/}
@@ -35,6 +35,8 @@ _byzlab() {
     *:book:-*) offered="--explain --json --traitors -h --help" ;;
     *:table:-*) offered="--loyal --lie -h --help" ;;
     *:refute:-*) offered="--rule --story -h --help" ;;
+    *:exhaust:-*) offered="--json --generals --bound --traitors --commander --rule -h --help" ;;
+    *:rule:-*) offered="--asm --elf --json --entry --generals -h --help" ;;
     *:tree:-*) offered="--text --ascii --dot --svg --fold --of --traitors --depth --no-files -h --help" ;;
     *:draw:-*) offered="--schedule --chronicle --no-files -h --help" ;;
     *:page:-*) offered="--schedule --chronicle -o --no-files -h --help" ;;

@@ -530,6 +530,14 @@ done:   exit
         exit
 never:  ldd r0, [r10-8]
         exit
+;; rash.asm
+; r0 0: as a rule it loses majorities. Of up to three orders, one to attack is enough.
+        ldw r0, [r1+32]
+        ldw r2, [r1+36]
+        or r0, r2
+        ldw r2, [r1+40]
+        or r0, r2
+        exit
 ;; refused_above_stack.asm
 ; V8 unit 0: eight bytes from -4 on end at 4, but the stack ends at 0.
         ldd r0, [r10-4]
@@ -825,3 +833,34 @@ out:    exit
         mov r2, 1
         call board_add
         exit
+;; vote.asm
+; r0 0: as a rule it keeps majorities. It counts the orders to attack, which are 1, and doubles their number.
+        ldw r2, [r1+20]
+        ldw r3, [r1+32]
+        ldw r4, [r1+36]
+        add r3, r4
+        ldw r4, [r1+40]
+        add r3, r4
+        ldw r4, [r1+44]
+        add r3, r4
+        ldw r4, [r1+48]
+        add r3, r4
+        ldw r4, [r1+52]
+        add r3, r4
+        ldw r4, [r1+56]
+        add r3, r4
+        ldw r4, [r1+60]
+        add r3, r4
+        ldw r4, [r1+64]
+        add r3, r4
+        ldw r4, [r1+68]
+        add r3, r4
+        ldw r4, [r1+72]
+        add r3, r4
+        ldw r4, [r1+76]
+        add r3, r4
+        lsh r3, 1
+        mov r0, 0
+        jle r3, r2, out
+        mov r0, 1
+out:    exit

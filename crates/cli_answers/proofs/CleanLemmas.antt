@@ -1,6 +1,6 @@
 -- The JSON objects of printed lines have no floats.
 use Rattle.std.proofs.Common.{◌≡◌, ℕ, Bool, true, false, List, [], ◌∷◌, Option, None, Some, Ordering, Less, Equal, Greater, option_map, option_and_then, bytes_eq, codes, refl}
-use Rattle.std.specs.Prelude.{if◌then◌else◌, ◌||◌, ◌==◌, is_some, length, slice_get}
+use Rattle.std.specs.Prelude.{drop, take, if◌then◌else◌, ◌||◌, ◌==◌, is_some, length, slice_get}
 use Rattle.std.specs.Str.Lossy.{utf8_lossy}
 use Rattle.std.specs.Cmp.Lexicographic.{slice_cmp}
 use Rattle.std.specs.Ordering.{match_ordering, nat_cmp}
@@ -17,7 +17,7 @@ use Rattle.cli_answers.specs.Lines.{with_file}
 use Rattle.cli_answers.specs.Objects.{called, first_by, first_shaped, line_object, or, shaped, told_by, unshaped, with_mark, with_name}
 use Rattle.cli_answers.specs.Refusals.{behind_stop, class_of, fault_object, namer, namer_of, refusal_object, refused_object, reported, sentence_of, with_namer, with_sentence, with_text}
 use Rattle.cli_answers.specs.Shapes.{Row, accesses, shapes}
-use Rattle.cli_answers.specs.Values.{Word, all, joined, number_of, place_of, places, rule_of, small, told, yes_no_of}
+use Rattle.cli_answers.specs.Values.{Word, all, joined, number_of, place_of, places, power_of, rule_of, small, told, yes_no_of}
 
 abbrev IsClean : Option Data → Type 0
 IsClean None = Unit {0}
@@ -93,6 +93,10 @@ places_clean ws = array_clean (all place_of ws) (all_clean place_of place_clean 
 rule_clean : (w : Word) → IsClean (rule_of w)
 rule_clean w = either IsClean (is_some (rule_named w)) (Some (string (utf8_lossy w))) None refl tt
 
+power_clean : (w : Word) → IsClean (power_of w)
+power_clean w =
+    either IsClean (bytes_eq (take 2 w) (codes "2^")) (number_of (drop 2 w)) None (number_clean (small (drop 2 w))) tt
+
 pub told_clean : (k w : Word) → IsClean (told k w)
 unfolding told
 told_clean k w =
@@ -101,7 +105,8 @@ told_clean k w =
     (either IsClean (bytes_eq k (codes "A")) (yes_no_of w) _ (yes_no_clean w)
     (either IsClean (bytes_eq k (codes "S")) (joined w) _ (joined_clean w)
     (either IsClean (bytes_eq k (codes "C")) (rule_of w) _ (rule_clean w)
-    (either IsClean (bytes_eq w k) (Some (string (utf8_lossy w))) None refl tt)))))
+    (either IsClean (bytes_eq k (codes "E")) (power_of w) _ (power_clean w)
+    (either IsClean (bytes_eq w k) (Some (string (utf8_lossy w))) None refl tt))))))
 
 abbrev NoFloat : Members → Type 0
 NoFloat ms = members_have_float ms ≡ false

@@ -82,4 +82,9 @@ shapes =
     ∷ plain (codes "table") (codes "generals N bound N commander N rule C")
     (codes "- generals - bound - commander - rule") Nothing
     ∷ plain (codes "message") (codes "tell S N N") (codes "- label receiver order") Nothing
+    ∷ plain (codes "certified") (codes "certified generals N") (codes "- - generals") Nothing
+    ∷ plain (codes "uncertified") (codes "uncertified majority N result N list *")
+    (codes "- - majority - result - list") Nothing
+    ∷ plain (codes "none") (codes "none of E") (codes "- - exponent") Nothing
+    ∷ plain (codes "broken") (codes "broken traitors *") (codes "- - traitors") Nothing
     ∷ []

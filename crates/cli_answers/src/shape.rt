@@ -24,8 +24,9 @@ pub(crate) struct Shape {
     /// The kind of these lines, which is the value of the member `line`.
     pub line: &'static str,
     /// For each word what it may be, and its name, or a dash if the object leaves the word out. `N` is a number, `P`
-    /// a number or a dash, `A` yes, no or a dash, `S` numbers joined by dots or a dash, and `C` the word of a rule.
-    /// `*` is any number of further words, each a number or a dash. Anything else is the word itself.
+    /// a number or a dash, `A` yes, no or a dash, `S` numbers joined by dots or a dash, `C` the word of a rule, and `E`
+    /// a power of two, such as `2^18`. `*` is any number of further words, each a number or a dash. Anything else is
+    /// the word itself.
     pub parts: &'static [(&'static str, &'static str)],
     /// The mark: the name of a member that is true, or false, in the objects of all these lines. It is empty if there
     /// is no mark.
@@ -264,6 +265,42 @@ const SHAPES: &[Shape] = &[
             ("N", "receiver"),
             ("N", "order"),
         ],
+        mark: "",
+        holds: false,
+        within: Within::Nothing,
+    },
+    Shape {
+        line: "certified",
+        parts: &[("certified", "-"), ("generals", "-"), ("N", "generals")],
+        mark: "",
+        holds: false,
+        within: Within::Nothing,
+    },
+    Shape {
+        line: "uncertified",
+        parts: &[
+            ("uncertified", "-"),
+            ("majority", "-"),
+            ("N", "majority"),
+            ("result", "-"),
+            ("N", "result"),
+            ("list", "-"),
+            ("*", "list"),
+        ],
+        mark: "",
+        holds: false,
+        within: Within::Nothing,
+    },
+    Shape {
+        line: "none",
+        parts: &[("none", "-"), ("of", "-"), ("E", "exponent")],
+        mark: "",
+        holds: false,
+        within: Within::Nothing,
+    },
+    Shape {
+        line: "broken",
+        parts: &[("broken", "-"), ("traitors", "-"), ("*", "traitors")],
         mark: "",
         holds: false,
         within: Within::Nothing,

@@ -5,7 +5,7 @@ ghost use Rattle.serde_json.specs.Data.{string};
 ghost use Rattle.serde_json.specs.View.{view};
 ghost use Rattle.text.specs.Parts.{left};
 ghost use Rattle.text.specs.Stop.{space};
-ghost use Rattle.cli_answers.specs.Values.{joined, number_of, numbers_of, place_of, places, rule_of, small, told, yes_no_of};
+ghost use Rattle.cli_answers.specs.Values.{joined, number_of, numbers_of, place_of, places, power_of, rule_of, small, told, yes_no_of};
 
 use combine::Rule;
 use serde_json::Value;
@@ -111,9 +111,17 @@ fn rule(alloc: Global, word: &[u8]) -> Result<Option<Value>, AllocError>
     }
 }
 
+/// Returns the exponent of a power of two, such as `2^18`, as a JSON number, or `None` for any other word.
+fn power(word: &[u8]) -> Option<Value>
+    ensures { option_map view result ≡ power_of word.now }
+{
+    let exponent = word.strip_prefix(b"2^")?;
+    number(exponent)
+}
+
 /// Returns the JSON value of a word, if it is what `kind` says. For `N` it is a number, for `P` a number or null, for
-/// `A` a boolean or null, for `S` an array of numbers, and for `C` the word of a rule. Any other `kind` is the word
-/// itself. Returns `None` if the word does not fit.
+/// `A` a boolean or null, for `S` an array of numbers, for `C` the word of a rule, and for `E` the exponent of a power
+/// of two. Any other `kind` is the word itself. Returns `None` if the word does not fit.
 #[tactic(auto, unfolding(crate::specs::Values::told))]
 pub(crate) fn told(alloc: Global, kind: &[u8], word: &[u8]) -> Result<Option<Value>, AllocError>
     ensures { IfOk result (λ o. option_map view o ≡ told kind.now word.now) }
@@ -128,6 +136,8 @@ pub(crate) fn told(alloc: Global, kind: &[u8], word: &[u8]) -> Result<Option<Val
         joined(alloc, word)
     } else if kind == b"C".as_slice() {
         rule(alloc, word)
+    } else if kind == b"E".as_slice() {
+        Ok(power(word))
     } else if word == kind {
         Ok(Some(spelled(alloc, word)?))
     } else {

@@ -28,7 +28,7 @@ use Rattle.cli_tasks.specs.declared.failure.TaskFailure.TheVariants.{Read, Text,
 use Rattle.cli_tasks.specs.declared.hint.Hint.{Hint}
 use Rattle.cli_tasks.specs.declared.hint.Hint.TheVariants.{Explained}
 use Rattle.cli_tasks.specs.declared.refusal.InputRefusal.{InputRefusal}
-use Rattle.cli_tasks.specs.declared.refusal.InputRefusal.TheVariants.{Codec, Object, Verifier, Assembly, Table, Scenario, Setting, Trace, Threads, Accesses, Tolerated, Stranger, NotText, Memory}
+use Rattle.cli_tasks.specs.declared.refusal.InputRefusal.TheVariants.{Codec, Object, Verifier, Assembly, Table, Scenario, Setting, Trace, Threads, Accesses, Tolerated, RuleCall, LongSearch, Stranger, NotText, Memory}
 use Rattle.verify.specs.declared.error.VerifyError.{VerifyError}
 use Rattle.cli_tasks.proofs.WhyLemmas.{nothing_said}
 
@@ -58,6 +58,8 @@ stopped_first task known bytes own (Trace error) file are named refuses is = ((�
 stopped_first task known bytes own (Threads error) file are named refuses is = ((λ e. cc), refused_first task known bytes (Threads error) _ are refuses (λ e. cc) is)
 stopped_first task known bytes own (Accesses fault) file are named refuses is = ((λ e. cc), refused_first task known bytes (Accesses fault) _ are refuses (λ e. cc) is)
 stopped_first task known bytes own Tolerated file are named refuses is = ((λ e. cc), refused_first task known bytes Tolerated _ are refuses (λ e. cc) is)
+stopped_first task known bytes own (RuleCall unit) file are named refuses is = ((λ e. cc), refused_first task known bytes (RuleCall unit) _ are refuses (λ e. cc) is)
+stopped_first task known bytes own (LongSearch steps) file are named refuses is = ((λ e. cc), refused_first task known bytes (LongSearch steps) _ are refuses (λ e. cc) is)
 stopped_first task known bytes own (Stranger general generals) file are named refuses is = ((λ e. cc), refused_first task known bytes (Stranger general generals) _ are refuses (λ e. cc) is)
 stopped_first task known bytes own NotText file are named refuses is = (refused_first task known bytes NotText _ are refuses (λ e. cc) is, named)
 stopped_first task known bytes own Memory file are named refuses is = tt
@@ -76,6 +78,8 @@ asks (task.Book file) notation is = absurd cc
 asks (task.ExplainDecisions file traitors) notation is = absurd cc
 asks (task.Form n m c filling) notation is = absurd cc
 asks (task.Refute n m c rule story) notation is = absurd cc
+asks (task.Exhaust generals bound traitors commander rule) notation is = absurd cc
+asks (task.Certify file own generals) notation is = absurd cc
 asks (task.Play scenario schedule account explained) notation is = absurd cc
 asks (task.Muster scenario explained) notation is = absurd cc
 asks (task.Audit scenario chronicle explained) notation is = absurd cc
@@ -103,6 +107,8 @@ explained_first task notation known bytes (Trace error) text are refuses is why 
 explained_first task notation known bytes (Threads error) text are refuses is why = absurd cc
 explained_first task notation known bytes (Accesses fault) text are refuses is why = absurd cc
 explained_first task notation known bytes Tolerated text are refuses is why = absurd cc
+explained_first task notation known bytes (RuleCall unit) text are refuses is why = absurd cc
+explained_first task notation known bytes (LongSearch steps) text are refuses is why = absurd cc
 explained_first task notation known bytes (Stranger general generals) text are refuses is why = absurd cc
 explained_first task notation known bytes NotText text are refuses is why = absurd cc
 explained_first task notation known bytes Memory text are refuses is why = absurd cc
@@ -132,6 +138,8 @@ hint_told task bytes (Trace error) hint is not told = subst (λ (own : Bool). Is
 hint_told task bytes (Threads error) hint is not told = subst (λ (own : Bool). IsHintBy own (Threads error) task bytes (bytecode_in task bytes) hint) (sym is) told
 hint_told task bytes (Accesses fault) hint is not told = subst (λ (own : Bool). IsHintBy own (Accesses fault) task bytes (bytecode_in task bytes) hint) (sym is) told
 hint_told task bytes Tolerated hint is not told = subst (λ (own : Bool). IsHintBy own Tolerated task bytes (bytecode_in task bytes) hint) (sym is) told
+hint_told task bytes (RuleCall unit) hint is not told = subst (λ (own : Bool). IsHintBy own (RuleCall unit) task bytes (bytecode_in task bytes) hint) (sym is) told
+hint_told task bytes (LongSearch steps) hint is not told = subst (λ (own : Bool). IsHintBy own (LongSearch steps) task bytes (bytecode_in task bytes) hint) (sym is) told
 hint_told task bytes (Stranger general generals) hint is not told = subst (λ (own : Bool). IsHintBy own (Stranger general generals) task bytes (bytecode_in task bytes) hint) (sym is) told
 hint_told task bytes NotText hint is not told = subst (λ (own : Bool). IsHintBy own NotText task bytes (bytecode_in task bytes) hint) (sym is) told
 hint_told task bytes Memory hint is not told = subst (λ (own : Bool). IsHintBy own Memory task bytes (bytecode_in task bytes) hint) (sym is) told
@@ -207,6 +215,8 @@ not_judged (task.ExplainDecisions file traitors) bytes (Verifier fault) refuses 
 not_judged (task.Form n m c None) bytes (Verifier fault) refuses is none = absurd refuses
 not_judged (task.Form n m c (Some filling)) bytes (Verifier fault) refuses is none = absurd refuses
 not_judged (task.Refute n m c rule story) bytes (Verifier fault) refuses is none = absurd refuses
+not_judged (task.Exhaust generals bound traitors commander rule) bytes (Verifier fault) refuses is none = absurd refuses
+not_judged (task.Certify file own generals) bytes (Verifier fault) refuses is none = absurd cc
 not_judged (task.Play scenario schedule account explained) bytes (Verifier fault) refuses is none = absurd (no_campaign (is_chronicle account) bytes fault refuses)
 not_judged (task.Muster scenario explained) bytes (Verifier fault) refuses is none = absurd (no_campaign true bytes fault refuses)
 not_judged (task.Audit scenario chronicle explained) bytes (Verifier fault) refuses is none = absurd (no_campaign true bytes fault refuses)
@@ -226,6 +236,8 @@ not_judged task bytes (Trace error) refuses is none = tt
 not_judged task bytes (Threads error) refuses is none = tt
 not_judged task bytes (Accesses fault) refuses is none = tt
 not_judged task bytes Tolerated refuses is none = tt
+not_judged task bytes (RuleCall unit) refuses is none = tt
+not_judged task bytes (LongSearch steps) refuses is none = tt
 not_judged task bytes (Stranger general generals) refuses is none = tt
 not_judged task bytes NotText refuses is none = tt
 not_judged task bytes Memory refuses is none = tt
@@ -251,6 +263,8 @@ asked_in task notation (Trace error) is = absurd cc
 asked_in task notation (Threads error) is = absurd cc
 asked_in task notation (Accesses fault) is = absurd cc
 asked_in task notation Tolerated is = absurd cc
+asked_in task notation (RuleCall unit) is = absurd cc
+asked_in task notation (LongSearch steps) is = absurd cc
 asked_in task notation (Stranger general generals) is = absurd cc
 asked_in task notation NotText is = absurd cc
 asked_in task notation Memory is = absurd cc
@@ -269,6 +283,8 @@ unspelt code (Trace error) refuses = absurd refuses
 unspelt code (Threads error) refuses = absurd refuses
 unspelt code (Accesses fault) refuses = absurd refuses
 unspelt code Tolerated refuses = absurd refuses
+unspelt code (RuleCall unit) refuses = absurd refuses
+unspelt code (LongSearch steps) refuses = absurd refuses
 unspelt code (Stranger general generals) refuses = absurd refuses
 unspelt code NotText refuses = absurd refuses
 
@@ -288,6 +304,8 @@ by_notation Texts bytes (Trace error) refuses = absurd refuses
 by_notation Texts bytes (Threads error) refuses = absurd refuses
 by_notation Texts bytes (Accesses fault) refuses = absurd refuses
 by_notation Texts bytes Tolerated refuses = absurd refuses
+by_notation Texts bytes (RuleCall unit) refuses = absurd refuses
+by_notation Texts bytes (LongSearch steps) refuses = absurd refuses
 by_notation Texts bytes (Stranger general generals) refuses = absurd refuses
 by_notation (Objects entry) bytes refusal (inl (fault, is, none)) = (inl (fault, is, none), subst (λ (r : InputRefusal). IsNotJudged r) (sym is) tt)
 by_notation (Objects entry) bytes refusal (inr (code, is, refuses)) = let both = unspelt code refusal refuses in (inr (code, is, both.0), both.1)
@@ -304,6 +322,8 @@ checks_in (task.Book file) notation bytes refusal is refuses = absurd cc
 checks_in (task.ExplainDecisions file traitors) notation bytes refusal is refuses = absurd cc
 checks_in (task.Form n m c filling) notation bytes refusal is refuses = absurd cc
 checks_in (task.Refute n m c rule story) notation bytes refusal is refuses = absurd cc
+checks_in (task.Exhaust generals bound traitors commander rule) notation bytes refusal is refuses = absurd cc
+checks_in (task.Certify file own generals) notation bytes refusal is refuses = absurd cc
 checks_in (task.Play scenario schedule account explained) notation bytes refusal is refuses = absurd cc
 checks_in (task.Muster scenario explained) notation bytes refusal is refuses = absurd cc
 checks_in (task.Audit scenario chronicle explained) notation bytes refusal is refuses = absurd cc
@@ -348,6 +368,8 @@ quiet_first (Trace error) file own told other is e = (let z : FaultMemory ≡ Re
 quiet_first (Threads error) file own told other is e = (let z : FaultMemory ≡ Refused (Threads error) (seems_behind (Threads error) own) = sym e ∙ is in cc)
 quiet_first (Accesses fault) file own told other is e = (let z : FaultMemory ≡ Refused (Accesses fault) (seems_behind (Accesses fault) own) = sym e ∙ is in cc)
 quiet_first Tolerated file own told other is e = (let z : FaultMemory ≡ Refused Tolerated (seems_behind Tolerated own) = sym e ∙ is in cc)
+quiet_first (RuleCall unit) file own told other is e = (let z : FaultMemory ≡ Refused (RuleCall unit) (seems_behind (RuleCall unit) own) = sym e ∙ is in cc)
+quiet_first (LongSearch steps) file own told other is e = (let z : FaultMemory ≡ Refused (LongSearch steps) (seems_behind (LongSearch steps) own) = sym e ∙ is in cc)
 quiet_first (Stranger general generals) file own told other is e = (let z : FaultMemory ≡ Refused (Stranger general generals) (seems_behind (Stranger general generals) own) = sym e ∙ is in cc)
 quiet_first NotText file own told other is e = (let z : FaultMemory ≡ Text file = sym e ∙ is in cc)
 quiet_first Memory file own told other is e = other refl
@@ -364,6 +386,8 @@ asked_reports task (Trace error) notation is = absurd cc
 asked_reports task (Threads error) notation is = absurd cc
 asked_reports task (Accesses fault) notation is = absurd cc
 asked_reports task Tolerated notation is = absurd cc
+asked_reports task (RuleCall unit) notation is = absurd cc
+asked_reports task (LongSearch steps) notation is = absurd cc
 asked_reports task (Stranger general generals) notation is = absurd cc
 asked_reports task NotText notation is = absurd cc
 asked_reports task Memory notation is = absurd cc

@@ -18,5 +18,6 @@ pub mod FilesLemmas
 pub mod FirstLemmas
 pub mod MusterLemmas
 pub mod ReadLemmas
+pub mod CertificateLemmas
 pub mod ScheduleLemmas
 pub mod WhyLemmas

@@ -55,6 +55,8 @@ plain unread known R of (refusal.Trace error) file refused = ((λ e. cc), (refus
 plain unread known R of (refusal.Threads error) file refused = ((λ e. cc), (refused (λ e. cc), refl))
 plain unread known R of (refusal.Accesses fault) file refused = ((λ e. cc), (refused (λ e. cc), refl))
 plain unread known R of refusal.Tolerated file refused = ((λ e. cc), (refused (λ e. cc), refl))
+plain unread known R of (refusal.RuleCall unit) file refused = ((λ e. cc), (refused (λ e. cc), refl))
+plain unread known R of (refusal.LongSearch steps) file refused = ((λ e. cc), (refused (λ e. cc), refl))
 plain unread known R of (refusal.Stranger general generals) file refused = ((λ e. cc), (refused (λ e. cc), refl))
 plain unread known R of refusal.NotText file refused = ((refused (λ e. cc), refl), refl)
 plain unread known R of refusal.Memory file refused = tt
@@ -121,5 +123,7 @@ unmustered unread true known c who (refusal.Setting error) file fault refused to
 unmustered unread true known c who (refusal.Trace error) file fault refused told = absurd (refused (λ e. cc)).1
 unmustered unread true known c who (refusal.Accesses own) file fault refused told = absurd (refused (λ e. cc)).1
 unmustered unread true known c who refusal.Tolerated file fault refused told = absurd (refused (λ e. cc)).1
+unmustered unread true known c who (refusal.RuleCall unit) file fault refused told = absurd (refused (λ e. cc)).1
+unmustered unread true known c who (refusal.LongSearch steps) file fault refused told = absurd (refused (λ e. cc)).1
 unmustered unread true known c who (refusal.Stranger general generals) file fault refused told = absurd (refused (λ e. cc)).1
 unmustered unread true known c who refusal.NotText file fault refused told = absurd (refused (λ e. cc)).1

@@ -23,6 +23,8 @@ pub mod Exploring
 pub mod AuditLines
 pub mod CampaignRefusals
 pub mod Retracing
+pub mod RuleCertificates
+pub mod Searches
 pub mod Diagrams
 pub mod Pages
 pub mod Promises

@@ -13,6 +13,9 @@ use Rattle.bounds.specs.declared.refusal.RefutationError.{RefutationError}
 use Rattle.bounds.specs.declared.refusal.RefutationError.TheVariants as refutation
 use Rattle.campaign_schedules.specs.declared.fault.AccessesError.{AccessesError}
 use Rattle.campaign_schedules.specs.declared.fault.AccessesError.TheVariants as accesses
+use Rattle.lies.specs.declared.refusal.BreakError.{BreakError}
+use Rattle.lies.specs.declared.refusal.BreakError.TheVariants as lies
+use Rattle.rule_program.specs.declared.rule_program.CallFound.{CallFound}
 use Rattle.scenario.specs.Reading.{Reads, ReadsAny}
 use Rattle.scenario.specs.declared.messages.Campaign.{Campaign}
 use Rattle.scenario.specs.declared.messages.Campaign.TheVariants.{Oral, Signed}
@@ -31,7 +34,7 @@ use Rattle.trace.specs.declared.fault.TraceError.TheVariants as trace
 use Rattle.verify.specs.declared.error.VerifyError.{VerifyError}
 use Rattle.verify.specs.declared.error.VerifyError.TheVariants as verifier
 use Rattle.cli_tasks.specs.declared.refusal.InputRefusal.{InputRefusal}
-use Rattle.cli_tasks.specs.declared.refusal.InputRefusal.TheVariants.{Codec, Verifier, Assembly, Table, Scenario, Setting, Trace, Threads, Accesses, Tolerated, NotText, Memory}
+use Rattle.cli_tasks.specs.declared.refusal.InputRefusal.TheVariants.{Codec, Verifier, Assembly, Table, Scenario, Setting, Trace, Threads, Accesses, Tolerated, RuleCall, LongSearch, NotText, Memory}
 
 -- Returns the refusal for an error of the codec. If the codec ran out of memory, this is `Memory`.
 abbrev pub codec_refusal : CodecError → InputRefusal
@@ -59,6 +62,15 @@ abbrev pub refutation_refusal : RefutationError → InputRefusal
 refutation_refusal (refutation.Table table.Memory) = Memory
 refutation_refusal (refutation.Table error) = Table error
 refutation_refusal refutation.Enough = Tolerated
+
+-- Returns the refusal for numbers of a campaign among which no search is made, since they are wrong.
+abbrev pub break_refusal : BreakError → InputRefusal
+break_refusal (lies.Table table.Memory) = Memory
+break_refusal (lies.Table error) = Table error
+
+-- Returns the refusal for a program that is no rule, because it calls a helper.
+abbrev pub call_refusal : CallFound → InputRefusal
+call_refusal found = RuleCall found.unit
 
 -- Returns the refusal for an error in a scenario. If its reader ran out of memory, this is `Memory`.
 abbrev pub scenario_refusal : ScenarioError → InputRefusal

@@ -3,7 +3,7 @@ use Rattle.std.specs.Prelude.{ℕ, ◌≡◌, false, true, List, None, Some, str
 use Rattle.semantics.specs.Run.{IsSound}
 use Rattle.cli_words.specs.declared.tasks.Spelling.TheVariants.{Hex, Raw}
 use Rattle.cli_words.specs.declared.tasks.Task.{Task}
-use Rattle.cli_words.specs.declared.tasks.Task.TheVariants.{Check, Assemble, AssemblePartly, Disassemble, DisassemblePartly, Book, ExplainDecisions, Form, Refute, Play, Muster, Audit, Explore, Tree, Draw, Page, Retrace}
+use Rattle.cli_words.specs.declared.tasks.Task.TheVariants.{Check, Assemble, AssemblePartly, Disassemble, DisassemblePartly, Book, ExplainDecisions, Form, Refute, Exhaust, Certify, Play, Muster, Audit, Explore, Tree, Draw, Page, Retrace}
 use Rattle.cli_words.specs.declared.tasks.Accesses.TheVariants.{OfChronicle, Listed}
 use Rattle.cli_words.specs.declared.tasks.Course.TheVariants.{Scheduled, Recorded}
 use Rattle.scenario.specs.Reading.{Tells, TellsAny}
@@ -17,6 +17,8 @@ use Rattle.cli_tasks.specs.Schedules.{is_chronicle}
 use Rattle.cli_tasks.specs.Parts.{AssemblesPartly, AssemblesPartlyRaw, DisassemblesPartly}
 use Rattle.cli_tasks.specs.Picturing.{Pictures, is_toml}
 use Rattle.cli_tasks.specs.Retracing.{Arranges}
+use Rattle.cli_tasks.specs.RuleCertificates.{Certifies}
+use Rattle.cli_tasks.specs.Searches.{Exhausts}
 use Rattle.cli_tasks.specs.Strangers.{KnowsAll, KnowsLiar, KnowsTree}
 use Rattle.cli_tasks.specs.declared.first_answer.FirstAnswer.{FirstAnswer}
 use Rattle.cli_tasks.specs.declared.first_answer.FirstAnswer.TheVariants as answer
@@ -40,6 +42,9 @@ Prints (Form n m c (Some filling)) first text =
     × IsFilled (string_bytes n) (string_bytes m) (string_bytes c) filling.order filling.liar text
 Prints (Refute n m c rule story) first text =
     Refutes (string_bytes n) (string_bytes m) (string_bytes c) rule story text
+Prints (Exhaust generals bound traitors commander rule) first text =
+    Exhausts generals bound traitors commander rule text
+Prints (Certify file notation generals) first text = Certifies notation generals first text
 Prints (Explore scenario most folder) first text = Explores most first text
 Prints (Tree file general traitors drawing depth folded) first text =
     KnowsTree (is_toml first) first general traitors.items

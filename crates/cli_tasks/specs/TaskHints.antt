@@ -7,7 +7,7 @@ use Rattle.cli_words.specs.Tasks.{file_of}
 use Rattle.cli_words.specs.declared.tasks.Notation.{Notation}
 use Rattle.cli_words.specs.declared.tasks.Notation.TheVariants.{Object}
 use Rattle.cli_words.specs.declared.tasks.Task.{Task}
-use Rattle.cli_words.specs.declared.tasks.Task.TheVariants.{Check, Disassemble, DisassemblePartly}
+use Rattle.cli_words.specs.declared.tasks.Task.TheVariants.{Check, Disassemble, DisassemblePartly, Certify}
 use Rattle.cli_tasks.specs.Whys.{TellsWhyOf}
 use Rattle.cli_tasks.specs.Whys as role
 use Rattle.cli_tasks.specs.declared.hint.Hint.{Hint}
@@ -39,6 +39,7 @@ bytecode_in (Check file (Object entry) context explained traced) bytes =
     entry_code (option_map string_bytes entry) bytes
 bytecode_in (Disassemble file (Object entry) units explained) bytes = entry_code (option_map string_bytes entry) bytes
 bytecode_in (DisassemblePartly file (Object entry) explained) bytes = entry_code (option_map string_bytes entry) bytes
+bytecode_in (Certify file (Object entry) generals) bytes = entry_code (option_map string_bytes entry) bytes
 bytecode_in task bytes = bytes
 
 -- Returns how a program is written that the verifier rejected, if the task must explain it. Returns `None` if the task

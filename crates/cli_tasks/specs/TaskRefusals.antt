@@ -2,7 +2,7 @@
 use Rattle.std.specs.Prelude.{ℕ, false, true, List, Some, None, string_bytes}
 use Rattle.cli_words.specs.declared.tasks.Accesses.TheVariants.{OfChronicle, Listed}
 use Rattle.cli_words.specs.declared.tasks.Task.{Task}
-use Rattle.cli_words.specs.declared.tasks.Task.TheVariants.{Check, Assemble, AssemblePartly, Disassemble, DisassemblePartly, Book, ExplainDecisions, Form, Refute, Play, Muster, Audit, Explore, Tree, Draw, Page, Retrace}
+use Rattle.cli_words.specs.declared.tasks.Task.TheVariants.{Check, Assemble, AssemblePartly, Disassemble, DisassemblePartly, Book, ExplainDecisions, Form, Refute, Exhaust, Certify, Play, Muster, Audit, Explore, Tree, Draw, Page, Retrace}
 use Rattle.cli_tasks.specs.Schedules.{is_chronicle}
 use Rattle.cli_tasks.specs.declared.refusal.InputRefusal.{InputRefusal}
 use Rattle.cli_tasks.specs.ProgramRefusals.{RefusesAssembly, RefusesCheckIn, RefusesNotation, RefusesLines, RefusesParts}
@@ -10,6 +10,8 @@ use Rattle.cli_tasks.specs.TableRefusals.{RefusesForm, RefusesFilled, RefusesRef
 use Rattle.cli_tasks.specs.Refusals.{RefusesScenario, RefusesCampaign, RefusesText}
 use Rattle.cli_tasks.specs.Explained.{RefusesExplained}
 use Rattle.cli_tasks.specs.CampaignRefusals.{RefusesListed}
+use Rattle.cli_tasks.specs.RuleCertificates.{RefusesRule}
+use Rattle.cli_tasks.specs.Searches.{RefusesSearch}
 
 -- States that the task rejects its only or first file, which has the bytes `bytes`, with this refusal.
 abbrev pub Refuses : Task → List ℕ → InputRefusal → Type 0
@@ -25,6 +27,9 @@ Refuses (Form n m c (Some filling)) bytes refusal =
     RefusesFilled (string_bytes n) (string_bytes m) (string_bytes c) filling.liar refusal
 Refuses (Refute n m c rule story) bytes refusal =
     RefusesRefutation (string_bytes n) (string_bytes m) (string_bytes c) refusal
+Refuses (Exhaust generals bound traitors commander rule) bytes refusal =
+    RefusesSearch generals bound traitors commander refusal
+Refuses (Certify file notation generals) bytes refusal = RefusesRule notation bytes refusal
 Refuses (Play scenario schedule account explained) bytes refusal =
     RefusesText (RefusesExplained (is_chronicle account) explained) bytes refusal
 Refuses (Muster scenario explained) bytes refusal = RefusesText (RefusesExplained true explained) bytes refusal

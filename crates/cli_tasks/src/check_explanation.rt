@@ -58,6 +58,10 @@ fn bytecode_in<'a>(task: &Task, bytes: &'a [u8]) -> &'a [u8]
         | Task::DisassemblePartly {
             notation: Notation::Object { entry },
             ..
+        }
+        | Task::Certify {
+            notation: Notation::Object { entry },
+            ..
         } => entry_code(bytes, entry.as_deref()),
         _ => bytes,
     }

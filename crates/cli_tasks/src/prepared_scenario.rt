@@ -33,7 +33,9 @@ pub fn reads_scenario(task: &Task) -> bool
         | Task::Book(_)
         | Task::ExplainDecisions { .. }
         | Task::Form { .. }
-        | Task::Refute { .. } => false,
+        | Task::Refute { .. }
+        | Task::Exhaust { .. }
+        | Task::Certify { .. } => false,
     }
 }
 

@@ -42,6 +42,11 @@ pub(crate) fn read_first<'a, R: Source>(
             program: file,
             notation: Notation::Bytecode,
             ..
+        }
+        | Task::Certify {
+            program: file,
+            notation: Notation::Bytecode,
+            ..
         } => read_program(alloc, task, file.as_str(), first),
         _ => read(alloc, task.file().unwrap_or(""), first),
     }

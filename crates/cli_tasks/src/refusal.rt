@@ -5,6 +5,8 @@ use bounds::RefutationError;
 use campaign_schedules::{AccessFault, AccessesError};
 use cli_report::{ShownScenarioError, ShownSettingError};
 use codec::CodecError;
+use lies::BreakError;
+use rule_program::CallFound;
 use scenario::ScenarioError;
 use std::alloc::AllocError;
 use std::error::Error;
@@ -44,6 +46,10 @@ pub enum InputRefusal {
     /// There are too many generals for a refutation: with more than 3m generals, no message table with at most m
     /// traitors breaks the rule.
     Tolerated,
+    /// The program calls a helper, first at this unit, so it is no rule.
+    RuleCall { unit: usize },
+    /// The search for a break is out of reach: it takes this many steps by its estimate.
+    LongSearch { steps: u64 },
     /// The bytes are not UTF-8 text.
     NotText,
     /// Memory ran out.
@@ -71,6 +77,11 @@ impl fmt::Display for InputRefusal {
             InputRefusal::Stranger { general, .. } => write!(f, "G1 general {general}"),
             InputRefusal::Tolerated => f.write_str(
                 "B5 more than 3m generals tolerate m traitors: no message table with at most m traitors breaks the rule",
+            ),
+            InputRefusal::RuleCall { unit } => write!(f, "R1 unit {unit}"),
+            InputRefusal::LongSearch { steps } => write!(
+                f,
+                "B6 the search takes some {steps} steps, and at most 100000000 are allowed"
             ),
             InputRefusal::NotText => f.write_str("not UTF-8"),
             InputRefusal::Memory => f.write_str("out of memory"),
@@ -170,6 +181,31 @@ impl From<RefutationError> for InputRefusal {
             RefutationError::Table(error) => InputRefusal::Table(error),
             RefutationError::Enough => InputRefusal::Tolerated,
         }
+    }
+}
+
+impl From<BreakError> for InputRefusal {
+    ghost use Rattle.std.specs.Prelude.{◌≡◌};
+    ghost use Rattle.cli_tasks.specs.Refusals.{break_refusal};
+
+    ghost from_gives = { λ error refusal. refusal ≡ break_refusal error };
+
+    fn from(error: BreakError) -> InputRefusal {
+        match error {
+            BreakError::Table(TableError::Memory) => InputRefusal::Memory,
+            BreakError::Table(error) => InputRefusal::Table(error),
+        }
+    }
+}
+
+impl From<CallFound> for InputRefusal {
+    ghost use Rattle.std.specs.Prelude.{◌≡◌};
+    ghost use Rattle.cli_tasks.specs.Refusals.{call_refusal};
+
+    ghost from_gives = { λ found refusal. refusal ≡ call_refusal found };
+
+    fn from(found: CallFound) -> InputRefusal {
+        InputRefusal::RuleCall { unit: found.unit }
     }
 }
 

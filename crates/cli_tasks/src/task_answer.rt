@@ -15,7 +15,9 @@ use crate::parts::{assembled_partly, assembled_partly_raw, disassembled_partly};
 use crate::program_check::accepted_in;
 use crate::refusal::InputRefusal;
 use crate::refutations::refuted;
+use crate::rule_certificates::certificate;
 use crate::schedules::arranged;
+use crate::searches::exhausted;
 use crate::texts::as_text;
 use crate::tree_pictures::pictured;
 use crate::trials::checked_in;
@@ -114,6 +116,18 @@ pub fn answer(alloc: Global, task: &Task, bytes: &[u8]) -> Result<FirstAnswer, I
             *rule,
             *story,
         )?)),
+        Task::Exhaust {
+            generals,
+            bound,
+            traitors,
+            commander,
+            rule,
+        } => Ok(FirstAnswer::Text(exhausted(
+            alloc, *generals, *bound, *traitors, *commander, *rule,
+        )?)),
+        Task::Certify {
+            notation, generals, ..
+        } => Ok(FirstAnswer::Text(certificate(alloc, notation, bytes, *generals)?)),
         Task::Tree {
             general,
             traitors,

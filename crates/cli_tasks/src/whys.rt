@@ -46,6 +46,8 @@ pub fn is_explained(task: &Task) -> bool
         Task::Book(_)
         | Task::Form { .. }
         | Task::Refute { .. }
+        | Task::Exhaust { .. }
+        | Task::Certify { .. }
         | Task::Explore { .. }
         | Task::Tree { .. }
         | Task::Draw { .. }
@@ -154,6 +156,8 @@ fn told_by(
             cli_report::of_stranger(alloc, name, bytes, *general, *generals)
         }
         InputRefusal::Tolerated => Ok(String::new(alloc)),
+        InputRefusal::RuleCall { .. } => Ok(String::new(alloc)),
+        InputRefusal::LongSearch { .. } => Ok(String::new(alloc)),
         InputRefusal::NotText => Ok(String::new(alloc)),
         InputRefusal::Memory => Ok(String::new(alloc)),
     }

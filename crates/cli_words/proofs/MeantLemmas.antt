@@ -8,9 +8,9 @@ use Rattle.combine.specs.Names.{rule_named}
 use Rattle.combine.specs.declared.campaign_rule.Rule.{Rule}
 use Rattle.bounds.specs.Stories.{story_numbered}
 use Rattle.bounds.specs.declared.story.Story.{Story}
-use Rattle.cli_words.specs.Asked.{has_filling, excludes, has_notation, has_refutation, has_tree, has_turns, if_of, is_meant, reads, wants}
-use Rattle.cli_words.specs.Generals.{count_in, depth_in, general_in, generals_in, order_in, seed_in}
-use Rattle.cli_words.specs.Tasks.{AreExplained, AreTurns, IsCourse, IsDrawing, IsFilling, IsMisused, IsNotation, NamesCount, NamesGeneral, NamesSeed, NamesStory, Says, Told, are_two, campaigns, coursed, has, is_of, levels_in, named, rule_in, is_text, of_one, of_traitors, programs, word_of}
+use Rattle.cli_words.specs.Asked.{has_filling, excludes, has_notation, has_search, has_tree, has_turns, if_of, is_meant, reads, wants}
+use Rattle.cli_words.specs.Generals.{bound_in, count_in, depth_in, general_in, generals_in, order_in, seed_in, size_in, traitors_in}
+use Rattle.cli_words.specs.Tasks.{AreExplained, AreTurns, IsCourse, IsDrawing, IsFilling, IsMisused, IsNotation, NamesCount, NamesGeneral, NamesSeed, NamesStory, Says, Told, are_two, campaigns, coursed, has, is_of, levels_in, named, rule_in, size_given, is_text, of_one, of_traitors, programs, ruled, sized, word_of}
 use Rattle.cli_words.specs.declared.tasks.Course.{Course}
 use Rattle.cli_words.specs.declared.tasks.Course.TheVariants.{Scheduled, Recorded}
 use Rattle.cli_words.specs.declared.tasks.Drawing.{Drawing}
@@ -21,11 +21,11 @@ use Rattle.cli_words.specs.declared.tasks.Lieutenants.TheVariants.{All, One}
 use Rattle.cli_words.specs.declared.tasks.Notation.{Notation}
 use Rattle.cli_words.specs.declared.tasks.Notation.TheVariants.{Bytecode, Assembly, Object}
 use Rattle.cli_words.specs.declared.tasks.Task.{Task}
-use Rattle.cli_words.specs.declared.tasks.Task.TheVariants.{Check, Assemble, AssemblePartly, Disassemble, DisassemblePartly, Book, ExplainDecisions, Form, Refute, Play, Muster, Audit, Explore, Tree, Draw, Page, Retrace}
+use Rattle.cli_words.specs.declared.tasks.Task.TheVariants.{Check, Assemble, AssemblePartly, Disassemble, DisassemblePartly, Book, ExplainDecisions, Form, Refute, Exhaust, Certify, Play, Muster, Audit, Explore, Tree, Draw, Page, Retrace}
 use Rattle.cli_words.specs.declared.tasks.Turns.{Turns}
 use Rattle.cli_words.specs.declared.tasks.Turns.TheVariants.{OfFile, OfSeed}
 use Rattle.cli_words.specs.declared.errors.Misuse.{Misuse}
-use Rattle.cli_words.specs.declared.errors.Misuse.TheVariants.{Traitors, Of, Lie, Loyal, Most, Depth, NobodyNamed, TwoDrawings, TwoNotations, UnitsOfParts, TwoCourses, EntryAlone, OfAlone, LieAlone, Seed, Rule as BadRule, Story as BadStory, TwoSchedules, OutAlone}
+use Rattle.cli_words.specs.declared.errors.Misuse.TheVariants.{Traitors, Of, Lie, Loyal, Most, Depth, NobodyNamed, TwoDrawings, TwoNotations, UnitsOfParts, TwoCourses, EntryAlone, OfAlone, LieAlone, Seed, Rule as BadRule, Story as BadStory, Generals as BadSize, Bound as BadBound, TraitorCount, Commander, NoGenerals, NoBound, NoTraitors, TwoSchedules, OutAlone}
 
 -- ---- words that name a task
 
@@ -123,9 +123,30 @@ module _ (told : Told) where
   rule_holds None rule is = refl
   rule_holds (Some word) rule is = ap (λ o. is_some o) is
 
+  size_holds : (word : Option Text) (size : ℕ) → size_given word ≡ Some size → option_map_or (λ w. is_some (size_in w)) word true ≡ true
+  size_holds None size is = refl
+  size_holds (Some word) size is = ap (λ o. is_some o) is
+
   story_holds : (story : Option Story) → NamesStory told story → reads story_numbered (codes "story") told ≡ true
   story_holds None is = rw is refl
   story_holds (Some story) is = read_where story_numbered (word_of (codes "story") told) story is
+
+  -- Proves that the value of an option that must be used is read, and that the option is used.
+  value_there : {X : Type 0} (read : Text → Option X) (word : Option Text) (x : X) → (word >>= read) ≡ Some x → is_some word ≡ true
+  value_there read None x is = absurd cc
+  value_there read (Some word) x is = refl
+
+  search_holds : (generals bound traitors : ℕ) (commander : Option ℕ) → (word_of (codes "generals") told >>= size_in) ≡ Some generals
+      → (word_of (codes "bound") told >>= bound_in) ≡ Some bound → (word_of (codes "traitors") told >>= traitors_in) ≡ Some traitors
+      → NamesGeneral (codes "commander") told commander → has_search told ≡ true
+  search_holds generals bound traitors commander size limit most named = rw (
+      value_there size_in (word_of (codes "generals") told) generals size,
+      value_there bound_in (word_of (codes "bound") told) bound limit,
+      value_there traitors_in (word_of (codes "traitors") told) traitors most,
+      read_where bound_in (word_of (codes "bound") told) bound limit,
+      read_where traitors_in (word_of (codes "traitors") told) traitors most,
+      general_holds told (codes "commander") commander named,
+    ) refl
 
 pub says_meant : (told : Told) (task : Task) → Says told task → is_meant told ≡ true
 says_meant told (Check file notation context explained traced) says = rw says.0 (rw (notation_holds told notation says.2) refl)
@@ -139,6 +160,13 @@ says_meant told (ExplainDecisions file traitors) says =
 says_meant told (Form n m c filling) says = rw says.0 (rw (filling_holds told filling says.4) refl)
 says_meant told (Refute n m c rule story) says =
     rw says.0 (rw (rule_holds told (word_of (codes "rule") told) rule says.4, story_holds told story says.5) refl)
+says_meant told (Exhaust generals bound traitors commander rule) says = rw says.0 (rw (
+      read_where size_in (word_of (codes "generals") told) generals says.1,
+      rule_holds told (word_of (codes "rule") told) rule says.5,
+      search_holds told generals bound traitors commander says.1 says.2 says.3 says.4,
+    ) refl)
+says_meant told (Certify file notation generals) says =
+    rw says.0 (rw (notation_holds told notation says.2, size_holds told (word_of (codes "generals") told) generals says.3) refl)
 says_meant told (Play scenario turns account explained) says =
     rw says.0 (rw (lieutenant_holds told explained says.4, explanation_holds told explained says.4, turns_hold told turns says.2) refl)
 says_meant told (Muster scenario explained) says = rw says.0 (rw (lieutenant_holds told explained says.2, explanation_holds told explained says.2) refl)
@@ -184,22 +212,31 @@ module _ (a b c d e f g : Bool) where
   seventh_broken : g ≡ false → a && b && c && d && e && f && g ≡ false
   seventh_broken is = and_right (a && b && c && d && e && f) g is
 
--- The same with four more conditions after them.
-module _ (first h i j k : Bool) where
-  either_broken : first ≡ false → first && h && i && j && k ≡ false
-  either_broken is = and_left (first && h && i && j) k (and_left (first && h && i) j (and_left (first && h) i (and_left first h is)))
+-- the same of seven more behind them
+module _ (first h i j k l m n : Bool) where
+  either_broken : first ≡ false → first && h && i && j && k && l && m && n ≡ false
+  either_broken is = and_left (first && h && i && j && k && l && m) n (and_left (first && h && i && j && k && l) m (and_left (first && h && i && j && k) l (and_left (first && h && i && j) k (and_left (first && h && i) j (and_left (first && h) i (and_left first h is))))))
 
-  eighth_broken : h ≡ false → first && h && i && j && k ≡ false
-  eighth_broken is = and_left (first && h && i && j) k (and_left (first && h && i) j (and_left (first && h) i (and_right first h is)))
+  eighth_broken : h ≡ false → first && h && i && j && k && l && m && n ≡ false
+  eighth_broken is = and_left (first && h && i && j && k && l && m) n (and_left (first && h && i && j && k && l) m (and_left (first && h && i && j && k) l (and_left (first && h && i && j) k (and_left (first && h && i) j (and_left (first && h) i (and_right first h is))))))
 
-  ninth_broken : i ≡ false → first && h && i && j && k ≡ false
-  ninth_broken is = and_left (first && h && i && j) k (and_left (first && h && i) j (and_right (first && h) i is))
+  ninth_broken : i ≡ false → first && h && i && j && k && l && m && n ≡ false
+  ninth_broken is = and_left (first && h && i && j && k && l && m) n (and_left (first && h && i && j && k && l) m (and_left (first && h && i && j && k) l (and_left (first && h && i && j) k (and_left (first && h && i) j (and_right (first && h) i is)))))
 
-  tenth_broken : j ≡ false → first && h && i && j && k ≡ false
-  tenth_broken is = and_left (first && h && i && j) k (and_right (first && h && i) j is)
+  tenth_broken : j ≡ false → first && h && i && j && k && l && m && n ≡ false
+  tenth_broken is = and_left (first && h && i && j && k && l && m) n (and_left (first && h && i && j && k && l) m (and_left (first && h && i && j && k) l (and_left (first && h && i && j) k (and_right (first && h && i) j is))))
 
-  eleventh_broken : k ≡ false → first && h && i && j && k ≡ false
-  eleventh_broken is = and_right (first && h && i && j) k is
+  eleventh_broken : k ≡ false → first && h && i && j && k && l && m && n ≡ false
+  eleventh_broken is = and_left (first && h && i && j && k && l && m) n (and_left (first && h && i && j && k && l) m (and_left (first && h && i && j && k) l (and_right (first && h && i && j) k is)))
+
+  twelfth_broken : l ≡ false → first && h && i && j && k && l && m && n ≡ false
+  twelfth_broken is = and_left (first && h && i && j && k && l && m) n (and_left (first && h && i && j && k && l) m (and_right (first && h && i && j && k) l is))
+
+  thirteenth_broken : m ≡ false → first && h && i && j && k && l && m && n ≡ false
+  thirteenth_broken is = and_left (first && h && i && j && k && l && m) n (and_right (first && h && i && j && k && l) m is)
+
+  fourteenth_broken : n ≡ false → first && h && i && j && k && l && m && n ≡ false
+  fourteenth_broken is = and_right (first && h && i && j && k && l && m) n is
 
 module _ (told : Told) where
   abbrev of_program : Bool
@@ -232,23 +269,41 @@ module _ (told : Told) where
   abbrev of_turns : Bool
   of_turns = if_of (codes "play" ∷ []) told (has_turns told)
 
-  abbrev of_refutation : Bool
-  of_refutation = if_of (codes "refute" ∷ []) told (has_refutation told)
+  abbrev of_story : Bool
+  of_story = if_of (codes "refute" ∷ []) told (reads story_numbered (codes "story") told)
+
+  abbrev of_size : Bool
+  of_size = if_of sized told (reads size_in (codes "generals") told)
+
+  abbrev of_rule : Bool
+  of_rule = if_of ruled told (reads rule_named (codes "rule") told)
+
+  abbrev of_search : Bool
+  of_search = if_of (codes "exhaust" ∷ []) told (has_search told)
 
   abbrev of_first : Bool
   of_first = of_program && of_naming && of_table && of_lieutenant && of_explanation && of_exploration && of_tree
 
   listing_broken : is_of (codes "dis" ∷ []) told ≡ true → excludes (codes "partial") (codes "units") told ≡ false → is_meant told ≡ false
-  listing_broken of fails = eighth_broken of_first of_listing of_course of_turns of_refutation (broken (codes "dis" ∷ []) told (excludes (codes "partial") (codes "units") told) of fails)
+  listing_broken of fails = eighth_broken of_first of_listing of_course of_turns of_story of_size of_rule of_search (broken (codes "dis" ∷ []) told (excludes (codes "partial") (codes "units") told) of fails)
 
   course_broken : is_of coursed told ≡ true → excludes (codes "chronicle") (codes "schedule") told ≡ false → is_meant told ≡ false
-  course_broken of fails = ninth_broken of_first of_listing of_course of_turns of_refutation (broken coursed told (excludes (codes "chronicle") (codes "schedule") told) of fails)
+  course_broken of fails = ninth_broken of_first of_listing of_course of_turns of_story of_size of_rule of_search (broken coursed told (excludes (codes "chronicle") (codes "schedule") told) of fails)
 
   turns_broken : is_of (codes "play" ∷ []) told ≡ true → has_turns told ≡ false → is_meant told ≡ false
-  turns_broken of fails = tenth_broken of_first of_listing of_course of_turns of_refutation (broken (codes "play" ∷ []) told (has_turns told) of fails)
+  turns_broken of fails = tenth_broken of_first of_listing of_course of_turns of_story of_size of_rule of_search (broken (codes "play" ∷ []) told (has_turns told) of fails)
 
-  refutation_broken : is_of (codes "refute" ∷ []) told ≡ true → has_refutation told ≡ false → is_meant told ≡ false
-  refutation_broken of fails = eleventh_broken of_first of_listing of_course of_turns of_refutation (broken (codes "refute" ∷ []) told (has_refutation told) of fails)
+  story_broken : is_of (codes "refute" ∷ []) told ≡ true → reads story_numbered (codes "story") told ≡ false → is_meant told ≡ false
+  story_broken of fails = eleventh_broken of_first of_listing of_course of_turns of_story of_size of_rule of_search (broken (codes "refute" ∷ []) told (reads story_numbered (codes "story") told) of fails)
+
+  size_broken : is_of sized told ≡ true → reads size_in (codes "generals") told ≡ false → is_meant told ≡ false
+  size_broken of fails = twelfth_broken of_first of_listing of_course of_turns of_story of_size of_rule of_search (broken sized told (reads size_in (codes "generals") told) of fails)
+
+  rule_broken : is_of ruled told ≡ true → reads rule_named (codes "rule") told ≡ false → is_meant told ≡ false
+  rule_broken of fails = thirteenth_broken of_first of_listing of_course of_turns of_story of_size of_rule of_search (broken ruled told (reads rule_named (codes "rule") told) of fails)
+
+  search_broken : is_of (codes "exhaust" ∷ []) told ≡ true → has_search told ≡ false → is_meant told ≡ false
+  search_broken of fails = fourteenth_broken of_first of_listing of_course of_turns of_story of_size of_rule of_search (broken (codes "exhaust" ∷ []) told (has_search told) of fails)
 
   no_seed : reads seed_in (codes "seed") told ≡ false → has_turns told ≡ false
   no_seed fails =
@@ -266,25 +321,25 @@ module _ (told : Told) where
       (rw (out, seed) refl)
 
   program_broken : is_of programs told ≡ true → has_notation told ≡ false → is_meant told ≡ false
-  program_broken of fails = either_broken of_first of_listing of_course of_turns of_refutation (first_broken of_program of_naming of_table of_lieutenant of_explanation of_exploration of_tree (broken programs told (has_notation told) of fails))
+  program_broken of fails = either_broken of_first of_listing of_course of_turns of_story of_size of_rule of_search (first_broken of_program of_naming of_table of_lieutenant of_explanation of_exploration of_tree (broken programs told (has_notation told) of fails))
 
   naming_broken : is_of of_traitors told ≡ true → reads generals_in (codes "traitors") told ≡ false → is_meant told ≡ false
-  naming_broken of fails = either_broken of_first of_listing of_course of_turns of_refutation (second_broken of_program of_naming of_table of_lieutenant of_explanation of_exploration of_tree (broken of_traitors told (reads generals_in (codes "traitors") told) of fails))
+  naming_broken of fails = either_broken of_first of_listing of_course of_turns of_story of_size of_rule of_search (second_broken of_program of_naming of_table of_lieutenant of_explanation of_exploration of_tree (broken of_traitors told (reads generals_in (codes "traitors") told) of fails))
 
   table_broken : is_of (codes "table" ∷ []) told ≡ true → has_filling told ≡ false → is_meant told ≡ false
-  table_broken of fails = either_broken of_first of_listing of_course of_turns of_refutation (third_broken of_program of_naming of_table of_lieutenant of_explanation of_exploration of_tree (broken (codes "table" ∷ []) told (has_filling told) of fails))
+  table_broken of fails = either_broken of_first of_listing of_course of_turns of_story of_size of_rule of_search (third_broken of_program of_naming of_table of_lieutenant of_explanation of_exploration of_tree (broken (codes "table" ∷ []) told (has_filling told) of fails))
 
   lieutenant_broken : is_of of_one told ≡ true → reads general_in (codes "of") told ≡ false → is_meant told ≡ false
-  lieutenant_broken of fails = either_broken of_first of_listing of_course of_turns of_refutation (fourth_broken of_program of_naming of_table of_lieutenant of_explanation of_exploration of_tree (broken of_one told (reads general_in (codes "of") told) of fails))
+  lieutenant_broken of fails = either_broken of_first of_listing of_course of_turns of_story of_size of_rule of_search (fourth_broken of_program of_naming of_table of_lieutenant of_explanation of_exploration of_tree (broken of_one told (reads general_in (codes "of") told) of fails))
 
   explanation_broken : is_of campaigns told ≡ true → wants (codes "of") (codes "explain") told ≡ false → is_meant told ≡ false
-  explanation_broken of fails = either_broken of_first of_listing of_course of_turns of_refutation (fifth_broken of_program of_naming of_table of_lieutenant of_explanation of_exploration of_tree (broken campaigns told (wants (codes "of") (codes "explain") told) of fails))
+  explanation_broken of fails = either_broken of_first of_listing of_course of_turns of_story of_size of_rule of_search (fifth_broken of_program of_naming of_table of_lieutenant of_explanation of_exploration of_tree (broken campaigns told (wants (codes "of") (codes "explain") told) of fails))
 
   exploration_broken : is_of (codes "explore" ∷ []) told ≡ true → reads count_in (codes "most") told ≡ false → is_meant told ≡ false
-  exploration_broken of fails = either_broken of_first of_listing of_course of_turns of_refutation (sixth_broken of_program of_naming of_table of_lieutenant of_explanation of_exploration of_tree (broken (codes "explore" ∷ []) told (reads count_in (codes "most") told) of fails))
+  exploration_broken of fails = either_broken of_first of_listing of_course of_turns of_story of_size of_rule of_search (sixth_broken of_program of_naming of_table of_lieutenant of_explanation of_exploration of_tree (broken (codes "explore" ∷ []) told (reads count_in (codes "most") told) of fails))
 
   tree_broken : is_of (codes "tree" ∷ []) told ≡ true → has_tree told ≡ false → is_meant told ≡ false
-  tree_broken of fails = either_broken of_first of_listing of_course of_turns of_refutation (seventh_broken of_program of_naming of_table of_lieutenant of_explanation of_exploration of_tree (broken (codes "tree" ∷ []) told (has_tree told) of fails))
+  tree_broken of fails = either_broken of_first of_listing of_course of_turns of_story of_size of_rule of_search (seventh_broken of_program of_naming of_table of_lieutenant of_explanation of_exploration of_tree (broken (codes "tree" ∷ []) told (has_tree told) of fails))
 
   not_wanted : (name other : Text) → has name told ≡ true → has other told ≡ false → wants name other told ≡ false
   not_wanted name other there lacks = rw (there, lacks) refl
@@ -298,6 +353,30 @@ module _ (told : Told) where
   no_depth fails =
       and_left (has (codes "of") told && reads depth_in (codes "depth") told) (not (are_two (is_text told) (has (codes "dot") told) (has (codes "svg") told)))
       (and_right (has (codes "of") told) (reads depth_in (codes "depth") told) fails)
+
+  abbrev are_used : Bool
+  are_used = has (codes "generals") told && has (codes "bound") told && has (codes "traitors") told
+
+  no_commander : reads general_in (codes "commander") told ≡ false → has_search told ≡ false
+  no_commander fails = and_right (are_used && reads bound_in (codes "bound") told && reads traitors_in (codes "traitors") told) (reads general_in (codes "commander") told) fails
+
+  no_count : reads traitors_in (codes "traitors") told ≡ false → has_search told ≡ false
+  no_count fails = and_left (are_used && reads bound_in (codes "bound") told && reads traitors_in (codes "traitors") told) (reads general_in (codes "commander") told)
+      (and_right (are_used && reads bound_in (codes "bound") told) (reads traitors_in (codes "traitors") told) fails)
+
+  unread_here : are_used && reads bound_in (codes "bound") told ≡ false → has_search told ≡ false
+  unread_here fails = and_left (are_used && reads bound_in (codes "bound") told && reads traitors_in (codes "traitors") told) (reads general_in (codes "commander") told)
+      (and_left (are_used && reads bound_in (codes "bound") told) (reads traitors_in (codes "traitors") told) fails)
+
+  no_bound : reads bound_in (codes "bound") told ≡ false → has_search told ≡ false
+  no_bound fails = unread_here (and_right are_used (reads bound_in (codes "bound") told) fails)
+
+  lacks_traitors : has (codes "traitors") told ≡ false → has_search told ≡ false
+  lacks_traitors lacks = unread_here (and_left are_used (reads bound_in (codes "bound") told) (and_right (has (codes "generals") told && has (codes "bound") told) (has (codes "traitors") told) lacks))
+
+  lacks_bound : has (codes "bound") told ≡ false → has_search told ≡ false
+  lacks_bound lacks = unread_here (and_left are_used (reads bound_in (codes "bound") told)
+      (and_left (has (codes "generals") told && has (codes "bound") told) (has (codes "traitors") told) (and_right (has (codes "generals") told) (has (codes "bound") told) lacks)))
 
   two_drawn : are_two (is_text told) (has (codes "dot") told) (has (codes "svg") told) ≡ true → has_tree told ≡ false
   two_drawn are =
@@ -315,10 +394,15 @@ misused_not_meant told (Loyal word) is = table_broken told is.0
     (and_left (reads order_in (codes "loyal") told) (reads general_in (codes "lie") told) (not_read order_in told (codes "loyal") (string_bytes word) is.1 is.2)))
 misused_not_meant told (Most word) is = exploration_broken told is.0 (not_read count_in told (codes "most") (string_bytes word) is.1 is.2)
 misused_not_meant told (Depth word) is = tree_broken told is.0 (no_depth told (not_read depth_in told (codes "depth") (string_bytes word) is.1 is.2))
-misused_not_meant told (BadRule word) is = refutation_broken told is.0
-    (and_left (reads rule_named (codes "rule") told) (reads story_numbered (codes "story") told) (not_read rule_named told (codes "rule") (string_bytes word) is.1 is.2))
-misused_not_meant told (BadStory word) is = refutation_broken told is.0
-    (and_right (reads rule_named (codes "rule") told) (reads story_numbered (codes "story") told) (not_read story_numbered told (codes "story") (string_bytes word) is.1 is.2))
+misused_not_meant told (BadRule word) is = rule_broken told is.0 (not_read rule_named told (codes "rule") (string_bytes word) is.1 is.2)
+misused_not_meant told (BadStory word) is = story_broken told is.0 (not_read story_numbered told (codes "story") (string_bytes word) is.1 is.2)
+misused_not_meant told (BadSize word) is = size_broken told is.0 (not_read size_in told (codes "generals") (string_bytes word) is.1 is.2)
+misused_not_meant told (BadBound word) is = search_broken told is.0 (no_bound told (not_read bound_in told (codes "bound") (string_bytes word) is.1 is.2))
+misused_not_meant told (TraitorCount word) is = search_broken told is.0 (no_count told (not_read traitors_in told (codes "traitors") (string_bytes word) is.1 is.2))
+misused_not_meant told (Commander word) is = search_broken told is.0 (no_commander told (not_read general_in told (codes "commander") (string_bytes word) is.1 is.2))
+misused_not_meant told NoGenerals is = search_broken told is.0 (rw is.1 refl)
+misused_not_meant told NoBound is = search_broken told is.0 (lacks_bound told is.1)
+misused_not_meant told NoTraitors is = search_broken told is.0 (lacks_traitors told is.1)
 misused_not_meant told NobodyNamed is = tree_broken told is.0 (nobody told is.1)
 misused_not_meant told TwoDrawings is = tree_broken told is.0 (two_drawn told is.1)
 misused_not_meant told TwoNotations is = program_broken told is.0 (rw (is.1, is.2) refl)

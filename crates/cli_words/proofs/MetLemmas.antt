@@ -39,9 +39,9 @@ off known name apart = elim (cases_Bool (bytes_eq known name)) [
 -- Each task has one of these names.
 pub no_other_task : (told : Told) → has_places told ≡ true
     → (told.name ≡ codes "check" → ⊥) → (told.name ≡ codes "asm" → ⊥) → (told.name ≡ codes "dis" → ⊥) → (told.name ≡ codes "book" → ⊥)
-    → (told.name ≡ codes "table" → ⊥) → (told.name ≡ codes "refute" → ⊥) → (told.name ≡ codes "muster" → ⊥) → (told.name ≡ codes "play" → ⊥) → (told.name ≡ codes "audit" → ⊥)
+    → (told.name ≡ codes "table" → ⊥) → (told.name ≡ codes "refute" → ⊥) → (told.name ≡ codes "exhaust" → ⊥) → (told.name ≡ codes "rule" → ⊥) → (told.name ≡ codes "muster" → ⊥) → (told.name ≡ codes "play" → ⊥) → (told.name ≡ codes "audit" → ⊥)
     → (told.name ≡ codes "explore" → ⊥) → (told.name ≡ codes "tree" → ⊥) → (told.name ≡ codes "draw" → ⊥) → (told.name ≡ codes "page" → ⊥) → (told.name ≡ codes "schedule" → ⊥) → ⊥
-no_other_task told is check asm dis book table refute muster play audit explore tree draw page schedule =
+no_other_task told is check asm dis book table refute exhaust rule muster play audit explore tree draw page schedule =
     let bad : false ≡ true = rw (
       off (codes "check") told.name check,
       off (codes "asm") told.name asm,
@@ -49,6 +49,8 @@ no_other_task told is check asm dis book table refute muster play audit explore 
       off (codes "book") told.name book,
       off (codes "table") told.name table,
       off (codes "refute") told.name refute,
+      off (codes "exhaust") told.name exhaust,
+      off (codes "rule") told.name rule,
       off (codes "muster") told.name muster,
       off (codes "play") told.name play,
       off (codes "audit") told.name audit,

@@ -5,8 +5,8 @@ use Rattle.std.specs.Borrow.{Bor}
 use Rattle.std.specs.Option.{option_map_or}
 use Rattle.combine.specs.Names.{rule_named}
 use Rattle.bounds.specs.Stories.{story_numbered}
-use Rattle.cli_words.specs.Generals.{count_in, depth_in, general_in, generals_in, order_in, seed_in}
-use Rattle.cli_words.specs.Tasks.{Told, are_two, campaigns, coursed, has, is_of, is_text, of_one, of_traitors, programs, word_of}
+use Rattle.cli_words.specs.Generals.{bound_in, count_in, depth_in, general_in, generals_in, order_in, seed_in, size_in, traitors_in}
+use Rattle.cli_words.specs.Tasks.{Told, are_two, campaigns, coursed, has, is_of, is_text, of_one, of_traitors, programs, ruled, sized, word_of}
 use Rattle.cli_words.specs.Usage.{Text, Usage, taken_in, value_at}
 use Rattle.cli_words.specs.Usages.{usage_named}
 
@@ -46,9 +46,12 @@ abbrev pub has_filling : Told → Bool
 has_filling told = reads order_in (codes "loyal") told && reads general_in (codes "lie") told
     && wants (codes "lie") (codes "loyal") told
 
--- Checks whether the values of `--rule` and `--story` are a rule and the number of a story.
-abbrev pub has_refutation : Told → Bool
-has_refutation told = reads rule_named (codes "rule") told && reads story_numbered (codes "story") told
+-- Checks whether `--generals`, `--bound` and `--traitors` are used, and the values of the last two and of `--commander`
+-- are a bound, a number of traitors and a general.
+abbrev pub has_search : Told → Bool
+has_search told = has (codes "generals") told && has (codes "bound") told && has (codes "traitors") told
+    && reads bound_in (codes "bound") told && reads traitors_in (codes "traitors") told
+    && reads general_in (codes "commander") told
 
 -- Checks whether `--of` is used, the value of `--depth` is a number of levels, and the words name at most one way to
 -- draw the tree.
@@ -81,7 +84,10 @@ is_meant told = if_of programs told (has_notation told)
     && if_of (codes "dis" ∷ []) told (excludes (codes "partial") (codes "units") told)
     && if_of coursed told (excludes (codes "chronicle") (codes "schedule") told)
     && if_of (codes "play" ∷ []) told (has_turns told)
-    && if_of (codes "refute" ∷ []) told (has_refutation told)
+    && if_of (codes "refute" ∷ []) told (reads story_numbered (codes "story") told)
+    && if_of sized told (reads size_in (codes "generals") told)
+    && if_of ruled told (reads rule_named (codes "rule") told)
+    && if_of (codes "exhaust" ∷ []) told (has_search told)
 
 -- Returns the subcommand and the values of its words, or `None` if `clap`, the parser of the command line, rejects the
 -- words or they are misused.

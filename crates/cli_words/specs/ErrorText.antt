@@ -5,7 +5,7 @@ use Rattle.std.specs.Fmt.{debug_str}
 use Rattle.cli_words.specs.declared.errors.TaskError.{TaskError}
 use Rattle.cli_words.specs.declared.errors.TaskError.TheVariants as error
 use Rattle.cli_words.specs.declared.errors.Misuse.{Misuse}
-use Rattle.cli_words.specs.declared.errors.Misuse.TheVariants.{Traitors, Of, Lie, Loyal, Most, Depth, NobodyNamed, TwoDrawings, TwoNotations, UnitsOfParts, TwoCourses, EntryAlone, OfAlone, LieAlone, Seed, Rule, Story, TwoSchedules, OutAlone}
+use Rattle.cli_words.specs.declared.errors.Misuse.TheVariants.{Traitors, Of, Lie, Loyal, Most, Depth, NobodyNamed, TwoDrawings, TwoNotations, UnitsOfParts, TwoCourses, EntryAlone, OfAlone, LieAlone, Seed, Rule, Story, Generals, Bound, TraitorCount, Commander, NoGenerals, NoBound, NoTraitors, TwoSchedules, OutAlone}
 
 -- Returns the text for an option with a wrong value. `wanted` says which values the option accepts.
 abbrev pub invalid : List ℕ → List ℕ → List ℕ → Option (List ℕ)
@@ -27,6 +27,16 @@ misuse_text (Seed word) =
 misuse_text (Rule word) = invalid (string_bytes word) (codes "--rule <RULE>") (codes "majority or median")
 misuse_text (Story word) =
     invalid (string_bytes word) (codes "--story <K>") (codes "the number of a story, 1 to 3")
+misuse_text (Generals word) =
+    invalid (string_bytes word) (codes "--generals <N>") (codes "how many generals there are, 2 to 13")
+misuse_text (Bound word) = invalid (string_bytes word) (codes "--bound <M>") (codes "a bound on the traitors, 0 to 4")
+misuse_text (TraitorCount word) =
+    invalid (string_bytes word) (codes "--traitors <K>") (codes "a number of traitors, 0 to 12")
+misuse_text (Commander word) =
+    invalid (string_bytes word) (codes "--commander <C>") (codes "the number of a general, 0 to 12")
+misuse_text NoGenerals = Some (codes "the argument '--generals <N>' is required")
+misuse_text NoBound = Some (codes "the argument '--bound <M>' is required")
+misuse_text NoTraitors = Some (codes "the argument '--traitors <K>' is required")
 misuse_text NobodyNamed = Some (codes "the argument '--of <G>' is required")
 misuse_text TwoDrawings =
     Some (codes "the arguments '--dot' and '--svg' cannot be used with each other, or with '--text' or '--ascii'")

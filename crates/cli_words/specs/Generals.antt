@@ -1,4 +1,4 @@
--- Defines the numbers that words can be: generals, orders, counts, seeds and depths (own).
+-- Defines the numbers that words can be: generals, bounds, orders, counts, seeds and depths (own).
 use Rattle.std.specs.Prelude.{ℕ, nat_lt, ◌&&◌, ◌^◌, if◌then◌else◌, List, [], ◌∷◌, ◌++◌, Option, Some, None}
 use Rattle.text.specs.Options.{◌>>=◌}
 use Rattle.text.specs.Stop.{comma}
@@ -24,6 +24,18 @@ count_in word = decimal_of word >>= λ n. if nat_lt 0 n && nat_lt n (2 ^ 64) the
 -- Parses the seed of a random schedule, 0 to 18446744073709551615. Returns `None` for any other word.
 unfoldable pub seed_in : List ℕ → Option ℕ
 seed_in word = below (2 ^ 64) word
+
+-- Returns a number of generals, 2 to 13.
+unfoldable pub size_in : List ℕ → Option ℕ
+size_in word = decimal_of word >>= λ n. if nat_lt 1 n && nat_lt n 14 then Some n else None
+
+-- Parses a bound on the traitors, 0 to 4. Returns `None` for any other word.
+unfoldable pub bound_in : List ℕ → Option ℕ
+bound_in word = below 5 word
+
+-- Parses a number of traitors, 0 to 12. Returns `None` for any other word.
+unfoldable pub traitors_in : List ℕ → Option ℕ
+traitors_in word = below 13 word
 
 -- Parses a number of levels of a tree, 0 to 4. Returns `None` for any other word.
 unfoldable pub depth_in : List ℕ → Option ℕ

@@ -11,7 +11,7 @@ use Rattle.bounds.specs.declared.story.Story.{Story}
 use Rattle.clap.specs.Words.{kind_of}
 use Rattle.clap.specs.declared.error.Error.{Error}
 use Rattle.clap.specs.declared.error.kind.ErrorKind.TheVariants.{OutOfMemory}
-use Rattle.cli_words.specs.Generals.{count_in, depth_in, general_in, generals_in, order_in, seed_in}
+use Rattle.cli_words.specs.Generals.{bound_in, count_in, depth_in, general_in, generals_in, order_in, seed_in, size_in, traitors_in}
 use Rattle.cli_words.specs.Usage.{Text}
 use Rattle.cli_words.specs.declared.tasks.Accesses.{Accesses}
 use Rattle.cli_words.specs.declared.tasks.Accesses.TheVariants.{OfChronicle, Listed}
@@ -30,11 +30,11 @@ use Rattle.cli_words.specs.declared.tasks.TaskRequest.{TaskRequest}
 use Rattle.cli_words.specs.declared.tasks.Spelling.{Spelling}
 use Rattle.cli_words.specs.declared.tasks.Spelling.TheVariants.{Hex, Raw}
 use Rattle.cli_words.specs.declared.tasks.Task.{Task}
-use Rattle.cli_words.specs.declared.tasks.Task.TheVariants.{Check, Assemble, AssemblePartly, Disassemble, DisassemblePartly, Book, ExplainDecisions, Form, Refute, Play, Muster, Audit, Explore, Tree, Draw, Page, Retrace}
+use Rattle.cli_words.specs.declared.tasks.Task.TheVariants.{Check, Assemble, AssemblePartly, Disassemble, DisassemblePartly, Book, ExplainDecisions, Form, Refute, Exhaust, Certify, Play, Muster, Audit, Explore, Tree, Draw, Page, Retrace}
 use Rattle.cli_words.specs.declared.tasks.Turns.{Turns}
 use Rattle.cli_words.specs.declared.tasks.Turns.TheVariants.{OfFile, OfSeed}
 use Rattle.cli_words.specs.declared.errors.Misuse.{Misuse}
-use Rattle.cli_words.specs.declared.errors.Misuse.TheVariants.{Traitors, Of, Lie, Loyal, Most, Depth, NobodyNamed, TwoDrawings, TwoNotations, UnitsOfParts, TwoCourses, EntryAlone, OfAlone, LieAlone, Seed, Rule as BadRule, Story as BadStory, TwoSchedules, OutAlone}
+use Rattle.cli_words.specs.declared.errors.Misuse.TheVariants.{Traitors, Of, Lie, Loyal, Most, Depth, NobodyNamed, TwoDrawings, TwoNotations, UnitsOfParts, TwoCourses, EntryAlone, OfAlone, LieAlone, Seed, Rule as BadRule, Story as BadStory, Generals as BadSize, Bound as BadBound, TraitorCount, Commander, NoGenerals, NoBound, NoTraitors, TwoSchedules, OutAlone}
 use Rattle.cli_words.specs.declared.errors.TaskError.{TaskError}
 use Rattle.cli_words.specs.declared.errors.TaskError.TheVariants as error
 
@@ -58,7 +58,7 @@ is_of names told = list_any (λ name. bytes_eq name told.name) names
 
 -- The subcommands that read a program and have `--elf`, since it may be an ELF object.
 abbrev pub programs : List Text
-programs = codes "check" ∷ codes "dis" ∷ []
+programs = codes "check" ∷ codes "dis" ∷ codes "rule" ∷ []
 
 -- The subcommands that print a campaign and may explain its decisions.
 abbrev pub campaigns : List Text
@@ -71,6 +71,14 @@ of_one = codes "tree" ∷ campaigns
 -- The subcommands with the option `--traitors`, the numbers of traitors.
 abbrev pub of_traitors : List Text
 of_traitors = codes "book" ∷ codes "tree" ∷ []
+
+-- The subcommands with the option `--generals`, how many generals there are.
+abbrev pub sized : List Text
+sized = codes "exhaust" ∷ codes "rule" ∷ []
+
+-- The subcommands with the option `--rule`, the name of a rule.
+abbrev pub ruled : List Text
+ruled = codes "refute" ∷ codes "exhaust" ∷ []
 
 -- The subcommands that draw or describe a campaign, which follows a schedule or a chronicle.
 abbrev pub coursed : List Text
@@ -99,6 +107,10 @@ named explained (Some word) = generals_in word
 named true None = Some []
 named false None = None
 
+-- States that the words have the option `name`, and that `read` parses its value as x.
+abbrev pub HasValue : {X : Type 0} → (Text → Option X) → Text → Told → X → Type 0
+HasValue read name told x = (word_of name told >>= read) ≡ Some x
+
 -- States that the value of the option `name` is this general, or that the words do not have the option and there is no
 -- general.
 abbrev pub NamesGeneral : Text → Told → Option ℕ → Type 0
@@ -121,6 +133,11 @@ rule_in (Some word) = rule_named word
 abbrev pub NamesStory : Told → Option Story → Type 0
 NamesStory told None = word_of (codes "story") told ≡ None
 NamesStory told (Some story) = (word_of (codes "story") told >>= story_numbered) ≡ Some story
+
+-- Returns how many generals the word names, or 13 if there is no word.
+abbrev pub size_given : Option Text → Option ℕ
+size_given None = Some 13
+size_given (Some word) = size_in word
 
 -- Checks whether a campaign is printed as its message table, and not as its chronicle.
 abbrev pub is_table : Account → Bool
@@ -222,6 +239,13 @@ Says told (Refute n m c rule story) = (told.name ≡ codes "refute")
     × (word_of (codes "GENERALS") told ≡ Some (string_bytes n)) × (word_of (codes "BOUND") told ≡ Some (string_bytes m))
     × (word_of (codes "COMMANDER") told ≡ Some (string_bytes c))
     × (rule_in (word_of (codes "rule") told) ≡ Some rule) × NamesStory told story
+Says told (Exhaust generals bound traitors commander rule) = (told.name ≡ codes "exhaust")
+    × HasValue size_in (codes "generals") told generals × HasValue bound_in (codes "bound") told bound
+    × HasValue traitors_in (codes "traitors") told traitors
+    × NamesGeneral (codes "commander") told commander × (rule_in (word_of (codes "rule") told) ≡ Some rule)
+Says told (Certify file notation generals) = (told.name ≡ codes "rule")
+    × (word_of (codes "FILE") told ≡ Some (string_bytes file)) × IsNotation told notation
+    × (size_given (word_of (codes "generals") told) ≡ Some generals)
 Says told (Play scenario turns account explained) = (told.name ≡ codes "play")
     × (word_of (codes "SCENARIO") told ≡ Some (string_bytes scenario)) × AreTurns told turns
     × (has (codes "table") told ≡ is_table account) × AreExplained told explained
@@ -265,6 +289,8 @@ file_of (Book file) = Some (string_bytes file)
 file_of (ExplainDecisions file traitors) = Some (string_bytes file)
 file_of (Form n m c filling) = None
 file_of (Refute n m c rule story) = None
+file_of (Exhaust generals bound traitors commander rule) = None
+file_of (Certify file notation generals) = Some (string_bytes file)
 file_of (Play scenario turns account explained) = Some (string_bytes scenario)
 file_of (Muster scenario explained) = Some (string_bytes scenario)
 file_of (Audit scenario chronicle explained) = Some (string_bytes scenario)
@@ -357,10 +383,21 @@ IsMisused told (Depth word) = (is_of (codes "tree" ∷ []) told ≡ true)
     × (word_of (codes "depth") told ≡ Some (string_bytes word)) × (depth_in (string_bytes word) ≡ None)
 IsMisused told (Seed word) = (is_of (codes "play" ∷ []) told ≡ true)
     × (word_of (codes "seed") told ≡ Some (string_bytes word)) × (seed_in (string_bytes word) ≡ None)
-IsMisused told (BadRule word) = (is_of (codes "refute" ∷ []) told ≡ true)
+IsMisused told (BadRule word) = (is_of ruled told ≡ true)
     × (word_of (codes "rule") told ≡ Some (string_bytes word)) × (rule_named (string_bytes word) ≡ None)
 IsMisused told (BadStory word) = (is_of (codes "refute" ∷ []) told ≡ true)
     × (word_of (codes "story") told ≡ Some (string_bytes word)) × (story_numbered (string_bytes word) ≡ None)
+IsMisused told (BadSize word) = (is_of sized told ≡ true)
+    × (word_of (codes "generals") told ≡ Some (string_bytes word)) × (size_in (string_bytes word) ≡ None)
+IsMisused told (BadBound word) = (is_of (codes "exhaust" ∷ []) told ≡ true)
+    × (word_of (codes "bound") told ≡ Some (string_bytes word)) × (bound_in (string_bytes word) ≡ None)
+IsMisused told (TraitorCount word) = (is_of (codes "exhaust" ∷ []) told ≡ true)
+    × (word_of (codes "traitors") told ≡ Some (string_bytes word)) × (traitors_in (string_bytes word) ≡ None)
+IsMisused told (Commander word) = (is_of (codes "exhaust" ∷ []) told ≡ true)
+    × (word_of (codes "commander") told ≡ Some (string_bytes word)) × (general_in (string_bytes word) ≡ None)
+IsMisused told NoGenerals = (is_of (codes "exhaust" ∷ []) told ≡ true) × (has (codes "generals") told ≡ false)
+IsMisused told NoBound = (is_of (codes "exhaust" ∷ []) told ≡ true) × (has (codes "bound") told ≡ false)
+IsMisused told NoTraitors = (is_of (codes "exhaust" ∷ []) told ≡ true) × (has (codes "traitors") told ≡ false)
 IsMisused told NobodyNamed = (is_of (codes "tree" ∷ []) told ≡ true) × (has (codes "of") told ≡ false)
 IsMisused told TwoDrawings = (is_of (codes "tree" ∷ []) told ≡ true)
     × (are_two (is_text told) (has (codes "dot") told) (has (codes "svg") told) ≡ true)

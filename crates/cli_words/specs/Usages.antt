@@ -47,6 +47,23 @@ refute = record {
   flags = option (codes "rule") ∷ option (codes "story") ∷ [];
 }
 
+abbrev pub exhaust : Usage
+exhaust = record {
+  name = codes "exhaust";
+  places = [];
+  flags = switch (codes "json") ∷ option (codes "generals") ∷ option (codes "bound") ∷ option (codes "traitors") ∷ option
+      (codes "commander")
+      ∷ option (codes "rule") ∷ [];
+}
+
+abbrev pub rule : Usage
+rule = record {
+  name = codes "rule";
+  places = codes "FILE" ∷ [];
+  flags = switch (codes "asm") ∷ switch (codes "elf") ∷ switch (codes "json") ∷ option (codes "entry") ∷ option
+      (codes "generals") ∷ [];
+}
+
 abbrev pub muster : Usage
 muster = record {
   name = codes "muster";
@@ -108,7 +125,7 @@ schedule = record {
 
 -- The usages of all subcommands, in the order in which the help lists them.
 abbrev pub usages : List Usage
-usages = check ∷ asm ∷ dis ∷ book ∷ table ∷ refute ∷ muster ∷ play ∷ audit ∷ explore ∷ tree ∷ draw ∷ page ∷ schedule ∷ []
+usages = check ∷ asm ∷ dis ∷ book ∷ table ∷ refute ∷ exhaust ∷ rule ∷ muster ∷ play ∷ audit ∷ explore ∷ tree ∷ draw ∷ page ∷ schedule ∷ []
 
 -- Returns the usage of the subcommand with this name, or `None` if there is none.
 abbrev pub usage_named : Text → Option Usage

@@ -7,7 +7,7 @@ ghost use Rattle.cli_words.specs.Lab.{app_for, described, lab_about, lab_version
 ghost use Rattle.cli_words.specs.Subcommand.{with_subcommands};
 
 use crate::subcommand::Subcommand;
-use crate::subcommands::subcommands_for;
+use crate::subcommands::{subcommands, subcommands_for};
 use clap::Command;
 use std::alloc::{AllocError, Global};
 
@@ -27,7 +27,9 @@ pub(crate) fn lab_command<'a>(alloc: Global, words: &[&str]) -> Result<Command<'
     ensures version { IfOk result (λ c. option_map (λ text. text.now) (out-Command c).version ≡ Some lab_version) }
     ensures name { IfOk result (λ c. IsSomeAnd (out-Command c).bin_name (λ name. string_bytes name ≡ codes "byzlab")) }
 {
-    let lab = with_subcommands(alloc, Command::new(alloc, "byzlab"), subcommands_for(words))?;
+    let subcommands = subcommands();
+    let named = subcommands_for(words, &subcommands);
+    let lab = with_subcommands(alloc, Command::new(alloc, "byzlab"), named)?;
     described(lab)
 }
 

@@ -36,6 +36,20 @@ pub enum Misuse {
     Rule(String),
     /// The value of `--story` is not the number of a story.
     Story(String),
+    /// The value of `--generals` is not a number of generals.
+    Generals(String),
+    /// The value of `--bound` is not a bound on the traitors.
+    Bound(String),
+    /// The value of `--traitors` of `exhaust` is not a number of traitors.
+    TraitorCount(String),
+    /// The value of `--commander` is not the number of a general.
+    Commander(String),
+    /// `--generals`, how many generals there are, is missing.
+    NoGenerals,
+    /// `--bound`, the bound on the traitors, is missing.
+    NoBound,
+    /// `--traitors`, the greatest number of traitors, is missing.
+    NoTraitors,
     /// `--asm` and `--elf` are used together, so that a file has two notations.
     TwoNotations,
     /// `--units` and `--partial` are used together. With `--partial`, some units are no instructions, and a unit is
@@ -118,6 +132,25 @@ impl fmt::Display for Misuse {
                 f,
                 "invalid value {word:?} for '--story <K>': the number of a story, 1 to 3"
             ),
+            Misuse::Generals(word) => write!(
+                f,
+                "invalid value {word:?} for '--generals <N>': how many generals there are, 2 to 13"
+            ),
+            Misuse::Bound(word) => write!(
+                f,
+                "invalid value {word:?} for '--bound <M>': a bound on the traitors, 0 to 4"
+            ),
+            Misuse::TraitorCount(word) => write!(
+                f,
+                "invalid value {word:?} for '--traitors <K>': a number of traitors, 0 to 12"
+            ),
+            Misuse::Commander(word) => write!(
+                f,
+                "invalid value {word:?} for '--commander <C>': the number of a general, 0 to 12"
+            ),
+            Misuse::NoGenerals => f.write_str("the argument '--generals <N>' is required"),
+            Misuse::NoBound => f.write_str("the argument '--bound <M>' is required"),
+            Misuse::NoTraitors => f.write_str("the argument '--traitors <K>' is required"),
             Misuse::NobodyNamed => f.write_str("the argument '--of <G>' is required"),
             Misuse::TwoDrawings => f.write_str(
                 "the arguments '--dot' and '--svg' cannot be used with each other, or with '--text' or '--ascii'",

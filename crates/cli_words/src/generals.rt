@@ -1,6 +1,6 @@
-//! Parses the values of options: generals, orders, counts, seeds and depths.
+//! Parses the values of options: generals, bounds, orders, counts, seeds and depths.
 ghost use Rattle.std.specs.Prelude.{◌≡◌, ◌≢◌, Ok, Err, IfOk, IfErr, Some, None, is_some, true};
-ghost use Rattle.cli_words.specs.Generals.{count_in, depth_in, general_in, generals_in, order_in, seed_in};
+ghost use Rattle.cli_words.specs.Generals.{bound_in, count_in, depth_in, general_in, generals_in, order_in, seed_in, size_in, traitors_in};
 ghost use Rattle.cli_words.specs.declared.generals.GeneralsError.TheVariants.{NoGeneral, Memory};
 
 use std::alloc::{AllocError, Global};
@@ -124,6 +124,41 @@ pub(crate) fn seed(word: &[u8]) -> Option<u64>
     let number = decimal(word)?;
     if number < 18_446_744_073_709_551_616 {
         Some(number as u64)
+    } else {
+        None
+    }
+}
+
+/// Reads a number of generals, 2 to 13. Returns `None` for any other word.
+#[tactic(auto, unfolding(crate::specs::Generals::size_in))]
+pub(crate) fn size(word: &[u8]) -> Option<u8>
+    ensures { result ≡ size_in word.now }
+{
+    let number = decimal(word)?;
+    if 1 < number && number < 14 {
+        Some(number as u8)
+    } else {
+        None
+    }
+}
+
+/// Parses a bound on the traitors, 0 to 4. Returns `None` for any other word.
+#[tactic(auto, unfolding(crate::specs::Generals::bound_in))]
+pub(crate) fn bound(word: &[u8]) -> Option<u8>
+    ensures { result ≡ bound_in word.now }
+{
+    let number = decimal(word)?;
+    if number < 5 { Some(number as u8) } else { None }
+}
+
+/// Parses a number of traitors, 0 to 12. Returns `None` for any other word.
+#[tactic(auto, unfolding(crate::specs::Generals::traitors_in))]
+pub(crate) fn traitors(word: &[u8]) -> Option<u8>
+    ensures { result ≡ traitors_in word.now }
+{
+    let number = decimal(word)?;
+    if number < 13 {
+        Some(number as u8)
     } else {
         None
     }

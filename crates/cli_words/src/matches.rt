@@ -1,13 +1,16 @@
 //! Turns the words that `clap`, the parser of the command line, accepted into a task, or finds why they name none.
 ghost use Rattle.std.specs.Prelude.{◌≡◌, ◌≢◌, if◌then◌else◌, IfOk, IfErr, IsSome, None, Some, [], ◌∷◌, codes, is_some, option_map, string_bytes, true, false};
 ghost use Rattle.clap.specs.Words.{subcommand_rows_of};
+ghost use Rattle.cli_words.specs.Generals.{bound_in, size_in, traitors_in};
 ghost use Rattle.cli_words.specs.Lab.{is_given, task_met};
 ghost use Rattle.cli_words.specs.Tasks.{IsDrawing, levels_in, named};
 ghost use Rattle.cli_words.specs.Met.{has_places, told_by};
-ghost use Rattle.cli_words.specs.Tasks.{AreExplained, AreTurns, Asks, IsCourse, IsErrorOf, IsFilling, IsNotation, NamesCount, NamesGeneral, NamesSeed, NamesStory, Says, campaigns, coursed, has, is_of, is_raw, is_table, programs, rule_in, word_of};
+ghost use Rattle.cli_words.specs.Tasks.{AreExplained, AreTurns, Asks, HasValue, IsCourse, IsErrorOf, IsFilling, IsNotation, NamesCount, NamesGeneral, NamesSeed, NamesStory, Says, campaigns, coursed, has, is_of, is_raw, is_table, programs, rule_in, ruled, size_given, word_of};
 
 use crate::errors::{Misuse, TaskError};
-use crate::generals::{GeneralsError, count, depth, general, generals, order, seed};
+use crate::generals::{
+    GeneralsError, bound, count, depth, general, generals, order, seed, size, traitors,
+};
 use crate::tasks::{
     Accesses, Account, Course, Drawing, Filling, Lieutenants, Notation, Spelling, Task,
     TaskRequest, Turns,
@@ -100,6 +103,8 @@ impl<'m, 'a> ParsedWords<'m, 'a> {
             "book" => self.book(alloc),
             "table" => self.form(alloc),
             "refute" => self.refute(alloc),
+            "exhaust" => self.exhaust(alloc),
+            "rule" => self.certify(alloc),
             "muster" => self.muster(alloc),
             "play" => self.play(alloc),
             "audit" => self.audit(alloc),
@@ -261,6 +266,116 @@ impl<'m, 'a> ParsedWords<'m, 'a> {
             rule: self.rule(alloc)?,
             story: self.story(alloc)?,
         })
+    }
+
+    /// Builds the task of the subcommand `exhaust` from its words.
+    fn exhaust(self, alloc: Global) -> Result<Task, TaskError>
+        requires name { self.name.now ≡ codes "exhaust" }
+        ensures task { IfOk result (Says (told_by self.entry)) }
+        ensures refused { IfErr result (IsErrorOf (told_by self.entry)) }
+    {
+        Ok(Task::Exhaust {
+            generals: self.generals(alloc)?,
+            bound: self.bound(alloc)?,
+            traitors: self.traitor_count(alloc)?,
+            commander: self.commander(alloc)?,
+            rule: self.rule(alloc)?,
+        })
+    }
+
+    /// Returns the value of `--generals`, how many generals there are. Fails if it is missing, or is not a number of
+    /// generals.
+    fn generals(self, alloc: Global) -> Result<u8, TaskError>
+        requires { is_of (codes "exhaust" ∷ []) (told_by self) ≡ true }
+        ensures named { IfOk result (HasValue size_in (codes "generals") (told_by self.entry)) }
+        ensures refused { IfErr result (IsErrorOf (told_by self.entry)) }
+        ensures memory { has (codes "generals") (told_by self.entry) ≡ false → IfErr result (λ error. error ≢ TaskError.Memory) }
+    {
+        let Some(word) = self.value("generals") else {
+            return Err(TaskError::Misuse(Misuse::NoGenerals));
+        };
+        match size(word.as_bytes()) {
+            Some(size) => Ok(size),
+            None => Err(TaskError::Misuse(Misuse::Generals(String::from_str(alloc, word)?))),
+        }
+    }
+
+    /// Returns the value of `--bound`, the bound on the traitors. Fails if it is missing, or is not a bound.
+    fn bound(self, alloc: Global) -> Result<u8, TaskError>
+        requires { is_of (codes "exhaust" ∷ []) (told_by self) ≡ true }
+        ensures named { IfOk result (HasValue bound_in (codes "bound") (told_by self.entry)) }
+        ensures refused { IfErr result (IsErrorOf (told_by self.entry)) }
+        ensures memory { has (codes "bound") (told_by self.entry) ≡ false → IfErr result (λ error. error ≢ TaskError.Memory) }
+    {
+        let Some(word) = self.value("bound") else {
+            return Err(TaskError::Misuse(Misuse::NoBound));
+        };
+        match bound(word.as_bytes()) {
+            Some(bound) => Ok(bound),
+            None => Err(TaskError::Misuse(Misuse::Bound(String::from_str(alloc, word)?))),
+        }
+    }
+
+    /// Returns the value of `--traitors`, the greatest number of traitors. Fails if it is missing, or is not a number
+    /// of traitors.
+    fn traitor_count(self, alloc: Global) -> Result<u8, TaskError>
+        requires { is_of (codes "exhaust" ∷ []) (told_by self) ≡ true }
+        ensures named { IfOk result (HasValue traitors_in (codes "traitors") (told_by self.entry)) }
+        ensures refused { IfErr result (IsErrorOf (told_by self.entry)) }
+        ensures memory { has (codes "traitors") (told_by self.entry) ≡ false → IfErr result (λ error. error ≢ TaskError.Memory) }
+    {
+        let Some(word) = self.value("traitors") else {
+            return Err(TaskError::Misuse(Misuse::NoTraitors));
+        };
+        match traitors(word.as_bytes()) {
+            Some(most) => Ok(most),
+            None => Err(TaskError::Misuse(Misuse::TraitorCount(String::from_str(alloc, word)?))),
+        }
+    }
+
+    /// Returns the value of `--commander`, or `None` if the words do not have it. Fails if it is not the number of a
+    /// general.
+    fn commander(self, alloc: Global) -> Result<Option<u8>, TaskError>
+        requires { is_of (codes "exhaust" ∷ []) (told_by self) ≡ true }
+        ensures named { IfOk result (NamesGeneral (codes "commander") (told_by self.entry)) }
+        ensures refused { IfErr result (IsErrorOf (told_by self.entry)) }
+    {
+        let Some(word) = self.value("commander") else {
+            return Ok(None);
+        };
+        match general(word.as_bytes()) {
+            Some(general) => Ok(Some(general)),
+            None => Err(TaskError::Misuse(Misuse::Commander(String::from_str(alloc, word)?))),
+        }
+    }
+
+    /// Returns the task of `rule`.
+    fn certify(self, alloc: Global) -> Result<Task, TaskError>
+        requires name { self.name.now ≡ codes "rule" }
+        requires file { has (codes "FILE") (told_by self) ≡ true }
+        ensures task { IfOk result (Says (told_by self.entry)) }
+        ensures refused { IfErr result (IsErrorOf (told_by self.entry)) }
+    {
+        Ok(Task::Certify {
+            program: self.required(alloc, "FILE")?,
+            notation: self.notation(alloc)?,
+            generals: self.size(alloc)?,
+        })
+    }
+
+    /// Returns how many generals `--generals` names, or 13 without it.
+    fn size(self, alloc: Global) -> Result<u8, TaskError>
+        requires { is_of (codes "rule" ∷ []) (told_by self) ≡ true }
+        ensures given { IfOk result (λ size. size_given (word_of (codes "generals") (told_by self.entry)) ≡ Some size) }
+        ensures refused { IfErr result (IsErrorOf (told_by self.entry)) }
+    {
+        let Some(word) = self.value("generals") else {
+            return Ok(13);
+        };
+        match size(word.as_bytes()) {
+            Some(size) => Ok(size),
+            None => Err(TaskError::Misuse(Misuse::Generals(String::from_str(alloc, word)?))),
+        }
     }
 
     /// Builds the task of the subcommand `play` from its words.
@@ -601,7 +716,7 @@ impl<'m, 'a> ParsedWords<'m, 'a> {
     /// Returns the rule that `--rule` names, or the default rule if the words do not have it. Fails if no rule has this
     /// name.
     fn rule(self, alloc: Global) -> Result<Rule, TaskError>
-        requires { is_of (codes "refute" ∷ []) (told_by self) ≡ true }
+        requires { is_of ruled (told_by self) ≡ true }
         ensures named { IfOk result (λ rule. rule_in (word_of (codes "rule") (told_by self.entry)) ≡ Some rule) }
         ensures refused { IfErr result (IsErrorOf (told_by self.entry)) }
     {

@@ -79,6 +79,21 @@ pub enum Task {
         rule: Rule,
         story: Option<Story>,
     },
+    /// Find out whether any traitors, at most this many, break IC1 or IC2 among this many generals, whatever they send.
+    /// `bound` is the m of OM(m), 0 to 4. Without a commander, each general commands in turn.
+    Exhaust {
+        generals: u8,
+        bound: u8,
+        traitors: u8,
+        commander: Option<u8>,
+        rule: Rule,
+    },
+    /// Find out whether a program is a rule that keeps majorities among this many generals, 2 to 13.
+    Certify {
+        program: String,
+        notation: Notation,
+        generals: u8,
+    },
     /// Play a campaign by this schedule, and print its chronicle or its message table.
     Play {
         scenario: String,
@@ -304,6 +319,7 @@ impl Task {
             | Task::DisassemblePartly { program: file, .. }
             | Task::Book(file)
             | Task::ExplainDecisions { table: file, .. }
+            | Task::Certify { program: file, .. }
             | Task::Play { scenario: file, .. }
             | Task::Muster { scenario: file, .. }
             | Task::Audit { scenario: file, .. }
@@ -312,7 +328,7 @@ impl Task {
             | Task::Draw { scenario: file, .. }
             | Task::Page { scenario: file, .. }
             | Task::Retrace { scenario: file, .. } => Some(file.as_str()),
-            Task::Form { .. } | Task::Refute { .. } => None,
+            Task::Form { .. } | Task::Refute { .. } | Task::Exhaust { .. } => None,
         }
     }
 

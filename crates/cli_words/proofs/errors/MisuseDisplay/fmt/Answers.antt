@@ -50,3 +50,23 @@ pub returns-in-Seed-clause-writes : goal.returns-in-Seed-clause-writes
 returns-in-Seed-clause-writes g c =
     rw c.in-Seed.is (quoting (λ text. DisplaysOnOk g.W.Write.write_str_gives c.args.f.now c.write-in-Seed.result text c.write-in-Seed.new.self) (debug_str (string_bytes c.in-Seed.word))
     (codes " for '--seed <S>': a whole number, 0 to 18446744073709551615") (codes "--seed <S>") (codes "a whole number, 0 to 18446744073709551615") refl c.write-in-Seed.ensures.writes)
+
+pub returns-in-Generals-clause-writes : goal.returns-in-Generals-clause-writes
+returns-in-Generals-clause-writes g c =
+    rw c.in-Generals.is (quoting (λ text. DisplaysOnOk g.W.Write.write_str_gives c.args.f.now c.write-in-Generals.result text c.write-in-Generals.new.self) (debug_str (string_bytes c.in-Generals.word))
+    (codes " for '--generals <N>': how many generals there are, 2 to 13") (codes "--generals <N>") (codes "how many generals there are, 2 to 13") refl c.write-in-Generals.ensures.writes)
+
+pub returns-in-Bound-clause-writes : goal.returns-in-Bound-clause-writes
+returns-in-Bound-clause-writes g c =
+    rw c.in-Bound.is (quoting (λ text. DisplaysOnOk g.W.Write.write_str_gives c.args.f.now c.write-in-Bound.result text c.write-in-Bound.new.self) (debug_str (string_bytes c.in-Bound.word))
+    (codes " for '--bound <M>': a bound on the traitors, 0 to 4") (codes "--bound <M>") (codes "a bound on the traitors, 0 to 4") refl c.write-in-Bound.ensures.writes)
+
+pub returns-in-TraitorCount-clause-writes : goal.returns-in-TraitorCount-clause-writes
+returns-in-TraitorCount-clause-writes g c =
+    rw c.in-TraitorCount.is (quoting (λ text. DisplaysOnOk g.W.Write.write_str_gives c.args.f.now c.write-in-TraitorCount.result text c.write-in-TraitorCount.new.self) (debug_str (string_bytes c.in-TraitorCount.word))
+    (codes " for '--traitors <K>': a number of traitors, 0 to 12") (codes "--traitors <K>") (codes "a number of traitors, 0 to 12") refl c.write-in-TraitorCount.ensures.writes)
+
+pub returns-in-Commander-clause-writes : goal.returns-in-Commander-clause-writes
+returns-in-Commander-clause-writes g c =
+    rw c.in-Commander.is (quoting (λ text. DisplaysOnOk g.W.Write.write_str_gives c.args.f.now c.write-in-Commander.result text c.write-in-Commander.new.self) (debug_str (string_bytes c.in-Commander.word))
+    (codes " for '--commander <C>': the number of a general, 0 to 12") (codes "--commander <C>") (codes "the number of a general, 0 to 12") refl c.write-in-Commander.ensures.writes)

@@ -1,0 +1,4 @@
+use Rattle.lies.proofs.places.+places.Given as goal
+
+abbrev pub decreases-places : goal.decreases-places
+decreases-places l = l.relays

@@ -1,0 +1,15 @@
+pub mod Break
+pub mod Asked
+pub mod BreakTable
+pub mod TwoOrders
+pub mod Plans
+pub mod Limits
+pub mod PlannedMessages
+pub mod Attempts
+pub mod Search
+pub mod Commanders
+pub mod Refusal
+pub mod BreakTrees
+pub mod Estimate
+pub mod Places
+pub mod PlaceCounts

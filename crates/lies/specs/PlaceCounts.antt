@@ -1,0 +1,15 @@
+-- How many orders traitors send to loyal generals, from the numbers of generals alone.
+use Rattle.std.specs.Prelude.{ℕ, zero, suc, ◌+◌, ◌-◌, ◌*◌, Bool, if◌then◌else◌, true, false}
+
+-- Returns how many orders traitors send to loyal generals about a label and those that begin with it and have up to k
+-- generals more. `is_traitor` is whether the last general of the label is one. l loyal generals and t traitors are off
+-- the label.
+unfoldable pub places : ℕ → Bool → ℕ → ℕ → ℕ
+places zero is_traitor l t = if is_traitor then l else 0
+places (suc k) is_traitor l t =
+    (if is_traitor then l else 0) + (l * places k false (l - 1) t + t * places k true l (t - 1))
+
+-- Returns an upper bound on these orders among at most 13 generals.
+abbrev pub places_bound : ℕ → ℕ
+places_bound zero = 13
+places_bound (suc k) = 13 + 26 * places_bound k

@@ -1,0 +1,4 @@
+pub mod Calls
+pub mod Evaluation
+pub mod Majorities
+pub mod Laws
