@@ -76,6 +76,10 @@ faithful_same n m c order g M N same is (x ∷ xs) p label short within off =
     ∙ (is (x ∷ xs) p label short within off
     ∙ ap (λ o. Some (order_of o)) (sym (same (x ∷ xs) g (place_from n m c (x ∷ xs) g front ends.1 once.1 (omega arith)))))
 
+-- Proves that the numbers are within their limits under each commander.
+pub within_all : (n m d c : ℕ) → is_within n m d ≡ true → c < n → AreNumbersWithin n m c
+within_all n m d c within inside = (let l = limits n m d within in record { few = l.few; rounds = l.rounds; relays = l.relays; present = inside })
+
 -- Proves that the table that is written from the trees of a shortest break is its message table.
 pub table_is : (rule : Rule) (n m : ℕ) (given : Option ℕ) (c most order : ℕ) (traitors : List ℕ) (M : Messages) (trees : List LieutenantTree) (text : List ℕ) → is_within n m c ≡ true → AreOrders M → Breaks (combined_by rule) n m c order (on traitors) M
     → count_by (on traitors) (generals n) ≤ most → IsAsked n given c → ((d : ℕ) → IsAsked n given d → IsShortest (combined_by rule) n m d c (on traitors) M) → trees ≡ map (tree_of n m c M) (lieutenants n c) → text ≡ table_text (heard trees) n m c rule → IsBreakTable rule n m given most c traitors text

@@ -61,14 +61,17 @@ pub fn shortest_break(
     }
     for count in 0..most.min(generals) + 1 {
         if let Some(under) = cheapest_asked(alloc, &rule, generals, bound, commander, count)? {
-            let FoundUnder { commander, found } = under;
-            let table = written(alloc, &found, generals, bound, commander, rule)?;
+            let FoundUnder {
+                commander: leader,
+                found,
+            } = under;
+            let table = written(alloc, &found, generals, bound, leader, rule)?;
             let Found {
                 traitors,
                 success: _,
             } = found;
             return Ok(Some(BreakTable {
-                commander,
+                commander: leader,
                 traitors,
                 table,
             }));

@@ -2,7 +2,7 @@
 ghost use Rattle.std.specs.Prelude.{◌≡◌, ◌≤◌, ◌<◌, true, false};
 ghost use Rattle.book.specs.Grammar.{is_within};
 ghost use Rattle.lies.specs.Places.{AreMostPlaces};
-ghost use Rattle.lies.specs.PlaceCounts.{places, places_bound};
+ghost use Rattle.lies.specs.PlaceCounts.{most_by, places, places_bound};
 
 use crate::break_table::is_within;
 
@@ -20,14 +20,29 @@ pub fn most_places(generals: u8, bound: u8, most: u8) -> u32
     }
     let mut best = 0;
     for count in 0..most.min(generals) + 1 {
-        if count < generals {
-            best = best.max(places(bound, false, generals - count - 1, count));
-        }
-        if count > 0 {
-            best = best.max(places(bound, true, generals - count, count - 1));
-        }
+        best = best.max(most_by(generals, bound, count));
     }
     best
+}
+
+/// Returns the most orders that exactly `count` traitors, at most all generals, send to loyal generals.
+fn most_by(generals: u8, bound: u8, count: u8) -> u32
+    requires few { generals ≤ 13 }
+    requires short { bound ≤ 4 }
+    requires within { count ≤ generals }
+    ensures { result ≡ most_by generals bound count }
+{
+    let under_loyal = if count < generals {
+        places(bound, false, generals - count - 1, count)
+    } else {
+        0
+    };
+    let under_traitor = if count > 0 {
+        places(bound, true, generals - count, count - 1)
+    } else {
+        0
+    };
+    under_loyal.max(under_traitor)
 }
 
 /// Returns how many orders traitors send to loyal generals about a label and those that extend it by up to `relays`
