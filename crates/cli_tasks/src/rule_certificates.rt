@@ -38,7 +38,7 @@ fn certificate_of(alloc: Global, rule: &RuleProgram, generals: u8) -> Result<Str
     let longest = usize::from(generals).saturating_sub(1).min(12);
     match first_lost_majority(alloc, rule, longest)? {
         Some(lost) => uncertified(alloc, &lost),
-        None => format!(in alloc; "certified generals {generals}\n"),
+        None => Ok(format!(in alloc; "certified generals {generals}\n")?),
     }
 }
 

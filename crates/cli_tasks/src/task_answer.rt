@@ -126,7 +126,9 @@ pub fn answer(alloc: Global, task: &Task, bytes: &[u8]) -> Result<FirstAnswer, I
             alloc, *generals, *bound, *traitors, *commander, *rule,
         )?)),
         Task::Certify {
-            notation, generals, ..
+            notation,
+            generals,
+            ..
         } => Ok(FirstAnswer::Text(certificate(alloc, notation, bytes, *generals)?)),
         Task::Tree {
             general,

@@ -140,13 +140,13 @@ module _ (told : Told) where
       → (word_of (codes "bound") told >>= bound_in) ≡ Some bound → (word_of (codes "traitors") told >>= traitors_in) ≡ Some traitors
       → NamesGeneral (codes "commander") told commander → has_search told ≡ true
   search_holds generals bound traitors commander size limit most named = rw (
-      value_there size_in (word_of (codes "generals") told) generals size,
-      value_there bound_in (word_of (codes "bound") told) bound limit,
-      value_there traitors_in (word_of (codes "traitors") told) traitors most,
-      read_where bound_in (word_of (codes "bound") told) bound limit,
-      read_where traitors_in (word_of (codes "traitors") told) traitors most,
-      general_holds told (codes "commander") commander named,
-    ) refl
+    value_there size_in (word_of (codes "generals") told) generals size,
+    value_there bound_in (word_of (codes "bound") told) bound limit,
+    value_there traitors_in (word_of (codes "traitors") told) traitors most,
+    read_where bound_in (word_of (codes "bound") told) bound limit,
+    read_where traitors_in (word_of (codes "traitors") told) traitors most,
+    general_holds told (codes "commander") commander named,
+  ) refl
 
 pub says_meant : (told : Told) (task : Task) → Says told task → is_meant told ≡ true
 says_meant told (Check file notation context explained traced) says = rw says.0 (rw (notation_holds told notation says.2) refl)
@@ -161,10 +161,10 @@ says_meant told (Form n m c filling) says = rw says.0 (rw (filling_holds told fi
 says_meant told (Refute n m c rule story) says =
     rw says.0 (rw (rule_holds told (word_of (codes "rule") told) rule says.4, story_holds told story says.5) refl)
 says_meant told (Exhaust generals bound traitors commander rule) says = rw says.0 (rw (
-      read_where size_in (word_of (codes "generals") told) generals says.1,
-      rule_holds told (word_of (codes "rule") told) rule says.5,
-      search_holds told generals bound traitors commander says.1 says.2 says.3 says.4,
-    ) refl)
+  read_where size_in (word_of (codes "generals") told) generals says.1,
+  rule_holds told (word_of (codes "rule") told) rule says.5,
+  search_holds told generals bound traitors commander says.1 says.2 says.3 says.4,
+) refl)
 says_meant told (Certify file notation generals) says =
     rw says.0 (rw (notation_holds told notation says.2, size_holds told (word_of (codes "generals") told) generals says.3) refl)
 says_meant told (Play scenario turns account explained) says =
