@@ -1,13 +1,12 @@
 -- The search, commander by commander.
-use Rattle.std.proofs.Common.{ℕ, ◌<◌, ◌≤◌, ◌≡◌, Bool, true, false, cond, List, refl, sym, ap, ◌∙◌, arith, Option, None, Some}
+use Rattle.std.proofs.Common.{ℕ, ◌≡◌, Bool, true, false, cond, List, refl, sym, ◌∙◌, arith, Option, None, Some}
 use Rattle.std.specs.Prelude.{nat_lt, IfSome}
 use Rattle.std.proofs.lemmas.Bool.{ltb-true, ltb-false}
 use Rattle.lies.specs.Asked.{IsAsked}
-use Rattle.lies.specs.Attempts.{NoneCheaper, plan_for}
+use Rattle.lies.specs.Attempts.{NoneCheaper}
 use Rattle.lies.specs.Commanders.{IsFoundUnder, cheaper_under, success_under}
 use Rattle.lies.specs.Search.{IsFoundAmong, success_of}
 use Rattle.lies.specs.declared.attempt.Attempt.{Attempt}
-use Rattle.lies.specs.declared.attempt.Success.{Success}
 use Rattle.lies.specs.declared.choice.Choice.{Choice}
 use Rattle.lies.specs.declared.found.Found.{Found}
 use Rattle.lies.specs.declared.found.FoundUnder.{FoundUnder}

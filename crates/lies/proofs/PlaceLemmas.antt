@@ -1,15 +1,15 @@
 -- The orders that traitors send to loyal generals, counted.
-use Rattle.std.proofs.Common.{ℕ, zero, suc, ◌+◌, ◌-◌, ◌*◌, ◌<◌, ◌≤◌, ◌≡◌, ◌≢◌, Bool, true, false, not, cond, List, [], ◌∷◌, ◌++◌, length, ◌==◌, refl, sym, ap, subst, ◌∙◌, arith, inl, inr}
-use Rattle.std.specs.Prelude.{count_by, filter, sum_by, nat_lt, ◌⊎◌, max, min}
+use Rattle.std.proofs.Common.{ℕ, zero, suc, ◌+◌, ◌-◌, ◌*◌, ◌<◌, ◌≤◌, ◌≡◌, ◌≢◌, Bool, true, false, not, cond, List, [], ◌∷◌, ◌++◌, length, ◌==◌, Less, Equal, Greater, refl, sym, ap, subst, ◌∙◌, arith, inl, inr}
+use Rattle.std.specs.Prelude.{count_by, filter, sum_by, nat_lt, max, min}
+use Rattle.std.specs.Ordering.{is_lt, nat_cmp, ord_max}
 use Rattle.std.specs.List.{range_with_len}
-use Rattle.std.proofs.lemmas.Bool.{cases_Bool, cases_lt, eqb-true, false≢true, or_cases, le-ltb, lt-ltb, ltb-true}
+use Rattle.std.proofs.lemmas.Bool.{cases_Bool, cases_lt, eqb-true, false≢true, or_cases, le-ltb, lt-ltb, ltb-true, ltb-false}
 use Rattle.std.proofs.lemmas.List.Sums.{sum_by-cons}
-use Rattle.std.proofs.Math.Nat.{mul-le-mul}
+use Rattle.std.proofs.lemmas.Nat.{mul-le}
 use Rattle.label.specs.Labels.{on, generals, others}
-use Rattle.label.specs.Oral.{IsLabel}
 use Rattle.label.proofs.Counting.{others-on, others-split, range-on}
-use Rattle.lies.specs.PlaceCounts.{most_by, places, places_bound}
-use Rattle.lies.specs.Places.{AreMostPlaces, places_at, places_from, places_in}
+use Rattle.lies.specs.PlaceCounts.{most_by, own_places, places, places_bound}
+use Rattle.lies.specs.Places.{places_at, places_from, places_in}
 use Rattle.lies.proofs.Costs.{sum_same}
 
 -- Returns the number of loyal generals in a list, and that of the traitors.
@@ -54,7 +54,7 @@ fewer_traitors n t w j l off =
 
 -- Proves that the orders depend on the numbers of generals alone.
 places_counted : (n : ℕ) (t : ℕ → Bool) (k : ℕ) (w : List ℕ) (g : ℕ) → places_from n t k w g ≡ places k (t g) (loyals t (others n w)) (traitors t (others n w))
-unfolding (places_from, places)
+unfolding places_from places
 places_counted n t zero w g = refl
 places_counted n t (suc k) w g =
     let x : ℕ = loyals t (others n w) in
@@ -62,16 +62,16 @@ places_counted n t (suc k) w g =
     let each : sum_by (λ j. places_from n t k (w ++ j ∷ []) j) (others n w) ≡ sum_by (λ j. cond (t j) (places k true (loyals t (others n w)) (traitors t (others n w) - 1)) (places k false (loyals t (others n w) - 1) (traitors t (others n w)))) (others n w) =
     sum_same (λ j. places_from n t k (w ++ j ∷ []) j) (λ j. cond (t j) (places k true (loyals t (others n w)) (traitors t (others n w) - 1)) (places k false (loyals t (others n w) - 1) (traitors t (others n w)))) (others n w)
     (λ j i. (let at = others-on n w j i in
-        places_counted n t k (w ++ j ∷ []) j
-        ∙ ((λ d. places k (t j) (fewer_loyal n t w j at.0 at.1 d) (fewer_traitors n t w j at.0 at.1 d))
-        ∙ by_kind (t j) (loyals t (others n w)) (traitors t (others n w)))))
+    places_counted n t k (w ++ j ∷ []) j
+    ∙ ((λ d. places k (t j) (fewer_loyal n t w j at.0 at.1 d) (fewer_traitors n t w j at.0 at.1 d))
+    ∙ by_kind (t j) (loyals t (others n w)) (traitors t (others n w)))))
     in
     let all = sum_kinds t (places k false (loyals t (others n w) - 1) (traitors t (others n w))) (places k true (loyals t (others n w)) (traitors t (others n w) - 1)) (others n w) in
     ap (λ (s : ℕ). places_at n t w g + s) (each ∙ all)
   where
     by_kind : (b : Bool) (x y : ℕ) → places k b (x - cond b 0 1) (y - cond b 1 0) ≡ cond b (places k true x (y - 1)) (places k false (x - 1) y)
-    by_kind true x y = refl
-    by_kind false x y = refl
+    by_kind true x y = (let e : x - 0 ≡ x = omega arith in ap (λ (z : ℕ). places k true z (y - 1)) e)
+    by_kind false x y = (let e : y - 0 ≡ y = omega arith in ap (places k false (x - 1)) e)
 
 -- Proves that the generals are the loyal ones and the traitors.
 kinds_are_all : (t : ℕ → Bool) (js : List ℕ) → loyals t js + traitors t js ≡ length js
@@ -127,14 +127,51 @@ AreBounded n m count x = (c : ℕ) (t : ℕ → Bool) → c < n → count_by t (
 
 -- Proves that the first generals are as many as they are.
 first_many : (a n c : ℕ) → count_by (λ g. nat_lt g c) (range_with_len a n) ≡ min n (c - a)
-first_many a zero c = omega (arith, clamps)
+first_many a zero c = omega arith
 first_many a (suc n) c =
     let ih : count_by (λ g. nat_lt g c) (range_with_len (a + 1) n) ≡ min n (c - (a + 1)) = first_many (a + 1) n c in
     let s : count_by (λ g. nat_lt g c) (range_with_len a (suc n)) ≡ cond (nat_lt a c) 1 0 + count_by (λ g. nat_lt g c) (range_with_len (a + 1) n) = sum_by-cons (λ g. cond (nat_lt g c) 1 0) a (range_with_len (a + 1) n) in
     elim (cases_lt a c) [
-      | inl less ↦ (let one : cond {A = ℕ} (nat_lt a c) 1 0 ≡ 1 = ap (λ (b : Bool). cond {A = ℕ} b 1 0) (lt-ltb a c less) in omega (arith, clamps))
-      | inr more ↦ (let none : cond {A = ℕ} (nat_lt a c) 1 0 ≡ 0 = ap (λ (b : Bool). cond {A = ℕ} b 1 0) (le-ltb a c more) in omega (arith, clamps))
+      | inl less ↦ (let one : cond {A = ℕ} (nat_lt a c) 1 0 ≡ 1 = ap (λ (b : Bool). cond {A = ℕ} b 1 0) (lt-ltb a c less) in omega arith)
+      | inr more ↦ (let none : cond {A = ℕ} (nat_lt a c) 1 0 ≡ 0 = ap (λ (b : Bool). cond {A = ℕ} b 1 0) (le-ltb a c more) in omega arith)
     ]
+
+-- Proves that the orders about a label with no further generals are those about it alone.
+pub last_places : (k l t : ℕ) (s : Bool) → k ≡ 0 → own_places s l ≡ places k s l t
+unfolding places
+last_places zero l t s e = refl
+last_places (suc k) l t s e = absurd (omega arith)
+
+-- Proves the count about a label that generals extend.
+pub more_places : (k l t : ℕ) (s : Bool) → k ≢ 0 → own_places s l + (l * places (k - 1) false (l - 1) t + t * places (k - 1) true l (t - 1)) ≡ places k s l t
+unfolding places
+more_places zero l t s some = absurd (some refl)
+more_places (suc k) l t s some = (let e : suc k - 1 ≡ k = omega arith in λ i. own_places s l + (l * places (e i) false (l - 1) t + t * places (e i) true l (t - 1)))
+
+-- Proves that the bound on the orders is small, among at most 13 generals and 5 rounds.
+pub bound_small : (k : ℕ) → k ≤ 4 → places_bound k ≤ 6178315
+bound_small zero l = omega arith
+bound_small (suc zero) l = omega arith
+bound_small (suc (suc zero)) l = omega arith
+bound_small (suc (suc (suc zero))) l = omega arith
+bound_small (suc (suc (suc (suc zero)))) l = omega arith
+bound_small (suc (suc (suc (suc (suc k))))) l = absurd (omega arith)
+
+bound_more : (k : ℕ) → k ≢ 0 → places_bound k ≡ 13 + 26 * places_bound (k - 1)
+bound_more zero some = absurd (some refl)
+bound_more (suc k) some = (let e : k ≡ suc k - 1 = omega arith in λ i. 13 + 26 * places_bound (e i))
+
+-- Proves that the orders of one general are no more than the loyal generals.
+pub own_few : (x l : ℕ) (s : Bool) → x ≡ own_places s l → l ≤ 13 → x ≤ 13
+own_few x l true e few = omega arith
+own_few x l false e few = omega arith
+
+-- Proves that the orders of up to 13 generals keep to the bound.
+pub part_few : (k l x y : ℕ) → x ≡ l → l ≤ 13 → y ≤ places_bound k → x * y ≤ 13 * places_bound k
+part_few k l x y e few less = mul-le x y 13 (places_bound k) (omega arith) less
+
+pub sum_few : (k own x y : ℕ) → k ≢ 0 → own ≤ 13 → x ≤ 13 * places_bound (k - 1) → y ≤ 13 * places_bound (k - 1) → own + (x + y) ≤ places_bound k
+sum_few k own x y some one two three = (let e = bound_more k some in omega arith)
 
 -- Proves that loyal generals send no orders that count.
 no_traitors : (k l : ℕ) → places k false l 0 ≡ 0
@@ -160,7 +197,7 @@ reach_none n m most some =
 
 reach_loyal : (n m most count : ℕ) → count < n → count ≤ most → IsReached n m most (places m false (n - count - 1) count)
 reach_loyal n m most count room few =
-    let many : count_by (λ g. nat_lt g count) (generals n) ≡ count = first_many 0 n count ∙ omega (arith, clamps) in
+    let many : count_by (λ g. nat_lt g count) (generals n) ≡ count = first_many 0 n count ∙ omega arith in
     let loyal : nat_lt (n - 1) count ≡ false = le-ltb (n - 1) count (omega arith) in
     record {
       commander = n - 1;
@@ -172,7 +209,7 @@ reach_loyal n m most count room few =
 
 reach_traitor : (n m most count : ℕ) → 0 < count → count ≤ n → count ≤ most → IsReached n m most (places m true (n - count) (count - 1))
 reach_traitor n m most count some room few =
-    let many : count_by (λ g. nat_lt g count) (generals n) ≡ count = first_many 0 n count ∙ omega (arith, clamps) in
+    let many : count_by (λ g. nat_lt g count) (generals n) ≡ count = first_many 0 n count ∙ omega arith in
     let one : nat_lt 0 count ≡ true = lt-ltb 0 count some in
     record {
       commander = 0;
@@ -189,9 +226,10 @@ reach_max n m most x y one other = elim (cases_lt x y) [
 ]
   where
     the_second : x < y → y ≡ max x y
-    the_second l = omega (arith, clamps)
+    the_second l = omega arith
+
     the_first : y ≤ x → x ≡ max x y
-    the_first l = omega (arith, clamps)
+    the_first l = omega arith
 
 reach_if : (n m most x : ℕ) (b : Bool) → 0 < n → (b ≡ true → IsReached n m most x) → IsReached n m most (cond b x 0)
 reach_if n m most x true some it = it refl
@@ -232,17 +270,26 @@ by_count n m c count t inside many = elim (cases_Bool (t c)) [
       let some : nat_lt 0 count ≡ true = lt-ltb 0 count (subst (λ (x : ℕ). 0 < x) many (traitor_some n c t inside one)) in
       let is : places_in n m c t ≡ places m true (n - count) (count - 1) = campaign_places n m c t inside ∙ (λ i. places_under n m (one i) (many i)) in
       let here : cond (nat_lt 0 count) (places m true (n - count) (count - 1)) 0 ≡ places m true (n - count) (count - 1) = ap (λ (b : Bool). cond b (places m true (n - count) (count - 1)) 0) some in
-      omega (arith, clamps)
+      omega arith
   | inr loyal ↦
       let some : nat_lt count n ≡ true = lt-ltb count n (subst (λ (x : ℕ). x < n) many (loyal_room n c t inside loyal)) in
       let is : places_in n m c t ≡ places m false (n - count - 1) count = campaign_places n m c t inside ∙ (λ i. places_under n m (loyal i) (many i)) in
       let here : cond (nat_lt count n) (places m false (n - count - 1) count) 0 ≡ places m false (n - count - 1) count = ap (λ (b : Bool). cond b (places m false (n - count - 1) count) 0) some in
-      omega (arith, clamps)
+      omega arith
 ]
 
 -- Proves that the most orders so far and those of `count` traitors bound those of up to `count` traitors.
 pub bounded_more : (n m count best : ℕ) → AreBounded n m count best → AreBounded n m (count + 1) (max best (most_by n m count))
 bounded_more n m count best so_far c t inside few = elim (cases_lt (count_by t (generals n)) count) [
-  | inl before ↦ (let l = so_far c t inside before in omega (arith, clamps))
-  | inr last ↦ (let l : places_in n m c t ≤ most_by n m count = by_count n m c count t inside (omega arith) in omega (arith, clamps))
+  | inl before ↦ (let l = so_far c t inside before in omega arith)
+  | inr last ↦ (let l : places_in n m c t ≤ most_by n m count = by_count n m c count t inside (omega arith) in omega arith)
 ]
+
+-- Proves that the greater number is the maximum.
+pub max_is : (x y : ℕ) → ord_max nat_cmp x y ≡ max x y
+max_is x y = pick (nat_lt y x) (y == x) refl
+  where
+    pick : (d e : Bool) → nat_lt y x ≡ d → cond (is_lt (cond d Less (cond e Equal Greater))) x y ≡ max x y
+    pick true e h = (let l = ltb-true y x h in omega arith)
+    pick false true h = (let l = ltb-false y x h in omega arith)
+    pick false false h = (let l = ltb-false y x h in omega arith)

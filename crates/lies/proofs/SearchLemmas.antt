@@ -98,7 +98,7 @@ NoneAsked f n m given count = (c : ℕ) → IsAsked n given c → NoneAt f n m c
 -- Proves that the rule tolerates the traitors under all commanders asked about, if no number of them up to the limit
 -- succeeds. A given commander is one of the generals.
 pub asked_tolerated : (rule : Rule) (n m : ℕ) (given : Option ℕ) (most : ℕ) → first_asked given < n → ((k : ℕ) → k ≤ most → NoneAsked (combined_by rule) n m given k) → ToleratesAsked (combined_by rule) n m most given
-asked_tolerated rule n m None most inside none c order t M l few faithful =
+asked_tolerated rule n m None most inside none = λ c order t M l few faithful.
     all_tolerated rule n m c most l (λ k le. none k le c (record { general = l; asked = refl })) order t M few faithful
 asked_tolerated rule n m (Some c) most inside none =
     all_tolerated rule n m c most inside (λ k le. none k le c (record { general = inside; asked = eq-eqb c c refl }))

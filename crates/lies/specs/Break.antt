@@ -1,13 +1,10 @@
 -- How traitors break OM(m), whatever they say: campaigns in which the decisions break IC1 or IC2, and the shortest of them
 -- (TOPLAS 1982, IC1 and IC2).
-use Rattle.std.specs.Prelude.{ℕ, zero, suc, ◌+◌, ◌<◌, ◌≤◌, ◌≡◌, ◌==◌, ◌&&◌, ◌⊎◌, not, Bool, false, if◌then◌else◌, List, [], ◌∷◌, ◌++◌, count_by, sum_by, Ok}
+use Rattle.std.specs.Prelude.{ℕ, zero, suc, ◌+◌, ◌<◌, ◌≤◌, ◌≡◌, ◌==◌, ◌&&◌, ◌⊎◌, not, Bool, false, if◌then◌else◌, List, [], ◌∷◌, ◌++◌, count_by, sum_by}
 use Rattle.combine.specs.declared.campaign_rule.Rule.{Rule}
-use Rattle.combine.specs.Rule.{combined_by}
-use Rattle.label.specs.Labels.{on, generals, others}
+use Rattle.label.specs.Labels.{generals, others}
 use Rattle.label.specs.Oral.{Messages, taken, om, IsFaithful, Agree}
-use Rattle.book.specs.Decisions.{decision_of}
-use Rattle.book.specs.Grammar.{table_told}
-use Rattle.book.specs.Table.{MessageTable, told}
+use Rattle.book.specs.Table.{MessageTable}
 
 -- States that OM(m) with the rule f, under the commander c, tolerates k traitors among n generals: the loyal
 -- lieutenants agree if at most k generals are traitors and all others are faithful, whatever the traitors send or leave

@@ -1,13 +1,18 @@
 -- How many orders traitors send to loyal generals, from the numbers of generals alone.
 use Rattle.std.specs.Prelude.{ℕ, zero, suc, ◌+◌, ◌-◌, ◌*◌, max, nat_lt, Bool, if◌then◌else◌, true, false}
 
+-- Returns how many orders the last general of a label sends to loyal generals, if he is a traitor. l loyal generals are
+-- off the label.
+abbrev pub own_places : Bool → ℕ → ℕ
+own_places is_traitor l = if is_traitor then l else 0
+
 -- Returns how many orders traitors send to loyal generals about a label and those that begin with it and have up to k
 -- generals more. `is_traitor` is whether the last general of the label is one. l loyal generals and t traitors are off
 -- the label.
 unfoldable pub places : ℕ → Bool → ℕ → ℕ → ℕ
-places zero is_traitor l t = if is_traitor then l else 0
+places zero is_traitor l t = own_places is_traitor l
 places (suc k) is_traitor l t =
-    (if is_traitor then l else 0) + (l * places k false (l - 1) t + t * places k true l (t - 1))
+    own_places is_traitor l + (l * places k false (l - 1) t + t * places k true l (t - 1))
 
 -- Returns an upper bound on these orders among at most 13 generals.
 abbrev pub places_bound : ℕ → ℕ

@@ -2,7 +2,7 @@
 ghost use Rattle.std.specs.Prelude.{◌≡◌, ◌≤◌, ◌<◌, true, false};
 ghost use Rattle.book.specs.Grammar.{is_within};
 ghost use Rattle.lies.specs.Places.{AreMostPlaces};
-ghost use Rattle.lies.specs.PlaceCounts.{most_by, places, places_bound};
+ghost use Rattle.lies.specs.PlaceCounts.{most_by, own_places, places, places_bound};
 
 use crate::break_table::is_within;
 
@@ -55,11 +55,18 @@ fn places(relays: u8, is_traitor: bool, loyals: u8, traitors: u8) -> u32
     ensures value { result ≡ places relays is_traitor loyals traitors }
     ensures few { result ≤ places_bound relays }
 {
-    let own = if is_traitor { u32::from(loyals) } else { 0 };
+    let own = own_places(is_traitor, loyals);
     if relays == 0 {
         return own;
     }
     let loyal = places(relays - 1, false, loyals.saturating_sub(1), traitors);
     let traitor = places(relays - 1, true, loyals, traitors.saturating_sub(1));
     own + (u32::from(loyals) * loyal + u32::from(traitors) * traitor)
+}
+
+/// Returns how many orders the last general of a label sends to loyal generals, if he is a traitor.
+fn own_places(is_traitor: bool, loyals: u8) -> u32
+    ensures { result ≡ own_places is_traitor loyals }
+{
+    if is_traitor { u32::from(loyals) } else { 0 }
 }

@@ -92,8 +92,12 @@ fn plan_steps(votes: u64, relays: u8, is_traitor: bool, loyals: u8, traitors: u8
     let taken = orders_taken(is_traitor);
     let loyal = plan_steps(votes, relays - 1, false, loyals.saturating_sub(1), traitors);
     let traitor = plan_steps(votes, relays - 1, true, loyals, traitors.saturating_sub(1));
-    let below_loyal = u64::from(loyals).saturating_mul(taken.saturating_mul(votes)).saturating_mul(loyal);
-    let below_traitor = u64::from(traitors).saturating_mul(votes).saturating_mul(traitor);
+    let below_loyal = u64::from(loyals)
+        .saturating_mul(taken.saturating_mul(votes))
+        .saturating_mul(loyal);
+    let below_traitor = u64::from(traitors)
+        .saturating_mul(votes)
+        .saturating_mul(traitor);
     let selections = taken
         .saturating_pow(u32::from(loyals))
         .saturating_mul(votes.saturating_pow(u32::from(traitors)));

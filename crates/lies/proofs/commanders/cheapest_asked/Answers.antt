@@ -1,5 +1,5 @@
-use Rattle.std.proofs.Common.{ℕ, ◌≡◌, ◌<◌, Bool, true, List, sym, ap, subst, ◌∙◌, arith, inl, inr, Option}
-use Rattle.std.specs.Prelude.{IfSome, count_by, filter}
+use Rattle.std.proofs.Common.{ℕ, ◌≡◌, ◌<◌, List, sym, ap, subst, ◌∙◌, arith, inl, inr, Option}
+use Rattle.std.specs.Prelude.{IfSome, filter}
 use Rattle.std.proofs.lemmas.Bool.{cases_lt, false≢true}
 use Rattle.label.specs.Labels.{generals}
 use Rattle.lies.specs.Asked.{IsAsked, is_asked}
