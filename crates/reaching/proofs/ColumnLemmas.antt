@@ -24,7 +24,8 @@ use Rattle.reaching.specs.Contents.{held_at, same_content}
 use Rattle.reaching.specs.declared.changes.Column.{Column}
 use Rattle.reaching.specs.Left.{left}
 use Rattle.reaching.specs.Marks.{KnownByUnit, known_by}
-use Rattle.reaching.specs.Columns.{set_by, of_units, setting, stack_behind, stacks_behind, stack_at, changed_in, flag_at, IsColumn}
+use Rattle.reaching.specs.Setting.{set_by}
+use Rattle.reaching.specs.Columns.{of_units, stack_behind, stacks_behind, stack_at, changed_in, IsColumn}
 
 pub of_units_length : {X : Type 0} (tells : ℕ → X) (n : ℕ) → length (of_units tells n) ≡ n
 of_units_length tells zero = refl
@@ -90,11 +91,6 @@ sets_so program survey stacks cell unit units known behind flag lt all here left
     let there : slice_get stacks unit ≡ Some (stack_behind (instruction_at program unit) (known_by (survey unit))) =
     ap (λ (s : List (Option Known)). slice_get s unit) all ∙ of_units_at (λ n. stack_behind (instruction_at program n) (known_by (survey n))) units unit lt in
     so ∙ ((λ k. changed_in cell (here k) ((left ∙ ap stack_at there) k)) ∙ changed_so cell (instruction_at program unit) (known_by (survey unit)))
-
-pub flag_so : (program : List Insn) (survey : KnownByUnit) (items : List Bool) (cell unit units : ℕ) (flag : Bool) →
-    unit < units → items ≡ setting program survey (Cell cell) units → flag ≡ flag_at (slice_get items unit) → flag ≡ set_by (Cell cell) (instruction_at program unit) (known_by (survey unit))
-flag_so program survey items cell unit units flag lt all so =
-    so ∙ ap flag_at (ap (λ (s : List Bool). slice_get s unit) all ∙ of_units_at (λ n. set_by (Cell cell) (instruction_at program n) (known_by (survey n))) units unit lt)
 
 -- With one more column, each column is still that of its cell.
 pub columns_more : (program : List Insn) (survey : KnownByUnit) (columns : List Column) (column : Column) (n : ℕ) → length columns ≡ n →

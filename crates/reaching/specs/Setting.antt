@@ -23,3 +23,9 @@ writes i r = is_result r (result_of i)
 abbrev pub sets : Subject → Insn → AbsState → Bool
 sets (Register r) i a = writes i r
 sets (Cell place) i a = not (same_content (held_at a.stack place) (held_at (left i a).stack place))
+
+-- Checks whether the instruction at a unit sets the register or cell. It does not if there is no instruction, or if no
+-- path leads there.
+abbrev pub set_by : Subject → Option Insn → Option AbsState → Bool
+set_by subject (Some i) (Some a) = sets subject i a
+set_by subject i known = false
