@@ -6,7 +6,7 @@ ghost use Rattle.explain.specs.Here.{Stands, known_of, held_here, same_held};
 use absmem::AbsStack;
 use asm::{put, put_unsigned};
 use insn::Program;
-use reaching::{CellContent, Column, Setters, held_at};
+use reaching::{CellContent, Column, Setters, held_at, last_setters};
 use std::alloc::AllocError;
 use verify::AbsState;
 
@@ -49,11 +49,13 @@ fn sources(here: &Here<'_>, cell: usize) -> Setters
     requires inside { cell < 512 }
     ensures { result ≡ sources here.now.surveyed.program.now (known_of here.now.surveyed) here.now.unit cell }
 {
-    let column = &here.surveyed.columns[cell];
-    match column.setters.get(here.unit) {
-        Some(setters) => *setters,
-        None => Setters::Nowhere,
-    }
+    let Surveyed {
+        program,
+        states,
+        columns,
+    } = here.surveyed;
+    let column = &columns[cell];
+    last_setters(program, states, column, cell as u16, here.unit)
 }
 
 /// Returns what a stack cell holds at the unit `here`, and the units that set it last.

@@ -22,10 +22,12 @@ use Rattle.reaching.specs.declared.cells.CellContent.TheVariants.{Unset, Byte, P
 use Rattle.reaching.specs.declared.subject.Subject.TheVariants.{Cell}
 use Rattle.reaching.specs.Contents.{held_at, same_content}
 use Rattle.reaching.specs.declared.changes.Column.{Column}
+use Rattle.reaching.specs.declared.ways.Way.{Way}
 use Rattle.reaching.specs.Left.{left}
 use Rattle.reaching.specs.Marks.{KnownByUnit, known_by}
-use Rattle.reaching.specs.Setting.{set_by}
-use Rattle.reaching.specs.Columns.{of_units, stack_behind, stacks_behind, stack_at, changed_in, IsColumn}
+use Rattle.reaching.specs.Setting.{set_by, of_units}
+use Rattle.reaching.specs.Setters.{way_from, ways_from, way_at}
+use Rattle.reaching.specs.Columns.{stack_behind, stacks_behind, stack_at, changed_in, IsColumn}
 
 pub of_units_length : {X : Type 0} (tells : ℕ → X) (n : ℕ) → length (of_units tells n) ≡ n
 of_units_length tells zero = refl
@@ -91,6 +93,11 @@ sets_so program survey stacks cell unit units known behind flag lt all here left
     let there : slice_get stacks unit ≡ Some (stack_behind (instruction_at program unit) (known_by (survey unit))) =
     ap (λ (s : List (Option Known)). slice_get s unit) all ∙ of_units_at (λ n. stack_behind (instruction_at program n) (known_by (survey n))) units unit lt in
     so ∙ ((λ k. changed_in cell (here k) ((left ∙ ap stack_at there) k)) ∙ changed_so cell (instruction_at program unit) (known_by (survey unit)))
+
+pub way_so : (program : List Insn) (survey : KnownByUnit) (ways : List Way) (unit units : ℕ) (way : Way) →
+    unit < units → ways ≡ ways_from program survey units → way ≡ way_at (slice_get ways unit) → way ≡ way_from unit (instruction_at program unit) (known_by (survey unit))
+way_so program survey ways unit units way lt all so =
+    so ∙ ap way_at (ap (λ (s : List Way). slice_get s unit) all ∙ of_units_at (λ n. way_from n (instruction_at program n) (known_by (survey n))) units unit lt)
 
 -- With one more column, each column is still that of its cell.
 pub columns_more : (program : List Insn) (survey : KnownByUnit) (columns : List Column) (column : Column) (n : ℕ) → length columns ≡ n →

@@ -11,13 +11,9 @@ use Rattle.reaching.specs.declared.subject.Subject.{Subject}
 use Rattle.reaching.specs.declared.subject.Subject.TheVariants.{Cell}
 use Rattle.reaching.specs.Contents.{held_at, same_content}
 use Rattle.reaching.specs.Left.{left}
+use Rattle.reaching.specs.Setting.{of_units}
 use Rattle.reaching.specs.Setters.{setters}
 use Rattle.reaching.specs.Marks.{KnownByUnit, known_by}
-
--- Returns a list with an entry for each of the first `n` units. `tells` gives the entry of a unit.
-abbrev pub of_units : {X : Type 0} → (ℕ → X) → ℕ → List X
-of_units tells zero = []
-of_units tells (suc n) = of_units tells n ++ tells n ∷ []
 
 -- Returns the abstract stack after a store or a call. Returns `None` for any other instruction, and if no path leads to
 -- it.

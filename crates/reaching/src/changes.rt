@@ -1,17 +1,18 @@
 //! Finds for each cell of the stack which units of a program set it last on the paths to each unit.
-ghost use Rattle.std.specs.Prelude.{◌≡◌, ◌<◌, length, replicate, slice_get, option_map, IfOk};
+ghost use Rattle.std.specs.Prelude.{◌≡◌, ◌<◌, length, slice_get, option_map, IfOk};
 ghost use Rattle.insn.specs.Program.{slots_of, instruction_at};
 ghost use Rattle.reaching.specs.declared.subject.Subject.TheVariants.{Cell};
 ghost use Rattle.reaching.specs.Marks.{known_by};
 ghost use Rattle.reaching.specs.Setting.{set_by};
-ghost use Rattle.reaching.specs.Setters.{setters_at, setters_behind, passed_on, setters};
-ghost use Rattle.reaching.specs.Columns.{stack_behind, stacks_behind, stack_at, changed_in, AreColumns};
+ghost use Rattle.reaching.specs.Setters.{ways_from, setters, setters_at};
+ghost use Rattle.reaching.specs.Columns.{stack_behind, stacks_behind, stack_at, changed_in, IsColumn, AreColumns};
 
 use crate::cells::held_at;
+use crate::flow::{nowhere, pass_on, setters_at, way_at, ways_from};
 use crate::setters::Setters;
 use crate::transfer::left_by;
 use crate::unit_marks::known_by;
-use crate::ways::lead_on;
+use crate::ways::Way;
 use absmem::AbsStack;
 use insn::{Insn, Program};
 use std::alloc::{AllocError, Global};
@@ -22,37 +23,6 @@ use verify::AbsState;
 #[derive(Drop)]
 pub struct Column {
     pub setters: Vec<Setters>,
-}
-
-/// Returns a list with an entry for each of the given number of units. No unit has setters. Fails if memory runs out.
-#[inline(never)]
-fn nowhere(alloc: Global, units: usize) -> Result<Vec<Setters>, AllocError>
-    ensures { IfOk result (λ setters. setters.items ≡ replicate units Setters.Nowhere) }
-{
-    vec![in alloc; Setters::Nowhere; units]
-}
-
-/// Returns the setters of a unit from a list. There are none if it has no such unit.
-fn setters_at(into: &[Setters], unit: usize) -> Setters
-    ensures { result ≡ setters_at (slice_get into.now unit) }
-{
-    match into.get(unit) {
-        Some(found) => *found,
-        None => Setters::Nowhere,
-    }
-}
-
-/// Returns the setters after the instruction at a unit, from those before it. If it sets the cell, which `changed`
-/// says, this is only the unit itself.
-fn setters_behind(changed: bool, unit: usize, before: Setters) -> Setters
-    requires { unit < 4096 }
-    ensures { result ≡ setters_behind changed unit before }
-{
-    if changed {
-        Setters::Units(unit as u16, unit as u16, false)
-    } else {
-        before
-    }
 }
 
 /// Returns the abstract stack after a store or a call. Returns `None` for any other instruction, and if `state` is
@@ -127,46 +97,42 @@ fn sets_cell(
     changed_in(cell, known_by(states, unit), stack_at(stacks, unit))
 }
 
-/// Passes the setters of a unit, which are the units that set a cell last on the paths to it, on to the units to which
-/// its instruction leads. If this instruction sets the cell, which `changed` says, passes on only the unit itself.
-fn pass_on(
-    into: &mut Vec<Setters>,
-    program: &Program,
-    states: &[Option<AbsState>],
-    unit: usize,
-    changed: bool,
-)
-    ensures { into.new.items ≡ passed_on into.old.items unit (instruction_at program.now unit)
-        (known_by (slice_get states.now unit)) changed }
-{
-    let Some(insn) = program.at(unit) else {
-        return;
-    };
-    if known_by(states, unit).is_none() {
-        return;
-    }
-    let before = setters_at(into.as_slice(), unit);
-    lead_on(into, &insn, unit, setters_behind(changed, unit, before));
-}
-
 /// Returns for each unit which units set a cell last on the paths to it. `stacks` has an entry for each unit: the
-/// abstract stack after its instruction. Fails if memory runs out.
+/// abstract stack after its instruction. `ways` has the way from each unit. Fails if memory runs out.
 fn setters_of(
     alloc: Global,
     program: &Program,
     states: &[Option<AbsState>],
     stacks: &[Option<AbsStack>],
+    ways: &[Way],
     cell: u16,
 ) -> Result<Vec<Setters>, AllocError>
-    requires { stacks.now ≡ stacks_behind program.now (slice_get states.now) (length (slots_of program.now)) }
+    requires stacks { stacks.now ≡ stacks_behind program.now (slice_get states.now) (length (slots_of program.now)) }
+    requires ways { ways.now ≡ ways_from program.now (slice_get states.now) (length (slots_of program.now)) }
     ensures { IfOk result (λ vec. vec.items ≡ setters program.now (slice_get states.now) (Cell cell)) }
 {
     let mut into = nowhere(alloc, program.units())?;
     for unit in 0..program.units() {
+        let way = way_at(program, states, ways, unit);
         let changed = sets_cell(program, states, stacks, cell, unit);
-        pass_on(&mut into, program, states, unit, changed);
+        pass_on(&mut into, unit, way, changed);
     }
     Ok(into)
+}
+
+/// Returns the units that set a cell last on the paths to a unit, from the column of this cell. Returns `Nowhere` if the
+/// program has no such unit. `states` has what is known before each unit.
+pub fn last_setters(
+    program: &Program,
+    states: &[Option<AbsState>],
+    column: &Column,
+    cell: u16,
+    unit: usize,
+) -> Setters
+    requires { IsColumn program.now (slice_get states.now) cell column.now }
+    ensures { result ≡ setters_at (slice_get (setters program.now (slice_get states.now) (Cell cell)) unit) }
+{
+    setters_at(column.setters.as_slice(), unit)
 }
 
 /// Returns a column for each of the 512 cells of the stack, from the lowest on. It has for each unit of the program the
@@ -180,9 +146,11 @@ pub fn columns(
     ensures { IfOk result (λ vec. AreColumns program.now (slice_get states.now) vec.items) }
 {
     let stacks = stacks_behind(alloc, program, states)?;
+    let ways = ways_from(alloc, program, states)?;
     let mut columns = Vec::new(alloc);
     for cell in 0..512 {
-        let setters = setters_of(alloc, program, states, stacks.as_slice(), cell)?;
+        let (behind, onward) = (stacks.as_slice(), ways.as_slice());
+        let setters = setters_of(alloc, program, states, behind, onward, cell)?;
         columns.push(Column { setters })?;
     }
     Ok(columns)

@@ -5,6 +5,7 @@
 mod cells;
 mod changes;
 mod edits;
+mod flow;
 mod laws;
 mod loads;
 mod mark;
@@ -17,7 +18,7 @@ mod unit_marks;
 mod ways;
 
 pub use cells::{CellContent, held_at};
-pub use changes::{Column, columns};
+pub use changes::{Column, columns, last_setters};
 pub use edits::{Edit, Trial, operation_of, tried};
 pub use laws::left_is_the_transfer;
 pub use mark::UnitMark;

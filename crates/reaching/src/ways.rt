@@ -1,11 +1,10 @@
-//! Finds the units to which an instruction may lead, whether one of them has the mark `Open`, and passes setters on.
-ghost use Rattle.std.specs.Prelude.{◌≡◌, ◌≢◌, ◌<◌, ◌+◌, ◌+ℤ◌, pos, ℕ, IfSome, IfNone, slice_get};
+//! Finds the units to which an instruction may lead, and whether one of them has the mark `Open`.
+ghost use Rattle.std.specs.Prelude.{◌≡◌, ◌≢◌, ◌<◌, ◌+◌, ◌+ℤ◌, ◌∷◌, [], pos, ℕ, IfSome, IfNone, slice_get};
 ghost use Rattle.semantics.specs.Plain.{leads_to};
 ghost use Rattle.reaching.specs.Marks.{is_open, open_at, leads_open};
-ghost use Rattle.reaching.specs.Setters.{led, led_to};
+ghost use Rattle.reaching.specs.Setters.{way_to};
 
 use crate::mark::UnitMark;
-use crate::setters::Setters;
 use insn::Insn;
 
 /// Checks whether a unit has the mark `Open`. Returns `false` if there is no such unit.
@@ -61,40 +60,50 @@ pub(crate) fn leads_open(marks: &[UnitMark], insn: &Insn, unit: usize) -> bool
     }
 }
 
-/// Records that a path with these setters leads to a unit. Changes nothing if there is no such unit.
-fn lead(into: &mut Vec<Setters>, unit: usize, more: Setters)
-    ensures { into.new.items ≡ led into.old.items (pos unit) more }
+/// The units to which an instruction may lead.
+#[derive(Clone, Copy)]
+pub(crate) enum Way {
+    /// It leads to no unit.
+    End,
+    /// It leads to this unit.
+    One(usize),
+    /// It leads to the next unit and to the target of a jump.
+    Two(usize, usize),
+}
+
+/// Returns the way along a jump at `unit` with this distance. It ends there if the target is negative.
+fn jump_way(unit: usize, distance: i32) -> Way
+    requires { unit < 4096 }
+    ensures { result ≡ way_to ((pos (unit + 1) +ℤ distance) ∷ []) }
 {
-    if unit < into.len() {
-        into[unit] = into[unit].joined(more);
+    match target(unit, distance) {
+        Some(to) => Way::One(to),
+        None => Way::End,
     }
 }
 
-/// Records that a path with these setters leads along a jump at `unit` with this distance. Changes nothing if there is
-/// no such unit.
-fn lead_along(into: &mut Vec<Setters>, unit: usize, distance: i32, more: Setters)
+/// Returns the ways from a branch at `unit` with this distance. Only one is left if the target is negative.
+fn branch_ways(unit: usize, distance: i32) -> Way
     requires { unit < 4096 }
-    ensures { into.new.items ≡ led into.old.items (pos (unit + 1) +ℤ distance) more }
+    ensures { result ≡ way_to (pos (unit + 1) ∷ (pos (unit + 1) +ℤ distance) ∷ []) }
 {
-    if let Some(to) = target(unit, distance) {
-        lead(into, to, more);
+    match target(unit, distance) {
+        Some(to) => Way::Two(unit + 1, to),
+        None => Way::One(unit + 1),
     }
 }
 
-/// Records that paths with these setters lead to the units to which the instruction at `unit` may lead: the next one,
-/// or the target of a jump.
-pub(crate) fn lead_on(into: &mut Vec<Setters>, insn: &Insn, unit: usize, more: Setters)
+/// Returns the units to which the instruction at `unit` may lead: the next one, or the target of a jump. A target that
+/// is negative is left out.
+pub(crate) fn way_of(insn: &Insn, unit: usize) -> Way
     requires { unit < 4096 }
-    ensures { into.new.items ≡ led_to into.old.items (leads_to insn.now unit) more }
+    ensures { result ≡ way_to (leads_to insn.now unit) }
 {
     match insn {
-        Insn::Jump { distance } => lead_along(into, unit, i32::from(*distance), more),
-        Insn::LongJump { distance } => lead_along(into, unit, *distance, more),
-        Insn::Branch { distance, .. } => {
-            lead(into, unit + 1, more);
-            lead_along(into, unit, i32::from(*distance), more)
-        }
-        Insn::Exit => (),
-        _ => lead(into, unit + insn.units() as usize, more),
+        Insn::Jump { distance } => jump_way(unit, i32::from(*distance)),
+        Insn::LongJump { distance } => jump_way(unit, *distance),
+        Insn::Branch { distance, .. } => branch_ways(unit, i32::from(*distance)),
+        Insn::Exit => Way::End,
+        _ => Way::One(unit + insn.units() as usize),
     }
 }
