@@ -1,13 +1,12 @@
 -- Defines for each cell, which is one of the 512 bytes of the stack, which units of a program set it last on the paths
 -- to each unit (own).
-use Rattle.std.specs.Prelude.{ℕ, zero, suc, ◌≡◌, not, Bool, false, List, [], ◌∷◌, ◌++◌, Option, Some, None, length, slice_get}
+use Rattle.std.specs.Prelude.{ℕ, ◌≡◌, not, Bool, false, List, Option, Some, None, length, slice_get}
 use Rattle.insn.specs.declared.insn.Insn.{Insn}
 use Rattle.insn.specs.declared.insn.Insn.TheVariants.{Store, Call}
-use Rattle.insn.specs.Program.{slots_of, instruction_at}
+use Rattle.insn.specs.Program.{instruction_at}
 use Rattle.absmem.specs.Known.{Known}
 use Rattle.verify.specs.declared.state.AbsState.{AbsState}
 use Rattle.reaching.specs.declared.changes.Column.{Column}
-use Rattle.reaching.specs.declared.subject.Subject.{Subject}
 use Rattle.reaching.specs.declared.subject.Subject.TheVariants.{Cell}
 use Rattle.reaching.specs.Contents.{held_at, same_content}
 use Rattle.reaching.specs.Left.{left}

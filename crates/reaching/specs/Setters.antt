@@ -1,6 +1,6 @@
 -- Defines which units set a cell of the stack last on the paths to a unit: the first and the last of them, and whether
 -- there are others (own; the reaching definitions of a compiler).
-use Rattle.std.specs.Prelude.{ℕ, ℤ, zero, suc, pos, negsuc, min, max, ◌==◌, ◌&&◌, ◌||◌, not, nat_lt, Bool, true, false, if◌then◌else◌, List, [], ◌∷◌, Option, Some, None, length, replicate, slice_get, slice_set}
+use Rattle.std.specs.Prelude.{ℕ, ℤ, zero, suc, pos, negsuc, min, max, ◌==◌, ◌&&◌, ◌||◌, not, nat_lt, Bool, true, false, List, [], ◌∷◌, Option, Some, None, length, replicate, slice_get, slice_set}
 use Rattle.insn.specs.declared.insn.Insn.{Insn}
 use Rattle.insn.specs.Program.{slots_of, instruction_at}
 use Rattle.semantics.specs.Plain.{leads_to}
