@@ -168,6 +168,8 @@ void byzlab_unload(struct byzlab_program *loaded);
  * Returns the same as byzlab_verify, 0 to 3. At 0 and 2 it writes what the verifier knows at each unit about the
  * registers that are read, and at 2 why it rejects the program: at most `room` bytes into text, and the length of the
  * whole text into needed. Each line begins with a line feed, and there is no terminating 0. At 1 and 3 it writes neither.
+ * For each access at most eight groups of stack cells are named, so time and length grow linearly with the program. A call
+ * that asks for the length takes as long as one that writes.
  *
  * NULL: text, if room is 0. The call then asks for the length. And the program, if length is 0. The status is then 1, and
  * the number BYZLAB_C8_COUNT.

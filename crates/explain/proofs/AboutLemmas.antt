@@ -1,6 +1,6 @@
 -- What is written about a rejection, in its parts.
-use Rattle.std.proofs.Common.{◌≡◌, ◌∙◌, ℕ, suc, ◌+◌, List, ◌++◌, Bool, true, false, Option, Some, Result, Ok, Err, ap, append_assoc, arith, length, subst, sym}
-use Rattle.std.specs.Prelude.{OnOk, if◌then◌else◌}
+use Rattle.std.proofs.Common.{◌≡◌, ◌∙◌, ℕ, suc, ◌+◌, ◌-◌, List, ◌++◌, Bool, true, false, Option, Some, Result, Ok, Err, ap, append_assoc, arith, length, subst, sym}
+use Rattle.std.specs.Prelude.{OnOk, ◌==◌, if◌then◌else◌}
 use Rattle.insn.specs.declared.insn.Insn.{Insn}
 use Rattle.insn.specs.Program.{slots_of, instruction_at}
 use Rattle.verify.specs.declared.error.VerifyError.{VerifyError}
@@ -13,7 +13,7 @@ use Rattle.reaching.specs.Marks.{KnownByUnit, known_by, marks}
 use Rattle.explain.specs.declared.sentence.Sentence.{Sentence}
 use Rattle.explain.specs.declared.edit_choices.Choice.{Choice}
 use Rattle.explain.specs.Sources.{Holding, same_holding}
-use Rattle.explain.specs.Cells.{ended_text, runs_text}
+use Rattle.explain.specs.Cells.{sourced_text, ended_text, left_text, runs_text}
 use Rattle.explain.specs.Notes.{subject_of, notes_on, number_notes}
 use Rattle.explain.specs.Origins.{other_number}
 use Rattle.explain.specs.Helps.{wanted, help_on}
@@ -27,29 +27,45 @@ on_ok (Err e) P Q f h = tt
 
 -- ---- cells before one with another content
 
-pub runs_apart : (out middle last : List ℕ) (holds : ℕ → Holding) (first : ℕ) (held next : Holding) (place more less : ℕ) → more ≡ suc less → next ≡ holds place → same_holding held next ≡ false →
-    middle ≡ out ++ ended_text first place held → last ≡ middle ++ runs_text holds place next (place + 1) less → last ≡ out ++ runs_text holds first held place more
-runs_apart out middle last holds first held next place more less e here apart before rest =
-    let one : place + 1 ≡ suc place = omega arith in
-    let ended : List ℕ = ended_text first place held in
-    let others : List ℕ = runs_text holds place (holds place) (suc place) less in
-    let other : same_holding held (holds place) ≡ false = ap (same_holding held) (sym here) ∙ apart in
-    let parts : last ≡ out ++ (ended ++ others) =
-    rest ∙ (ap (λ (l : List ℕ). l ++ runs_text holds place next (place + 1) less) before
-    ∙ (append_assoc out ended (runs_text holds place next (place + 1) less) ∙ λ k. out ++ (ended ++ runs_text holds place (here k) (one k) less))) in
-    subst (λ (n : ℕ). last ≡ out ++ runs_text holds first held place n) (sym e)
-    (parts ∙ ap (λ (t : Bool). out ++ (if t then runs_text holds first held (suc place) less else (ended ++ others))) (sym other))
+abbrev pub apart_text : (ℕ → Holding) → ℕ → ℕ → Holding → ℕ → ℕ → Bool → List ℕ
+apart_text holds most first held place n none =
+    if none then sourced_text first place held ++ left_text (suc n)
+    else ended_text first place held ++ runs_text holds (most - 1) place (holds place) (suc place) n
 
-pub runs_alike : (out last : List ℕ) (holds : ℕ → Holding) (first : ℕ) (held next : Holding) (place more less : ℕ) → more ≡ suc less → next ≡ holds place → same_holding held next ≡ true →
-    last ≡ out ++ runs_text holds first held (place + 1) less → last ≡ out ++ runs_text holds first held place more
-runs_alike out last holds first held next place more less e here alike rest =
+pub runs_apart : (out middle last : List ℕ) (holds : ℕ → Holding) (most first : ℕ) (held next : Holding) (place more less : ℕ) → more ≡ suc less → (most == 0) ≡ false → next ≡ holds place → same_holding held next ≡ false →
+    middle ≡ out ++ ended_text first place held → last ≡ middle ++ runs_text holds (most - 1) place next (place + 1) less → last ≡ out ++ runs_text holds most first held place more
+runs_apart out middle last holds most first held next place more less e some here apart before rest =
     let one : place + 1 ≡ suc place = omega arith in
     let ended : List ℕ = ended_text first place held in
-    let others : List ℕ = runs_text holds place (holds place) (suc place) less in
+    let other : same_holding held (holds place) ≡ false = ap (same_holding held) (sym here) ∙ apart in
+    let parts : last ≡ out ++ apart_text holds most first held place less false =
+    rest ∙ (ap (λ (l : List ℕ). l ++ runs_text holds (most - 1) place next (place + 1) less) before
+    ∙ (append_assoc out ended (runs_text holds (most - 1) place next (place + 1) less) ∙ λ k. out ++ (ended ++ runs_text holds (most - 1) place (here k) (one k) less))) in
+    let chosen : last ≡ out ++ apart_text holds most first held place less (most == 0) =
+    parts ∙ ap (λ (t : Bool). out ++ apart_text holds most first held place less t) (sym some) in
+    subst (λ (n : ℕ). last ≡ out ++ runs_text holds most first held place n) (sym e)
+    (chosen ∙ ap (λ (t : Bool). out ++ (if t then runs_text holds most first held (suc place) less else apart_text holds most first held place less (most == 0))) (sym other))
+
+pub runs_left : (out middle last : List ℕ) (holds : ℕ → Holding) (most first : ℕ) (held next : Holding) (place more less : ℕ) → more ≡ suc less → (most == 0) ≡ true → next ≡ holds place → same_holding held next ≡ false →
+    middle ≡ out ++ sourced_text first place held → last ≡ middle ++ left_text more → last ≡ out ++ runs_text holds most first held place more
+runs_left out middle last holds most first held next place more less e none here apart before rest =
+    let other : same_holding held (holds place) ≡ false = ap (same_holding held) (sym here) ∙ apart in
+    let parts : last ≡ out ++ apart_text holds most first held place less true =
+    rest ∙ (ap (λ (l : List ℕ). l ++ left_text more) before
+    ∙ (append_assoc out (sourced_text first place held) (left_text more) ∙ λ k. out ++ (sourced_text first place held ++ left_text (e k)))) in
+    let chosen : last ≡ out ++ apart_text holds most first held place less (most == 0) =
+    parts ∙ ap (λ (t : Bool). out ++ apart_text holds most first held place less t) (sym none) in
+    subst (λ (n : ℕ). last ≡ out ++ runs_text holds most first held place n) (sym e)
+    (chosen ∙ ap (λ (t : Bool). out ++ (if t then runs_text holds most first held (suc place) less else apart_text holds most first held place less (most == 0))) (sym other))
+
+pub runs_alike : (out last : List ℕ) (holds : ℕ → Holding) (most first : ℕ) (held next : Holding) (place more less : ℕ) → more ≡ suc less → next ≡ holds place → same_holding held next ≡ true →
+    last ≡ out ++ runs_text holds most first held (place + 1) less → last ≡ out ++ runs_text holds most first held place more
+runs_alike out last holds most first held next place more less e here alike rest =
+    let one : place + 1 ≡ suc place = omega arith in
     let same : same_holding held (holds place) ≡ true = ap (same_holding held) (sym here) ∙ alike in
-    subst (λ (n : ℕ). last ≡ out ++ runs_text holds first held place n) (sym e)
-    (rest ∙ (ap (λ (n : ℕ). out ++ runs_text holds first held n less) one
-    ∙ ap (λ (t : Bool). out ++ (if t then runs_text holds first held (suc place) less else (ended ++ others))) (sym same)))
+    subst (λ (n : ℕ). last ≡ out ++ runs_text holds most first held place n) (sym e)
+    (rest ∙ (ap (λ (n : ℕ). out ++ runs_text holds most first held n less) one
+    ∙ ap (λ (t : Bool). out ++ (if t then runs_text holds most first held (suc place) less else apart_text holds most first held place less (most == 0))) (sym same)))
 
 -- ---- notes and a help
 

@@ -1,6 +1,6 @@
 -- The text of what is known of stack cells, such as `[-8..-5] bytes (from 3)`. Each group of adjacent cells with the
 -- same content, set by the same units, has the offsets of its first and last cell, the content, and these units (own).
-use Rattle.std.specs.Prelude.{ℕ, ℤ, zero, suc, pos, ◌-ℤ◌, Bool, true, false, if◌then◌else◌, List, [], ◌++◌, Option, Some, None, codes}
+use Rattle.std.specs.Prelude.{ℕ, ℤ, zero, suc, pos, ◌-◌, ◌==◌, ◌-ℤ◌, Bool, true, false, if◌then◌else◌, List, [], ◌++◌, Option, Some, None, codes, decimal}
 use Rattle.std.specs.Fmt.{signed_decimal}
 use Rattle.std.specs.Ordering.{int_eq}
 use Rattle.insn.specs.declared.insn.Insn.{Insn}
@@ -48,18 +48,24 @@ sourced_text first end held = run_text first end held.0 ++ from_text held.1
 abbrev pub ended_text : ℕ → ℕ → Holding → List ℕ
 ended_text first end held = sourced_text first end held ++ codes ", "
 
--- Writes the stack cells from number `first` on, grouped by what they hold and which units set it. Those up to and
--- excluding `place` hold `held`, and the given number of cells follow.
-abbrev pub runs_text : (ℕ → Holding) → ℕ → Holding → ℕ → ℕ → List ℕ
-runs_text holds first held place zero = sourced_text first place held
-runs_text holds first held place (suc n) =
-    if same_holding held (holds place) then runs_text holds first held (suc place) n
-    else ended_text first place held ++ runs_text holds place (holds place) (suc place) n
+-- Writes how many cells an access may touch besides those that are named.
+abbrev pub left_text : ℕ → List ℕ
+left_text cells = codes ", and " ++ decimal cells ++ codes " more"
 
--- Writes the given number of stack cells from number `place` on, grouped by what they hold and which units set it.
+-- Writes the stack cells from number `first` on, grouped by what they hold and which units set it. Those up to and
+-- excluding `place` hold `held`, and the given number of cells follow. After the first group at most `most` are named.
+abbrev pub runs_text : (ℕ → Holding) → ℕ → ℕ → Holding → ℕ → ℕ → List ℕ
+runs_text holds most first held place zero = sourced_text first place held
+runs_text holds most first held place (suc n) =
+    if same_holding held (holds place) then runs_text holds most first held (suc place) n
+    else (if most == 0 then sourced_text first place held ++ left_text (suc n)
+    else ended_text first place held ++ runs_text holds (most - 1) place (holds place) (suc place) n)
+
+-- Writes the given number of stack cells from number `place` on, grouped by what they hold and which units set it. Of
+-- the groups, the first eight are named.
 abbrev pub of_cells : (ℕ → Holding) → ℕ → ℕ → List ℕ
 of_cells holds place zero = []
-of_cells holds place (suc n) = codes " ; " ++ runs_text holds place (holds place) (suc place) n
+of_cells holds place (suc n) = codes " ; " ++ runs_text holds 7 place (holds place) (suc place) n
 
 -- Writes the cells of a window of the stack, grouped by what they hold and which units set it.
 abbrev pub of_window : (ℕ → Holding) → Option Window → List ℕ

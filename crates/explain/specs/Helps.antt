@@ -4,7 +4,7 @@ use Rattle.std.specs.Prelude.{ℕ, ℤ, zero, suc, pos, ◌+◌, ◌==◌, if◌
 use Rattle.word.specs.declared.Width.TheVariants.{W64}
 use Rattle.word.specs.declared.Operation.TheVariants.{Add, And, Move}
 use Rattle.insn.specs.declared.insn.Insn.{Insn}
-use Rattle.insn.specs.declared.insn.Insn.TheVariants.{Arithmetic}
+use Rattle.insn.specs.declared.insn.Insn.TheVariants.{Arithmetic, Exit}
 use Rattle.insn.specs.declared.insn.Operand.TheVariants.{Register, Immediate}
 use Rattle.insn.specs.Program.{instruction_at}
 use Rattle.asm.specs.Printing.{insn_text}
@@ -74,12 +74,22 @@ by_copy unit (Arithmetic w operation dst operand) r (Some copy) =
     Some (unit, Either (Instead operation dst (Register copy)) r)
 by_copy unit i r copy = mask_at unit r
 
+-- Chooses to set r0 to 0 before the instruction at `unit`.
+abbrev pub zero_before : ℕ → Option (ℕ × Choice)
+zero_before unit = Some (unit, One (Before Move 0 (Immediate (pos 0))))
+
+-- Chooses to set r0 to 0 before the instruction at `unit`, if it is the exit.
+abbrev pub zero_at_exit : ℕ → Insn → Option (ℕ × Choice)
+zero_at_exit unit Exit = zero_before unit
+zero_at_exit unit i = None
+
 -- Chooses edits for a register that the instruction at `unit` misuses.
 abbrev pub for_misuse : List Insn → List UnitMark → ℕ → Insn → RegisterMisuse → Option (ℕ × Choice)
 for_misuse program marks unit i (misuse.EitherSign r value) = by_copy unit i r (last_copy program marks r unit)
 for_misuse program marks unit i (misuse.Far r region span) = moving_mask unit i
 for_misuse program marks unit i (misuse.Computed r value) = exchanged unit i
-for_misuse program marks unit i (misuse.Exit value) = Some (unit, One (Before Move 0 (Immediate (pos 0))))
+for_misuse program marks unit i (misuse.Exit value) = zero_before unit
+for_misuse program marks unit i (misuse.Unset r) = zero_at_exit unit i
 for_misuse program marks unit i m = None
 
 -- Chooses to mask an argument that may be too large, if it is a number.

@@ -12,7 +12,8 @@ use Rattle.explain.specs.Sources.{Holding, holding, same_holding}
 abbrev pub known_of : Surveyed → KnownByUnit
 known_of s = slice_get s.states.now
 
--- States that nothing is known after the program's end, and that the columns say which units set each stack cell.
+-- States that nothing is known after the program's end, and that the columns say which units set each stack
+-- cell last on the paths to each unit.
 pub record IsSurveyed (s : Surveyed) : Type 0 where
   pub room : length s.states.now ≤ length (slots_of s.program.now)
   pub columns : AreColumns s.program.now (known_of s) s.columns.now
@@ -28,4 +29,4 @@ held_here here = holding here.surveyed.program.now (known_of here.surveyed) here
 
 -- Returns whether two cells have the same content, set by the same units.
 abbrev pub same_held : Held → Held → Bool
-same_held one other = same_holding (one.content, one.units.items) (other.content, other.units.items)
+same_held one other = same_holding (one.content, one.setters) (other.content, other.setters)

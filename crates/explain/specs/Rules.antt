@@ -49,7 +49,7 @@ number_rule i n = []
 
 -- Returns the rule by which a register is unset after an instruction.
 abbrev pub unset_rule : Insn → List ℕ
-unset_rule (Call number) = codes ": after a call r1 to r5 are unset"
+unset_rule (Call number) = codes ": after a call r1 to r5 are unset, so keep values in r6 to r9"
 unset_rule i = []
 
 -- Returns the rule by which little is known of a result. The value is what is known of it.

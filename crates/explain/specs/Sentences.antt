@@ -26,7 +26,7 @@ leads_text to = codes "the jump leads to unit " ++ signed_decimal to
 
 -- Writes the sentence about the structure of a program: a jump at fault, or a missing exit.
 abbrev pub structure_text : Structure → List ℕ
-structure_text (structure.Back to) = leads_text to ++ codes ": a jump must lead forward"
+structure_text (structure.Back to) = leads_text to ++ codes ": a jump must lead forward, so unroll loops (in C: `#pragma unroll`)"
 structure_text (structure.Out to units) = leads_text to ++ codes ", but the number of units is " ++ decimal units
 structure_text (structure.Inside to) = leads_text to ++ codes ", inside a wide instruction"
 structure_text structure.NoExit = codes "the last instruction is not the exit"

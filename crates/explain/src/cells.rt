@@ -3,10 +3,10 @@
 ghost use Rattle.std.specs.Prelude.{◌≡◌, ◌≤◌, ◌+◌, ◌-ℤ◌, ◌++◌, pos, IfSome, OnOk, string_bytes};
 ghost use Rattle.semantics.specs.Call.{helper_of};
 ghost use Rattle.explain.specs.Here.{Stands, held_here};
-ghost use Rattle.explain.specs.Cells.{content_text, cells_text, last_text, run_text, sourced_text, ended_text, runs_text, of_cells, of_window, of_reach, is_row, reads_cells, cells_read};
+ghost use Rattle.explain.specs.Cells.{content_text, cells_text, last_text, run_text, sourced_text, ended_text, left_text, runs_text, of_cells, of_window, of_reach, is_row, reads_cells, cells_read};
 
 use crate::reach::{Reach, reach_of};
-use crate::refusal_text::put_signed_between;
+use crate::refusal_text::{put_between, put_signed_between};
 use crate::sources::{Held, Here, held_here, put_from};
 use crate::values::region_name;
 use absval::{AbsVal, Window, window_of};
@@ -15,7 +15,7 @@ use helper::Helper;
 use insn::Insn;
 use reaching::CellContent;
 use semantics::Region;
-use std::alloc::{AllocError, Global};
+use std::alloc::AllocError;
 use verify::AbsState;
 
 /// Appends what a stack cell holds: `perhaps unset`, `bytes`, or a pointer such as `pointer: context 16`.
@@ -90,34 +90,42 @@ pub(crate) fn put_run(
 
 /// Appends the stack cells from number `first` up to and excluding `end`, what they hold, and which units set them,
 /// such as `[-8..-5] bytes (from 3)`.
-fn put_sourced(out: &mut String, first: usize, end: usize, held: &Held) -> Result<(), AllocError>
+fn put_sourced(out: &mut String, first: usize, end: usize, held: Held) -> Result<(), AllocError>
     requires first { first ≤ 65536 }
     requires end { end ≤ 65536 }
     ensures { OnOk result (string_bytes out.new ≡ string_bytes out.old
-        ++ sourced_text first end (held.now.content, held.now.units.items)) }
+        ++ sourced_text first end (held.content, held.setters)) }
 {
     put_run(out, first, end, held.content)?;
-    put_from(out, held.units.as_slice())
+    put_from(out, held.setters)
 }
 
 /// Appends the stack cells from number `first` up to and excluding `end`, what they hold, and which units set them, and
 /// then a comma, such as `[-8..-5] bytes (from 3), `.
-fn put_ended(out: &mut String, first: usize, end: usize, held: &Held) -> Result<(), AllocError>
+fn put_ended(out: &mut String, first: usize, end: usize, held: Held) -> Result<(), AllocError>
     requires first { first ≤ 65536 }
     requires end { end ≤ 65536 }
     ensures { OnOk result (string_bytes out.new ≡ string_bytes out.old
-        ++ ended_text first end (held.now.content, held.now.units.items)) }
+        ++ ended_text first end (held.content, held.setters)) }
 {
     put_sourced(out, first, end, held)?;
     put(out, ", ")
 }
 
+/// Appends how many cells an access may touch besides those that are named, such as `, and 497 more`.
+fn put_left(out: &mut String, cells: usize) -> Result<(), AllocError>
+    ensures { OnOk result (string_bytes out.new ≡ string_bytes out.old ++ left_text cells) }
+{
+    put_between(out, ", and ", cells as u64, " more")
+}
+
 /// Appends the stack cells from number `first` to `place` + `more` - 1, grouped into runs with the same content, set by
-/// the same units. The cells up to and excluding `place` are known to hold `held`.
+/// the same units. The cells up to and excluding `place` are known to hold `held`. After the first run, at most `most`
+/// are named, and then how many cells are left.
 fn put_runs(
-    alloc: Global,
     out: &mut String,
     here: &Here<'_>,
+    most: usize,
     first: usize,
     held: Held,
     place: usize,
@@ -127,28 +135,26 @@ fn put_runs(
     requires first { first ≤ 512 }
     requires room { place + more ≤ 512 }
     ensures { OnOk result (string_bytes out.new ≡ string_bytes out.old
-        ++ runs_text (held_here here.now) first (held.content, held.units.items) place more) }
+        ++ runs_text (held_here here.now) most first (held.content, held.setters) place more) }
 {
     if more == 0 {
-        return put_sourced(out, first, place, &held);
+        return put_sourced(out, first, place, held);
     }
-    let next = held_here(alloc, here, place)?;
-    if held.is_same(&next) {
-        return put_runs(alloc, out, here, first, held, place + 1, more - 1);
+    let next = held_here(here, place);
+    if held.is_same(next) {
+        return put_runs(out, here, most, first, held, place + 1, more - 1);
     }
-    put_ended(out, first, place, &held)?;
-    put_runs(alloc, out, here, place, next, place + 1, more - 1)
+    if most == 0 {
+        put_sourced(out, first, place, held)?;
+        return put_left(out, more);
+    }
+    put_ended(out, first, place, held)?;
+    put_runs(out, here, most - 1, place, next, place + 1, more - 1)
 }
 
 /// Appends the `size` stack cells from number `place` on, grouped into runs with the same content, set by the same
-/// units. Appends nothing if `size` is 0.
-fn put_cells(
-    alloc: Global,
-    out: &mut String,
-    here: &Here<'_>,
-    place: usize,
-    size: usize,
-) -> Result<(), AllocError>
+/// units. The first eight runs are named. Appends nothing if `size` is 0.
+fn put_cells(out: &mut String, here: &Here<'_>, place: usize, size: usize) -> Result<(), AllocError>
     requires stands { Stands here.now }
     requires room { place + size ≤ 512 }
     ensures { OnOk result (string_bytes out.new ≡ string_bytes out.old ++ of_cells (held_here here.now) place size) }
@@ -157,24 +163,26 @@ fn put_cells(
         return Ok(());
     }
     put(out, " ; ")?;
-    let held = held_here(alloc, here, place)?;
-    put_runs(alloc, out, here, place, held, place + 1, size - 1)
+    put_runs(
+        out,
+        here,
+        7,
+        place,
+        held_here(here, place),
+        place + 1,
+        size - 1,
+    )
 }
 
 /// Appends the cells of a window of the stack, grouped into runs with the same content, set by the same units. Appends
 /// nothing if there is no window.
-fn put_window(
-    alloc: Global,
-    out: &mut String,
-    here: &Here<'_>,
-    window: Option<Window>,
-) -> Result<(), AllocError>
+fn put_window(out: &mut String, here: &Here<'_>, window: Option<Window>) -> Result<(), AllocError>
     requires stands { Stands here.now }
     requires room { IfSome window (λ w. w.place + w.size ≤ 512) }
     ensures { OnOk result (string_bytes out.new ≡ string_bytes out.old ++ of_window (held_here here.now) window) }
 {
     match window {
-        Some(Window { place, size }) => put_cells(alloc, out, here, place, size),
+        Some(Window { place, size }) => put_cells(out, here, place, size),
         None => Ok(()),
     }
 }
@@ -182,7 +190,6 @@ fn put_window(
 /// Appends the stack cells that an access may touch, grouped into runs with the same content, set by the same units.
 /// Appends nothing if `value`, which is what is known of the base register, is not a pointer into the stack.
 fn put_reach(
-    alloc: Global,
     out: &mut String,
     here: &Here<'_>,
     reach: &Reach,
@@ -200,7 +207,7 @@ fn put_reach(
         return Ok(());
     };
     let window = window_of(Region::Stack, offsets, reach.distance, reach.size);
-    put_window(alloc, out, here, window)
+    put_window(out, here, window)
 }
 
 /// Checks whether the helper with this number is `send_row`, which reads orders from the stack or the context.
@@ -227,7 +234,6 @@ fn reads_cells(insn: &Insn) -> bool
 /// Appends the stack cells that an instruction reads, grouped into runs with the same content, set by the same units.
 /// Appends nothing if it reads none.
 pub(crate) fn put_cells_read(
-    alloc: Global,
     out: &mut String,
     here: &Here<'_>,
     insn: &Insn,
@@ -241,7 +247,7 @@ pub(crate) fn put_cells_read(
         return Ok(());
     }
     match reach_of(insn, state) {
-        Some(reach) => put_reach(alloc, out, here, &reach, state.known(reach.base)),
+        Some(reach) => put_reach(out, here, &reach, state.known(reach.base)),
         None => Ok(()),
     }
 }

@@ -2,7 +2,7 @@
 //! help.
 ghost use Rattle.std.specs.Prelude.{◌≡◌, ◌<◌, ◌≤◌, IfSome, slice_get};
 ghost use Rattle.reaching.specs.Marks.{is_open};
-ghost use Rattle.explain.specs.Helps.{moving_mask, exchanged, copy_of, copy_at, last_copy, by_copy, for_misuse, for_argument, for_misfit, moved_at, for_access, wanted};
+ghost use Rattle.explain.specs.Helps.{moving_mask, exchanged, copy_of, copy_at, last_copy, by_copy, zero_before, zero_at_exit, for_misuse, for_argument, for_misfit, moved_at, for_access, wanted};
 
 use crate::origins::last_set;
 use crate::sentence::{AccessMisuse, Misfit, RegisterMisuse, Sentence};
@@ -137,6 +137,27 @@ fn by_copy(unit: usize, insn: &Insn, r: Reg, copy: Option<Reg>) -> Option<(usize
     }
 }
 
+/// Chooses to set r0 to 0 before the instruction at `unit`. Returns the unit and the choice, never `None`.
+fn zero_before(unit: usize) -> Option<(usize, Choice)>
+    ensures wanted { result ≡ zero_before unit }
+    ensures below { IfSome result (λ want. want.0 ≤ unit) }
+{
+    let zero = Edit::Before(Operation::Move, numbered(0), Operand::Immediate(0));
+    Some((unit, Choice::One(zero)))
+}
+
+/// Chooses to set r0 to 0 before the instruction at `unit`, if it is the exit. Returns the unit and the choice, and
+/// otherwise `None`.
+fn zero_at_exit(unit: usize, insn: &Insn) -> Option<(usize, Choice)>
+    ensures wanted { result ≡ zero_at_exit unit insn.now }
+    ensures below { IfSome result (λ want. want.0 ≤ unit) }
+{
+    match insn {
+        Insn::Exit => zero_before(unit),
+        _ => None,
+    }
+}
+
 /// Chooses edits for a register that the instruction at `unit` misuses. Returns the unit to edit and the choice, or
 /// `None` if no edit is known.
 fn for_misuse(
@@ -158,10 +179,8 @@ fn for_misuse(
         ),
         RegisterMisuse::Far(_, _, _) => moving_mask(unit, insn),
         RegisterMisuse::Computed(_, _) => exchanged(unit, insn),
-        RegisterMisuse::Exit(_) => {
-            let zero = Edit::Before(Operation::Move, numbered(0), Operand::Immediate(0));
-            Some((unit, Choice::One(zero)))
-        }
+        RegisterMisuse::Exit(_) => zero_before(unit),
+        RegisterMisuse::Unset(_) => zero_at_exit(unit, insn),
         _ => None,
     }
 }

@@ -49,7 +49,6 @@ fn put_reads(out: &mut String, state: &AbsState, read: RegisterTriple) -> Result
 /// Appends what is known of the registers and stack cells that the instruction at `unit` reads. If `state` is `None`,
 /// no path leads to it, and the text says so.
 fn put_known(
-    alloc: Global,
     out: &mut String,
     surveyed: &Surveyed<'_>,
     unit: usize,
@@ -71,7 +70,7 @@ fn put_known(
         unit,
         stack: &state.stack,
     };
-    put_cells_read(alloc, out, &here, insn, state)
+    put_cells_read(out, &here, insn, state)
 }
 
 /// Appends a line break, the number of a unit, its place in the source text, and its instruction.
@@ -90,7 +89,6 @@ fn put_place(
 
 /// Appends the line of a unit: its instruction, and what is known of the registers and stack cells that it reads.
 fn put_unit(
-    alloc: Global,
     out: &mut String,
     written: &UnitTexts<'_>,
     surveyed: &Surveyed<'_>,
@@ -105,7 +103,7 @@ fn put_unit(
         (option_map (λ a. a.now) state.entry)) }
 {
     put_place(out, written, unit, insn)?;
-    put_known(alloc, out, surveyed, unit, insn, state)
+    put_known(out, surveyed, unit, insn, state)
 }
 
 /// Appends the register that an instruction sets, and what is known of it afterwards, such as ` -> r0 0 to 255`.
@@ -166,7 +164,6 @@ fn put_behind(
 /// Appends the line of a unit: its instruction, what is known of the registers and stack cells that it reads, and what
 /// is known of its result.
 fn put_line(
-    alloc: Global,
     out: &mut String,
     written: &UnitTexts<'_>,
     surveyed: &Surveyed<'_>,
@@ -181,13 +178,12 @@ fn put_line(
         ++ whole_line (written_in written.now) surveyed.now.program.now
         (known_of surveyed.now) fault.now unit insn.now state.now) }
 {
-    put_unit(alloc, out, written, surveyed, unit, insn, state.as_ref())?;
+    put_unit(out, written, surveyed, unit, insn, state.as_ref())?;
     put_behind(out, fault, unit, insn, state)
 }
 
 /// Appends the line of a unit. Appends nothing if the verifier stopped at a fault before it.
 fn put_reached(
-    alloc: Global,
     out: &mut String,
     written: &UnitTexts<'_>,
     surveyed: &Surveyed<'_>,
@@ -201,14 +197,13 @@ fn put_reached(
         (known_of surveyed.now unit)) }
 {
     match surveyed.states.get(unit) {
-        Some(state) => put_line(alloc, out, written, surveyed, fault, unit, insn, state),
+        Some(state) => put_line(out, written, surveyed, fault, unit, insn, state),
         None => Ok(()),
     }
 }
 
 /// Appends a line for each unit that the verifier reached before it stopped or came to the end.
 fn put_units(
-    alloc: Global,
     out: &mut String,
     written: &UnitTexts<'_>,
     surveyed: &Surveyed<'_>,
@@ -223,7 +218,7 @@ fn put_units(
 {
     let mut unit = 0;
     for insn in insns {
-        put_reached(alloc, out, written, surveyed, fault, unit, insn)?;
+        put_reached(out, written, surveyed, fault, unit, insn)?;
         unit += insn.units() as usize;
     }
     Ok(())
@@ -389,7 +384,7 @@ fn put_lines(
         columns,
     };
     let insns = program.instructions();
-    put_units(alloc, out, written, &surveyed, fault, insns)
+    put_units(out, written, &surveyed, fault, insns)
 }
 
 /// Explains a program: what is known at each unit that the verifier reaches, what results from each instruction and, if

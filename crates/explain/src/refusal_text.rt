@@ -105,7 +105,11 @@ fn put_structure(out: &mut String, structure: Structure) -> Result<(), AllocErro
     ensures { OnOk result (string_bytes out.new ≡ string_bytes out.old ++ structure_text structure) }
 {
     match structure {
-        Structure::Back(to) => put_leads(out, to, ": a jump must lead forward"),
+        Structure::Back(to) => put_leads(
+            out,
+            to,
+            ": a jump must lead forward, so unroll loops (in C: `#pragma unroll`)",
+        ),
         Structure::Out(to, units) => {
             put_leads(out, to, ", but the number of units is ")?;
             put_unsigned(out, units as u64)

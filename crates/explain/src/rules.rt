@@ -59,7 +59,7 @@ fn unset_rule(insn: &Insn) -> &'static str
     ensures { result.now ≡ unset_rule insn.now }
 {
     match insn {
-        Insn::Call { .. } => ": after a call r1 to r5 are unset",
+        Insn::Call { .. } => ": after a call r1 to r5 are unset, so keep values in r6 to r9",
         _ => "",
     }
 }

@@ -1,33 +1,33 @@
 //! Finds what a stack cell holds at a unit, and which units set it.
-ghost use Rattle.std.specs.Prelude.{◌≡◌, ◌<◌, ◌++◌, string_bytes, IfOk, OnOk};
-ghost use Rattle.explain.specs.Sources.{set_below, sources, further_text, from_text};
+ghost use Rattle.std.specs.Prelude.{◌≡◌, ◌<◌, ◌++◌, string_bytes, OnOk};
+ghost use Rattle.explain.specs.Sources.{sources, others_text, further_text, from_text};
 ghost use Rattle.explain.specs.Here.{Stands, known_of, held_here, same_held};
 
-use crate::origins::is_set;
 use absmem::AbsStack;
 use asm::{put, put_unsigned};
 use insn::Program;
-use reaching::{CellContent, Column, UnitMark, cell_marks, held_at};
-use std::alloc::{AllocError, Global};
+use reaching::{CellContent, Column, Setters, held_at, last_setters};
+use std::alloc::AllocError;
 use verify::AbsState;
 
-/// What a stack cell holds at a unit, and the units that set it last on the paths to that unit, ascending.
-#[derive(Drop)]
+/// What a stack cell holds at a unit, and the units that set it last on the paths to that unit.
+#[derive(Clone, Copy)]
 pub(crate) struct Held {
     pub content: CellContent,
-    pub units: Vec<usize>,
+    pub setters: Setters,
 }
 
 impl Held {
     /// Checks whether two cells have the same content, set by the same units.
-    pub(crate) fn is_same(&self, other: &Held) -> bool
-        ensures { result ≡ same_held self.now other.now }
+    pub(crate) fn is_same(self, other: Held) -> bool
+        ensures { result ≡ same_held self other }
     {
-        self.content.is_same(other.content) && self.units.as_slice() == other.units.as_slice()
+        self.content.is_same(other.content) && self.setters.is_same(other.setters)
     }
 }
 
-/// A program, what is known at each of its units, and for each of the 512 stack cells which units set it.
+/// A program, what is known at each of its units, and for each of the 512 stack cells which units set it last on the
+/// paths to each unit.
 #[derive(Clone, Copy)]
 pub(crate) struct Surveyed<'a> {
     pub program: &'a Program,
@@ -43,27 +43,11 @@ pub(crate) struct Here<'a> {
     pub stack: &'a AbsStack,
 }
 
-/// Returns the units below `unit` that are marked as setting a register or cell, ascending. Fails with `AllocError` if
-/// out of memory.
-fn set_below(alloc: Global, marks: &[UnitMark], unit: usize) -> Result<Vec<usize>, AllocError>
-    ensures { IfOk result (λ vec. vec.items ≡ set_below marks.now unit) }
-{
-    let mut units = Vec::new(alloc);
-    for place in 0..unit {
-        if is_set(marks, place) {
-            units.push(place)?;
-        }
-    }
-    Ok(units)
-}
-
-/// Returns the units that set a stack cell last on the paths to the unit `here`, ascending. Fails with `AllocError` if
-/// out of memory.
-fn sources(alloc: Global, here: &Here<'_>, cell: usize) -> Result<Vec<usize>, AllocError>
+/// Returns the units that set a stack cell last on the paths to the unit `here`.
+fn sources(here: &Here<'_>, cell: usize) -> Setters
     requires stands { Stands here.now }
     requires inside { cell < 512 }
-    ensures { IfOk result (λ vec. vec.items
-        ≡ sources here.now.surveyed.program.now (known_of here.now.surveyed) here.now.unit cell) }
+    ensures { result ≡ sources here.now.surveyed.program.now (known_of here.now.surveyed) here.now.unit cell }
 {
     let Surveyed {
         program,
@@ -71,46 +55,54 @@ fn sources(alloc: Global, here: &Here<'_>, cell: usize) -> Result<Vec<usize>, Al
         columns,
     } = here.surveyed;
     let column = &columns[cell];
-    let marks = cell_marks(alloc, program, states, column, cell as u16, here.unit)?;
-    set_below(alloc, marks.as_slice(), here.unit)
+    last_setters(program, states, column, cell as u16, here.unit)
 }
 
-/// Returns what a stack cell holds at the unit `here`, and the units that set it last. Fails with `AllocError` if out
-/// of memory.
-pub(crate) fn held_here(alloc: Global, here: &Here<'_>, cell: usize) -> Result<Held, AllocError>
+/// Returns what a stack cell holds at the unit `here`, and the units that set it last.
+pub(crate) fn held_here(here: &Here<'_>, cell: usize) -> Held
     requires stands { Stands here.now }
     requires inside { cell < 512 }
-    ensures { IfOk result (λ held. (held.content, held.units.items) ≡ held_here here.now cell) }
+    ensures { (result.content, result.setters) ≡ held_here here.now cell }
 {
-    let content = held_at(here.stack, cell);
-    let units = sources(alloc, here, cell)?;
-    Ok(Held { content, units })
+    Held {
+        content: held_at(here.stack, cell),
+        setters: sources(here, cell),
+    }
 }
 
-/// Appends the units after the first and the closing bracket, such as ` or 5 or 9)`. Only `most` of them are named.
-fn put_further(out: &mut String, units: &[usize], most: usize) -> Result<(), AllocError>
-    ensures { OnOk result (string_bytes out.new ≡ string_bytes out.old ++ further_text most units.now) }
+/// Appends the end of a list of units: whether there are others between the first and the last.
+fn put_others(out: &mut String, more: bool) -> Result<(), AllocError>
+    ensures { OnOk result (string_bytes out.new ≡ string_bytes out.old ++ others_text more) }
 {
-    let Some((first, others)) = units.split_first() else {
+    if more {
+        put(out, " or others between)")
+    } else {
+        put(out, ")")
+    }
+}
+
+/// Appends the units after the first and the closing bracket, such as ` or 5)`. `more` says whether there are others
+/// between the first and the last.
+fn put_further(out: &mut String, first: u16, last: u16, more: bool) -> Result<(), AllocError>
+    ensures { OnOk result (string_bytes out.new ≡ string_bytes out.old ++ further_text first last more) }
+{
+    if first == last {
         return put(out, ")");
-    };
-    if most == 0 {
-        return put(out, " or others)");
     }
     put(out, " or ")?;
-    put_unsigned(out, *first as u64)?;
-    put_further(out, others, most - 1)
+    put_unsigned(out, u64::from(last))?;
+    put_others(out, more)
 }
 
-/// Appends the units that set a stack cell, such as ` (from 3 or 5)`. At most eight are named. Appends nothing if there
-/// are none.
-pub(crate) fn put_from(out: &mut String, units: &[usize]) -> Result<(), AllocError>
-    ensures { OnOk result (string_bytes out.new ≡ string_bytes out.old ++ from_text units.now) }
+/// Appends the units that set a stack cell, such as ` (from 3 or 5)`: the first, the last, and whether there are others
+/// between. Appends nothing if there are none.
+pub(crate) fn put_from(out: &mut String, setters: Setters) -> Result<(), AllocError>
+    ensures { OnOk result (string_bytes out.new ≡ string_bytes out.old ++ from_text setters) }
 {
-    let Some((first, others)) = units.split_first() else {
+    let Setters::Units(first, last, more) = setters else {
         return Ok(());
     };
     put(out, " (from ")?;
-    put_unsigned(out, *first as u64)?;
-    put_further(out, others, 7)
+    put_unsigned(out, u64::from(first))?;
+    put_further(out, first, last, more)
 }

@@ -13,7 +13,7 @@ sentence_of (Damaged (Symbol place)) =
     codes "the name of this function is not among the strings, or its code is not within its section"
 sentence_of (Damaged (Relocations place)) = codes "the relocations of this section name a symbol that does not exist"
 sentence_of NoFunction = codes "there is no function with this name, or no global function"
-sentence_of Several = codes "there are several functions: name the one that is the program"
+sentence_of Several = codes "there are several functions: name the program's with `--entry` (in a scenario, `entry`)"
 sentence_of (Names place) = codes
     "the entry uses data, or a function that is not in the object: put arrays on the stack, and call helpers by number"
 sentence_of (Leaves place) =

@@ -92,7 +92,9 @@ pub fn sentence(fault: ObjectFault) -> &'static str
             "the relocations of this section name a symbol that does not exist"
         }
         ObjectFault::NoFunction => { "there is no function with this name, or no global function" }
-        ObjectFault::Several => { "there are several functions: name the one that is the program" }
+        ObjectFault::Several => {
+            "there are several functions: name the program's with `--entry` (in a scenario, `entry`)"
+        }
         ObjectFault::Names(_) => {
             "the entry uses data, or a function that is not in the object: put arrays on the stack, \
              and call helpers by number"

@@ -22,9 +22,13 @@ use Rattle.reaching.specs.declared.cells.CellContent.TheVariants.{Unset, Byte, P
 use Rattle.reaching.specs.declared.subject.Subject.TheVariants.{Cell}
 use Rattle.reaching.specs.Contents.{held_at, same_content}
 use Rattle.reaching.specs.declared.changes.Column.{Column}
+use Rattle.reaching.specs.declared.setters.Setters.{Setters}
+use Rattle.reaching.specs.declared.ways.Way.{Way}
 use Rattle.reaching.specs.Left.{left}
 use Rattle.reaching.specs.Marks.{KnownByUnit, known_by}
-use Rattle.reaching.specs.Columns.{set_by, of_units, setting, stack_behind, stacks_behind, stack_at, changed_in, flag_at, IsColumn}
+use Rattle.reaching.specs.Setting.{set_by, of_units}
+use Rattle.reaching.specs.Setters.{way_from, ways_from, way_at, passed_on, setters_over}
+use Rattle.reaching.specs.Columns.{stack_behind, stacks_behind, stack_at, changed_in, IsColumn}
 
 pub of_units_length : {X : Type 0} (tells : ℕ → X) (n : ℕ) → length (of_units tells n) ≡ n
 of_units_length tells zero = refl
@@ -91,10 +95,19 @@ sets_so program survey stacks cell unit units known behind flag lt all here left
     ap (λ (s : List (Option Known)). slice_get s unit) all ∙ of_units_at (λ n. stack_behind (instruction_at program n) (known_by (survey n))) units unit lt in
     so ∙ ((λ k. changed_in cell (here k) ((left ∙ ap stack_at there) k)) ∙ changed_so cell (instruction_at program unit) (known_by (survey unit)))
 
-pub flag_so : (program : List Insn) (survey : KnownByUnit) (items : List Bool) (cell unit units : ℕ) (flag : Bool) →
-    unit < units → items ≡ setting program survey (Cell cell) units → flag ≡ flag_at (slice_get items unit) → flag ≡ set_by (Cell cell) (instruction_at program unit) (known_by (survey unit))
-flag_so program survey items cell unit units flag lt all so =
-    so ∙ ap flag_at (ap (λ (s : List Bool). slice_get s unit) all ∙ of_units_at (λ n. set_by (Cell cell) (instruction_at program n) (known_by (survey n))) units unit lt)
+pub way_so : (program : List Insn) (survey : KnownByUnit) (ways : List Way) (unit units : ℕ) (way : Way) →
+    unit < units → ways ≡ ways_from program survey units → way ≡ way_at (slice_get ways unit) → way ≡ way_from unit (instruction_at program unit) (known_by (survey unit))
+way_so program survey ways unit units way lt all so =
+    so ∙ ap way_at (ap (λ (s : List Way). slice_get s unit) all ∙ of_units_at (λ n. way_from n (instruction_at program n) (known_by (survey n))) units unit lt)
+
+-- The setters over one more unit.
+pub flow_more : (program : List Insn) (survey : KnownByUnit) (cell n : ℕ) (before after : List Setters) (way : Way) (changed : Bool) →
+    before ≡ setters_over program survey (Cell cell) n → way ≡ way_from n (instruction_at program n) (known_by (survey n)) → changed ≡ set_by (Cell cell) (instruction_at program n) (known_by (survey n)) →
+    after ≡ passed_on before n way changed → after ≡ setters_over program survey (Cell cell) (n + 1)
+flow_more program survey cell n before after way changed so_far leads sets more =
+    let next : suc n ≡ n + 1 = omega arith in
+    subst (λ (m : ℕ). after ≡ setters_over program survey (Cell cell) m) next
+    (more ∙ λ k. passed_on (so_far k) n (leads k) (sets k))
 
 -- With one more column, each column is still that of its cell.
 pub columns_more : (program : List Insn) (survey : KnownByUnit) (columns : List Column) (column : Column) (n : ℕ) → length columns ≡ n →

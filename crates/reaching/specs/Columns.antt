@@ -1,33 +1,18 @@
--- Defines for each cell, which is one of the 512 bytes of the stack, which units of a program set it (own).
-use Rattle.std.specs.Prelude.{ℕ, zero, suc, ◌≡◌, not, Bool, false, List, [], ◌∷◌, ◌++◌, Option, Some, None, length, slice_get}
+-- Defines for each cell, which is one of the 512 bytes of the stack, which units of a program set it last on the paths
+-- to each unit (own).
+use Rattle.std.specs.Prelude.{ℕ, ◌≡◌, not, Bool, false, List, Option, Some, None, length, slice_get}
 use Rattle.insn.specs.declared.insn.Insn.{Insn}
 use Rattle.insn.specs.declared.insn.Insn.TheVariants.{Store, Call}
-use Rattle.insn.specs.Program.{slots_of, instruction_at}
+use Rattle.insn.specs.Program.{instruction_at}
 use Rattle.absmem.specs.Known.{Known}
 use Rattle.verify.specs.declared.state.AbsState.{AbsState}
 use Rattle.reaching.specs.declared.changes.Column.{Column}
-use Rattle.reaching.specs.declared.subject.Subject.{Subject}
 use Rattle.reaching.specs.declared.subject.Subject.TheVariants.{Cell}
 use Rattle.reaching.specs.Contents.{held_at, same_content}
 use Rattle.reaching.specs.Left.{left}
-use Rattle.reaching.specs.Setting.{sets}
+use Rattle.reaching.specs.Setting.{of_units}
+use Rattle.reaching.specs.Setters.{setters}
 use Rattle.reaching.specs.Marks.{KnownByUnit, known_by}
-
--- Checks whether the instruction at a unit sets the register or cell. It does not if there is no instruction, or if no
--- path leads there.
-abbrev pub set_by : Subject → Option Insn → Option AbsState → Bool
-set_by subject (Some i) (Some a) = sets subject i a
-set_by subject i known = false
-
--- Returns a list with an entry for each of the first `n` units. `tells` gives the entry of a unit.
-abbrev pub of_units : {X : Type 0} → (ℕ → X) → ℕ → List X
-of_units tells zero = []
-of_units tells (suc n) = of_units tells n ++ tells n ∷ []
-
--- Returns for each of the first `n` units whether its instruction sets the register or cell.
-abbrev pub setting : List Insn → KnownByUnit → Subject → ℕ → List Bool
-setting program survey subject n =
-    of_units (λ unit. set_by subject (instruction_at program unit) (known_by (survey unit))) n
 
 -- Returns the abstract stack after a store or a call. Returns `None` for any other instruction, and if no path leads to
 -- it.
@@ -53,16 +38,9 @@ abbrev pub changed_in : ℕ → Option AbsState → Option Known → Bool
 changed_in cell (Some a) (Some behind) = not (same_content (held_at a.stack cell) (held_at behind cell))
 changed_in cell known behind = false
 
--- Checks whether a unit sets the cell of a column, from the column's entry for this unit. Returns `false` if there is
--- no entry.
-abbrev pub flag_at : Option Bool → Bool
-flag_at None = false
-flag_at (Some flag) = flag
-
--- States that the column says for each unit of the program whether its instruction sets the cell.
+-- States that the column says for each unit of the program which units set the cell last on the paths to it.
 abbrev pub IsColumn : List Insn → KnownByUnit → ℕ → Column → Type 0
-IsColumn program survey cell column =
-    column.changed.items ≡ setting program survey (Cell cell) (length (slots_of program))
+IsColumn program survey cell column = column.setters.items ≡ setters program survey (Cell cell)
 
 -- States that there is a column for each of the 512 cells of the stack, from the lowest cell on.
 pub record AreColumns (program : List Insn) (survey : KnownByUnit) (columns : List Column) : Type 0 where

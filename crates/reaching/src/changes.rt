@@ -1,35 +1,28 @@
-//! Finds for each cell of the stack which units of a program set it.
+//! Finds for each cell of the stack which units of a program set it last on the paths to each unit.
 ghost use Rattle.std.specs.Prelude.{◌≡◌, ◌<◌, length, slice_get, option_map, IfOk};
 ghost use Rattle.insn.specs.Program.{slots_of, instruction_at};
 ghost use Rattle.reaching.specs.declared.subject.Subject.TheVariants.{Cell};
 ghost use Rattle.reaching.specs.Marks.{known_by};
-ghost use Rattle.reaching.specs.Columns.{set_by, setting, stack_behind, stacks_behind, stack_at, changed_in, flag_at, AreColumns};
+ghost use Rattle.reaching.specs.Setting.{set_by};
+ghost use Rattle.reaching.specs.Setters.{ways_from, setters, setters_at};
+ghost use Rattle.reaching.specs.Columns.{stack_behind, stacks_behind, stack_at, changed_in, IsColumn, AreColumns};
 
 use crate::cells::held_at;
+use crate::flow::{nowhere, pass_on, setters_at, way_at, ways_from};
+use crate::setters::Setters;
 use crate::transfer::left_by;
 use crate::unit_marks::known_by;
+use crate::ways::Way;
 use absmem::AbsStack;
 use insn::{Insn, Program};
 use std::alloc::{AllocError, Global};
 use verify::AbsState;
 
-/// For one cell of the stack, a flag for each unit of a program: whether the instruction at this unit sets the cell,
-/// which means that it changes what is known of the cell.
+/// For one cell of the stack and each unit of a program, the units that set the cell last on the paths to this unit. A
+/// unit sets the cell if its instruction changes what is known of it.
 #[derive(Drop)]
 pub struct Column {
-    pub changed: Vec<bool>,
-}
-
-impl Column {
-    /// Checks whether the instruction at a unit sets the cell. Returns `false` if the program has no such unit.
-    pub(crate) fn is_set_by(&self, unit: usize) -> bool
-        ensures { result ≡ flag_at (slice_get self.now.changed.items unit) }
-    {
-        match self.changed.get(unit) {
-            Some(changed) => *changed,
-            None => false,
-        }
-    }
+    pub setters: Vec<Setters>,
 }
 
 /// Returns the abstract stack after a store or a call. Returns `None` for any other instruction, and if `state` is
@@ -104,29 +97,47 @@ fn sets_cell(
     changed_in(cell, known_by(states, unit), stack_at(stacks, unit))
 }
 
-/// Returns for each unit whether its instruction sets a cell. `stacks` has an entry for each unit: the abstract stack
-/// after its instruction. Fails if memory runs out.
-fn flags_of(
+/// Returns for each unit which units set a cell last on the paths to it. `stacks` has an entry for each unit: the
+/// abstract stack after its instruction. `ways` has the way from each unit. Fails if memory runs out.
+fn setters_of(
     alloc: Global,
     program: &Program,
     states: &[Option<AbsState>],
     stacks: &[Option<AbsStack>],
+    ways: &[Way],
     cell: u16,
-) -> Result<Vec<bool>, AllocError>
-    requires { stacks.now ≡ stacks_behind program.now (slice_get states.now) (length (slots_of program.now)) }
-    ensures { IfOk result (λ vec. vec.items
-        ≡ setting program.now (slice_get states.now) (Cell cell) (length (slots_of program.now))) }
+) -> Result<Vec<Setters>, AllocError>
+    requires stacks { stacks.now ≡ stacks_behind program.now (slice_get states.now) (length (slots_of program.now)) }
+    requires ways { ways.now ≡ ways_from program.now (slice_get states.now) (length (slots_of program.now)) }
+    ensures { IfOk result (λ vec. vec.items ≡ setters program.now (slice_get states.now) (Cell cell)) }
 {
-    let mut changed = Vec::new(alloc);
+    let mut into = nowhere(alloc, program.units())?;
     for unit in 0..program.units() {
-        changed.push(sets_cell(program, states, stacks, cell, unit))?;
+        let way = way_at(program, states, ways, unit);
+        let changed = sets_cell(program, states, stacks, cell, unit);
+        pass_on(&mut into, unit, way, changed);
     }
-    Ok(changed)
+    Ok(into)
 }
 
-/// Returns a column for each of the 512 cells of the stack, from the lowest on. It says for each unit of the program
-/// whether its instruction sets the cell, which means that it changes what is known of the cell. `states` has what is
-/// known before each unit. Fails if memory runs out.
+/// Returns the units that set a cell last on the paths to a unit, from the column of this cell. Returns `Nowhere` if the
+/// program has no such unit. `states` has what is known before each unit.
+pub fn last_setters(
+    program: &Program,
+    states: &[Option<AbsState>],
+    column: &Column,
+    cell: u16,
+    unit: usize,
+) -> Setters
+    requires { IsColumn program.now (slice_get states.now) cell column.now }
+    ensures { result ≡ setters_at (slice_get (setters program.now (slice_get states.now) (Cell cell)) unit) }
+{
+    setters_at(column.setters.as_slice(), unit)
+}
+
+/// Returns a column for each of the 512 cells of the stack, from the lowest on. It has for each unit of the program the
+/// units that set the cell last on the paths to this unit. `states` has what is known before each unit. Fails if memory
+/// runs out.
 pub fn columns(
     alloc: Global,
     program: &Program,
@@ -135,10 +146,12 @@ pub fn columns(
     ensures { IfOk result (λ vec. AreColumns program.now (slice_get states.now) vec.items) }
 {
     let stacks = stacks_behind(alloc, program, states)?;
+    let ways = ways_from(alloc, program, states)?;
     let mut columns = Vec::new(alloc);
     for cell in 0..512 {
-        let changed = flags_of(alloc, program, states, stacks.as_slice(), cell)?;
-        columns.push(Column { changed })?;
+        let (behind, onward) = (stacks.as_slice(), ways.as_slice());
+        let setters = setters_of(alloc, program, states, behind, onward, cell)?;
+        columns.push(Column { setters })?;
     }
     Ok(columns)
 }

@@ -5,10 +5,12 @@
 mod cells;
 mod changes;
 mod edits;
+mod flow;
 mod laws;
 mod loads;
 mod mark;
 mod register;
+mod setters;
 mod stack_transfer;
 mod subject;
 mod transfer;
@@ -16,11 +18,12 @@ mod unit_marks;
 mod ways;
 
 pub use cells::{CellContent, held_at};
-pub use changes::{Column, columns};
+pub use changes::{Column, columns, last_setters};
 pub use edits::{Edit, Trial, operation_of, tried};
 pub use laws::left_is_the_transfer;
 pub use mark::UnitMark;
 pub use register::result_of;
+pub use setters::Setters;
 pub use subject::Subject;
 pub use transfer::left_by;
-pub use unit_marks::{cell_marks, known_by, marks};
+pub use unit_marks::{known_by, marks};

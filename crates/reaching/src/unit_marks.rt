@@ -1,11 +1,8 @@
 //! Finds which units last set a register or a cell of the stack before a given unit (reaching definitions).
 ghost use Rattle.std.specs.Prelude.{◌≡◌, ◌<◌, length, replicate, slice_get, option_map, IfOk};
 ghost use Rattle.insn.specs.Program.{slots_of, instruction_at};
-ghost use Rattle.reaching.specs.declared.subject.Subject.TheVariants.{Cell};
 ghost use Rattle.reaching.specs.Marks.{known_by, mark_of, marks};
-ghost use Rattle.reaching.specs.Columns.{set_by, IsColumn};
 
-use crate::changes::Column;
 use crate::mark::UnitMark;
 use crate::subject::Subject;
 use crate::ways::leads_open;
@@ -73,61 +70,6 @@ pub fn marks(
     for below in 0..unit {
         let place = unit - (below + 1);
         let mark = mark_of(subject, marks.as_slice(), program, states, place);
-        marks[place] = mark;
-    }
-    Ok(marks)
-}
-
-/// Returns the mark of a unit, which says what its instruction does to a cell of the stack. `changed` says whether it
-/// changes what is known of the cell, and `behind` has the marks of all later units.
-fn cell_mark_of(
-    cell: u16,
-    changed: bool,
-    behind: &[UnitMark],
-    program: &Program,
-    states: &[Option<AbsState>],
-    unit: usize,
-) -> UnitMark
-    requires { changed ≡ set_by (Cell cell) (instruction_at program.now unit) (known_by (slice_get states.now unit)) }
-    ensures { result ≡ mark_of (Cell cell) behind.now unit (instruction_at program.now unit)
-        (known_by (slice_get states.now unit)) }
-{
-    let Some(insn) = program.at(unit) else {
-        return UnitMark::Closed;
-    };
-    let Some(_state) = known_by(states, unit) else {
-        return UnitMark::Closed;
-    };
-    if !leads_open(behind, &insn, unit) {
-        return UnitMark::Closed;
-    }
-    if changed {
-        UnitMark::Sets
-    } else {
-        UnitMark::Open
-    }
-}
-
-/// Returns a mark for each unit of a program. The units with the mark `Sets` are those that last set the cell before
-/// the unit `unit`. `column` says which units set the cell at all. Fails if memory runs out.
-pub fn cell_marks(
-    alloc: Global,
-    program: &Program,
-    states: &[Option<AbsState>],
-    column: &Column,
-    cell: u16,
-    unit: usize,
-) -> Result<Vec<UnitMark>, AllocError>
-    requires inside { unit < length (slots_of program.now) }
-    requires column { IsColumn program.now (slice_get states.now) cell column.now }
-    ensures { IfOk result (λ vec. vec.items ≡ marks program.now (slice_get states.now) (Cell cell) unit) }
-{
-    let mut marks = closed(alloc, program.units())?;
-    marks[unit] = UnitMark::Open;
-    for below in 0..unit {
-        let place = unit - (below + 1);
-        let changed = column.is_set_by(place);
-        let mark = cell_mark_of(cell, changed, marks.as_slice(), program, states, place);
         marks[place] = mark;
     }
     Ok(marks)

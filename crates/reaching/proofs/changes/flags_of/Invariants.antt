@@ -1,8 +1,0 @@
-use Rattle.std.proofs.Common.{◌≡◌}
-use Rattle.std.specs.Prelude.{slice_get}
-use Rattle.reaching.specs.declared.subject.Subject.TheVariants.{Cell}
-use Rattle.reaching.specs.Columns.{setting}
-use Rattle.reaching.proofs.changes.flags_of.Given as goal
-
-abbrev pub invariant-loop-unit : goal.invariant-loop-unit
-invariant-loop-unit l = l.changed.items ≡ setting l.program (slice_get l.states) (Cell l.cell) l.unit
