@@ -1,6 +1,7 @@
 -- What is written about a rejection, in its parts.
-use Rattle.std.proofs.Common.{◌≡◌, ◌∙◌, ℕ, suc, ◌+◌, ◌-◌, List, ◌++◌, Bool, true, false, Option, Some, Result, Ok, Err, ap, append_assoc, arith, length, subst, sym}
+use Rattle.std.proofs.Common.{◌≡◌, ◌∙◌, ℕ, suc, ◌+◌, ◌-◌, ◌<◌, List, ◌++◌, Bool, true, false, Option, Some, Result, Ok, Err, ap, append_assoc, arith, length, subst, sym}
 use Rattle.std.specs.Prelude.{OnOk, ◌==◌, if◌then◌else◌}
+use Rattle.std.proofs.lemmas.Bool.{ne_eqb}
 use Rattle.insn.specs.declared.insn.Insn.{Insn}
 use Rattle.insn.specs.Program.{slots_of, instruction_at}
 use Rattle.verify.specs.declared.error.VerifyError.{VerifyError}
@@ -26,6 +27,9 @@ on_ok (Ok x) P Q f h = f h
 on_ok (Err e) P Q f h = tt
 
 -- ---- cells before one with another content
+
+pub some_left : (most : ℕ) → 0 < most → (most == 0) ≡ false
+some_left most some = ne_eqb most 0 (λ e. absurd (omega arith))
 
 abbrev pub apart_text : (ℕ → Holding) → ℕ → ℕ → Holding → ℕ → ℕ → Bool → List ℕ
 apart_text holds most first held place n none =
