@@ -1,5 +1,5 @@
 //! Decides whether some traitors, whatever they say, break a rule, and writes the shortest break as a message table.
-ghost use Rattle.std.specs.Prelude.{◌≡◌, ◌≢◌, IfErr, IfNone, IfOk, IfSome, map, string_bytes};
+ghost use Rattle.std.specs.Prelude.{◌≡◌, ◌≢◌, IfErr, IfNone, IfOk, IfSome, map, string_bytes, true};
 ghost use Rattle.combine.specs.Rule.{combined_by};
 ghost use Rattle.label.specs.Lieutenants.{lieutenants};
 ghost use Rattle.book.specs.Grammar.{is_within};
@@ -50,6 +50,7 @@ pub fn shortest_break(
     rule: Rule,
     most: u8,
 ) -> Result<Option<BreakTable>, BreakError>
+    ensures within { IfOk result (λ _. is_within generals bound (first_asked commander) ≡ true) }
     ensures tolerates { IfOk result (λ found. IfNone found
         (ToleratesAsked (combined_by rule) generals bound most commander)) }
     ensures broken { IfOk result (λ found. IfSome found (λ found. IsBreakTable rule generals bound commander most
