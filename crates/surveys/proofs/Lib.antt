@@ -1,4 +1,5 @@
 pub mod SumLemmas
+pub mod RunningLemmas
 pub mod Rereading
 pub mod Ranges
 pub mod Choosing
