@@ -5,7 +5,6 @@ use Rattle.std.specs.List.{AllZip, range_with_len}
 use Rattle.std.specs.Io.KnownBytes.{Appends}
 use Rattle.std.proofs.lemmas.List.FromFn.{length-range_with_len}
 use Rattle.std.proofs.KnownBytes.{Appends-trans}
-use Rattle.rayon.proofs.ListFacts.{AllZip-append}
 use Rattle.surveys.specs.declared.finding.Finding.{Finding}
 use Rattle.surveys.specs.Family.{Family}
 use Rattle.surveys.specs.Judging.{IsFindingOf}
@@ -16,22 +15,8 @@ use Rattle.surveyor.specs.declared.task.ReportKind.TheVariants.{Sums, Lines, Acc
 use Rattle.surveyor.specs.declared.task.Survey.{Survey}
 use Rattle.surveyor.specs.Kept.{File, Gains, campaign_files}
 use Rattle.surveyor.specs.Printed.{IsPlayed, IsPrinted, IsToldIn, counts_text, head_in, kept_seeds, lines_in, summary_text}
+use Rattle.surveys.proofs.Spans.{zip_both}
 use Rattle.surveyor.proofs.KeptLemmas.{campaigns_gained, no_campaigns, none_gained}
-
--- A range of numbers is its first part followed by its second.
-pub range_both : (a n m : ℕ) → range_with_len a (n + m) ≡ range_with_len a n ++ range_with_len (a + n) m
-range_both a zero m = (let e : a ≡ a + 0 = omega arith in let f : 0 + m ≡ m = omega arith in λ i. range_with_len (e i) (f i))
-range_both a (suc n) m =
-    let e : suc n + m ≡ suc (n + m) = omega arith in
-    let f : a + 1 + n ≡ a + suc n = omega arith in
-    ap (range_with_len a) e ∙ (ap (λ (l : List ℕ). a ∷ l) (range_both (a + 1) n m) ∙ (λ i. a ∷ (range_with_len (a + 1) n ++ range_with_len (f i) m)))
-
-pub zip_both : {B : Type 0} (R : ℕ → B → Type 0) (a b c : ℕ) (xs ys : List B) → a ≤ b → b ≤ c → AllZip R (range_with_len a (b - a)) xs → AllZip R (range_with_len b (c - b)) ys → AllZip R (range_with_len a (c - a)) (xs ++ ys)
-zip_both R a b c xs ys low high h k =
-    let whole : c - a ≡ (b - a) + (c - b) = omega arith in
-    let middle : a + (b - a) ≡ b = omega arith in
-    let cut : range_with_len a (c - a) ≡ range_with_len a (b - a) ++ range_with_len b (c - b) = ap (range_with_len a) whole ∙ (range_both a (b - a) (c - b) ∙ (λ i. range_with_len a (b - a) ++ range_with_len (middle i) (c - b))) in
-    subst (λ (l : List ℕ). AllZip R l (xs ++ ys)) (sym cut) (AllZip-append R (range_with_len a (b - a)) (range_with_len b (c - b)) xs ys h k)
 
 texts_both : (xs ys : List Finding) → flat_map line_text (xs ++ ys) ≡ flat_map line_text xs ++ flat_map line_text ys
 texts_both [] ys = refl
