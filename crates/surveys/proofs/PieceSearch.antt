@@ -11,11 +11,11 @@ use Rattle.surveys.proofs.BreachesFound.{first_or_later}
 use Rattle.surveys.proofs.Ranks.{least_of_both}
 use Rattle.surveys.proofs.Spans.{zip_both}
 
--- The seeds from `first` to `next` - 1 are searched, and `least` is the least campaign that was found.
-pub record IsSearched (plots : ℕ → Plot) (first next end : ℕ) (least : Option Breach) : Type 0 where
+-- The seeds from `first` to `next` - 1 are searched, and `so_far` is the least campaign that was found.
+pub record IsSearched (plots : ℕ → Plot) (first next end : ℕ) (so_far : Option Breach) : Type 0 where
   pub from : first ≤ next
   pub until : next ≤ max first end
-  pub least : IsLeastBreach plots first next least
+  pub least : IsLeastBreach plots first next so_far
 
 pub none_searched : (plots : ℕ → Plot) (first next end : ℕ) (least : Option Breach) → next ≡ first → least ≡ None → IsSearched plots first next end least
 none_searched plots first next end least is none =

@@ -22,6 +22,6 @@ returns-clause-least g c =
 pub returns-in_err-found-clause-refused : goal.returns-in_err-found-clause-refused
 returns-in_err-found-clause-refused g c =
     let a = c.min-until.ensures in
-    let p = err_from_is_err_and c.from_residual-in_err-found.result c.from_residual-in_err-found.ensures.1 in
+    let p = err_from_is_err_and c.from_residual.result c.from_residual.ensures.1 in
     let high : c.min-until.result ≤ c.args.end = omega arith in
     rw (p.1, p.2) (λ other. refused_in_piece (plot_of c.args.family.now) c.args.first c.loop-next.next c.min-until.result c.args.end c.loop-next.so_far c.in_err-found.field-0.0 c.loop-next.invariant high (c.in_err-found.ensures.refused other))
