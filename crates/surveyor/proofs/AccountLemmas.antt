@@ -15,7 +15,7 @@ use Rattle.surveyor.specs.declared.task.ReportKind.TheVariants.{Accounts}
 use Rattle.surveyor.specs.declared.task.Survey.{Survey}
 use Rattle.surveyor.specs.Kept.{File, Gains, campaign_files}
 use Rattle.surveyor.specs.Printed.{IsPrinted, IsToldIn, kept_seeds}
-use Rattle.surveyor.proofs.Going.{zip_both}
+use Rattle.surveys.proofs.Spans.{zip_both}
 use Rattle.surveyor.proofs.KeptLemmas.{campaigns_gained, no_campaigns, none_gained}
 
 abbrev pub findings : List Account → List Finding

@@ -12,7 +12,7 @@ use Rattle.surveys.specs.Breaches.{IsBreaking, NoneBreaks}
 use Rattle.surveys.specs.Breakings.{breaking_text}
 use Rattle.surveyor.specs.declared.task.Survey.{Survey}
 use Rattle.surveyor.specs.Broken.{Entry, IsBroken, IsEntry, IsSearched, break_header, cut_to, entries_text, entry_text, gap, later_text, sizes_of, sizes_with}
-use Rattle.surveyor.proofs.Going.{range_both}
+use Rattle.surveys.proofs.Spans.{range_both}
 
 -- Adding one more element appends its text.
 flat_more : {A : Type 0} (F : A → List ℕ) (xs : List A) (x : A) → flat_map F (xs ++ x ∷ []) ≡ flat_map F xs ++ F x

@@ -10,7 +10,7 @@ use Rattle.surveys.proofs.Ranks.{least_of_both}
 use Rattle.surveyor.specs.declared.task.Survey.{Survey}
 use Rattle.surveyor.specs.Kept.{File, Gains, breach_files}
 use Rattle.surveyor.specs.Printed.{IsLeastKept}
-use Rattle.surveyor.proofs.Going.{zip_both}
+use Rattle.surveys.proofs.Spans.{zip_both}
 use Rattle.surveyor.proofs.KeptLemmas.{breaches_gained, no_breaches, none_gained}
 
 -- The campaigns before the seed `next` are reduced, and the reduced ones are written to files.

@@ -1,6 +1,6 @@
 -- Defines what a survey prints about its campaigns, and which campaigns it writes to files (docs/FORMATS.md,
 -- "Surveys").
-use Rattle.std.specs.Prelude.{ℕ, ◌≡◌, ◌+◌, Bool, true, false, cond, List, [], ◌∷◌, ◌++◌, length, map, flat_map, decimal, codes, Option, None, Some}
+use Rattle.std.specs.Prelude.{ℕ, ◌≡◌, ◌+◌, Bool, true, false, cond, List, [], ◌∷◌, ◌++◌, length, map, filter, flat_map, decimal, codes, Option, None, Some}
 use Rattle.std.specs.List.{AllZip}
 use Rattle.std.specs.Io.KnownBytes.{Appends}
 use Rattle.rayon.specs.Numbers.{nat_range}
@@ -12,13 +12,14 @@ use Rattle.surveys.specs.Accounting.{IsAccountOf, account_text}
 use Rattle.surveys.specs.Judging.{IsFindingOf}
 use Rattle.surveys.specs.Lines.{line_text}
 use Rattle.surveys.specs.Plotting.{plot_of}
-use Rattle.surveys.specs.Sums.{is_sound, sums_of}
+use Rattle.surveys.specs.Sums.{is_sound}
 use Rattle.surveys.specs.Wording.{campaign_text, plot_text}
 use Rattle.surveys.specs.Counts.{sums_text}
 use Rattle.surveys.specs.Covering.{seeds_in}
 use Rattle.surveys.specs.Csv.{csv_text}
-use Rattle.surveys.specs.Groups.{groups_of}
+use Rattle.surveys.specs.Groups.{is_occupied}
 use Rattle.surveys.specs.Pictures.{picture_text}
+use Rattle.surveys.specs.Running.{Counts, counts_of}
 use Rattle.surveys.specs.Tables.{table_text}
 use Rattle.surveys.specs.declared.breach.Breach.{Breach}
 use Rattle.surveys.specs.Breaches.{IsLeastOf, IsShrunk, statements}
@@ -29,25 +30,24 @@ use Rattle.surveyor.specs.declared.task.Survey.{Survey}
 use Rattle.surveyor.specs.Kept.{File, Gains, breach_files, campaign_files}
 use Rattle.surveyor.specs.Words.{IsFamilyOf}
 
--- Returns the summary of campaigns, which is printed at the end. It depends on the form of output.
+-- Returns the summary with these counts, which is printed at the end. It depends on the form of output.
+abbrev pub counts_text : ReportKind → Counts → List ℕ
+counts_text Sums c = sums_text c.sums
+counts_text Table c = table_text (filter is_occupied c.groups)
+counts_text Csv c = csv_text (filter is_occupied c.groups)
+counts_text Picture c = picture_text (filter is_occupied c.groups)
+counts_text Lines c = []
+counts_text Accounts c = []
+counts_text Least c = []
+
+-- Returns the summary of campaigns.
 abbrev pub summary_text : ReportKind → List Finding → List ℕ
-summary_text Sums found = sums_text (sums_of found)
-summary_text Table found = table_text (groups_of found)
-summary_text Csv found = csv_text (groups_of found)
-summary_text Picture found = picture_text (groups_of found)
-summary_text Lines found = []
-summary_text Accounts found = []
-summary_text Least found = []
+summary_text shape found = counts_text shape (counts_of found)
 
 -- Returns a line for each of these campaigns with `--lines`. Returns no text in any other form of output.
 abbrev pub lines_in : ReportKind → List Finding → List ℕ
 lines_in Lines found = flat_map line_text found
 lines_in _ found = []
-
--- Returns the results that are summed at the end: none with `--lines`, and otherwise all.
-abbrev pub added : ReportKind → List Finding → List Finding
-added Lines found = []
-added _ found = found
 
 -- Returns the first line of the output of `--lines`, which describes the family. Returns no text in any other form of
 -- output.

@@ -12,7 +12,7 @@ use crate::printer::put_summary;
 use crate::task::Merge;
 use std::alloc::{AllocError, Global};
 use streams::{FileName, Output};
-use surveys::{Finding, PartError, Parts, Stretch, doubles, holes, read_part};
+use surveys::{Finding, PartError, Parts, RunningCounts, Stretch, doubles, holes, read_part};
 
 /// Reads the lines that `--lines` printed into several files, and prints the summary of all their campaigns. Reports on
 /// `error`, which is standard error, which seeds are missing, and which occur more than once. Returns the exit status:
@@ -35,7 +35,9 @@ pub fn summed<O: Output, F: Output>(
     let alloc = rt.alloc();
     let parts = told(rt, asked)?;
     let findings = parts.findings.as_slice();
-    put_summary(alloc, out, asked.shape, findings)?;
+    let mut counts = RunningCounts::new(alloc)?;
+    counts.add(alloc, findings)?;
+    put_summary(alloc, out, asked.shape, &counts)?;
     covered(alloc, error, asked.seeds, findings)
 }
 

@@ -7,7 +7,7 @@ ghost use Rattle.surveys.specs.Judging.{IsRefusedIn};
 ghost use Rattle.surveyor.specs.Ends.{IsStopped, IsUnsurveyed};
 ghost use Rattle.surveyor.specs.Faults.{IsKeptIn, IsUnkeptIn, IsUnprinted};
 ghost use Rattle.surveyor.specs.Kept.{Gains, campaign_file, campaign_files};
-ghost use Rattle.surveyor.specs.Printed.{IsPrinted, IsSurveyed, added, broken_seeds, head_in, kept_seeds, lines_in};
+ghost use Rattle.surveyor.specs.Printed.{IsPrinted, IsSurveyed, broken_seeds, head_in, kept_seeds, lines_in};
 
 use crate::accounts::accounted;
 use crate::family::family_of;
@@ -23,7 +23,8 @@ use std::alloc::{AllocError, Global};
 use std::thread::Threads;
 use streams::Output;
 use surveys::{
-    Family, Finding, campaign_text, failed_in, head, is_sound, lines_text, seeds_in, survey,
+    Family, Finding, RunningCounts, campaign_text, failed_in, head, is_sound, lines_text, seeds_in,
+    survey,
 };
 
 /// Plays a campaign for each seed of a survey, and prints what the survey asks for, such as a summary, a line for each
@@ -85,7 +86,7 @@ fn played<T: Threads + Sync, O: Output, K: Keeper>(
     let alloc = rt.alloc();
     let end = asked.last + 1;
     let many = at_once(asked.generals.high);
-    let mut all: Vec<Finding> = Vec::new(alloc);
+    let mut counts = RunningCounts::new(alloc)?;
     let mut next = asked.first;
     let mut broken: u64 = 0;
     let mut progress = SurveyProgress::of(rt, asked.first, asked.last);
@@ -99,13 +100,12 @@ fn played<T: Threads + Sync, O: Output, K: Keeper>(
         put_lines(rt, out, asked.shape, found.as_slice())?;
         let seeds = kept_seeds(alloc, asked.keeps_all, found.as_slice())?;
         keep_all(rt, keeper, asked, family, seeds.as_slice())?;
-        add(asked.shape, &mut all, found.as_slice())?;
+        counts.add(alloc, found.as_slice())?;
         broken = broken.saturating_add(failed_in(found.as_slice()));
         next = until;
         progress.tell(next.saturating_sub(1), broken)?;
     }
-    let told = all.as_slice();
-    put_summary(alloc, out, asked.shape, told)
+    put_summary(alloc, out, asked.shape, &counts)
 }
 
 /// Returns the seeds of the campaigns that are written to files: of all campaigns if `keeps_all` is set, and otherwise
@@ -144,23 +144,6 @@ fn broken_seeds(alloc: Global, found: &[Finding]) -> Result<Vec<u64>, AllocError
         }
     }
     Ok(seeds)
-}
-
-/// Appends the results of a piece of the survey to the results that are summed at the end. Does nothing if only lines
-/// are printed, since they need no sum.
-///
-/// # Errors
-///
-/// Fails if memory runs out.
-fn add(shape: ReportKind, all: &mut Vec<Finding>, found: &[Finding]) -> Result<(), SurveyFailure>
-    ensures added { OnOk result (all.new.items ≡ all.old.items ++ added shape found.now) }
-    ensures memory { IfErr result (λ fault. fault ≡ SurveyFailure.Memory) }
-{
-    if shape == ReportKind::Lines {
-        return Ok(());
-    }
-    all.extend_from_slice(found)?;
-    Ok(())
 }
 
 /// Prints the first line of the output of `--lines`, which describes the family. Prints nothing if another form is

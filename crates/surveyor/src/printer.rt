@@ -3,14 +3,14 @@ ghost use Rattle.std.specs.Prelude.{◌≡◌, IfErr, IfOk, OnErr, OnOk, string_
 ghost use Rattle.std.specs.Io.KnownBytes.{Appends};
 ghost use Rattle.streams.specs.Writing.{AppendsFront};
 ghost use Rattle.surveyor.specs.Faults.{IsUnprinted, unprinted};
-ghost use Rattle.surveyor.specs.Printed.{summary_text};
+ghost use Rattle.surveyor.specs.Printed.{counts_text};
 
 use crate::fault::SurveyFailure;
 use crate::task::ReportKind;
 use std::alloc::{AllocError, Global};
 use std::io::ErrorKind;
 use streams::Output;
-use surveys::{Finding, csv_table, picture, sums_text, table};
+use surveys::{RunningCounts, csv_table, picture, sums_text, table};
 
 /// Prints a text to `out`, which is standard output. If that fails, only the first bytes of the text may have been
 /// printed.
@@ -42,26 +42,26 @@ pub fn unprinted(kind: ErrorKind) -> SurveyFailure
     }
 }
 
-/// Returns the summary of campaigns in the form that `shape` names. It is empty for `Lines`, `Accounts` and `Least`,
-/// which have no summary.
+/// Returns the summary with these counts in the form that `shape` names. It is empty for `Lines`, `Accounts` and
+/// `Least`, which have no summary.
 ///
 /// # Errors
 ///
 /// Fails with `AllocError` if memory runs out.
-fn summary(alloc: Global, shape: ReportKind, findings: &[Finding]) -> Result<String, AllocError>
-    ensures { IfOk result (λ text. string_bytes text ≡ summary_text shape findings.now) }
+fn summary(alloc: Global, shape: ReportKind, counts: &RunningCounts) -> Result<String, AllocError>
+    ensures { IfOk result (λ text. string_bytes text ≡ counts_text shape counts.now) }
 {
     match shape {
-        ReportKind::Sums => sums_text(alloc, findings),
-        ReportKind::Table => table(alloc, findings),
-        ReportKind::Csv => csv_table(alloc, findings),
-        ReportKind::Picture => picture(alloc, findings),
+        ReportKind::Sums => sums_text(alloc, counts.sums()),
+        ReportKind::Table => table(alloc, counts.groups(alloc)?.as_slice()),
+        ReportKind::Csv => csv_table(alloc, counts.groups(alloc)?.as_slice()),
+        ReportKind::Picture => picture(alloc, counts.groups(alloc)?.as_slice()),
         ReportKind::Lines | ReportKind::Accounts | ReportKind::Least => Ok(String::new(alloc)),
     }
 }
 
-/// Prints the summary of campaigns in the form that `shape` names. Prints nothing for `Lines`, `Accounts` and `Least`,
-/// which have no summary.
+/// Prints the summary with these counts in the form that `shape` names. Prints nothing for `Lines`, `Accounts` and
+/// `Least`, which have no summary.
 ///
 /// # Errors
 ///
@@ -70,11 +70,11 @@ pub fn put_summary<O: Output>(
     alloc: Global,
     out: &mut O,
     shape: ReportKind,
-    findings: &[Finding],
+    counts: &RunningCounts,
 ) -> Result<(), SurveyFailure>
-    ensures written { OnOk result (Appends (O.contents out.old) (O.contents out.new) (summary_text shape findings.now)) }
+    ensures written { OnOk result (Appends (O.contents out.old) (O.contents out.new) (counts_text shape counts.now)) }
     ensures refused { IfErr result IsUnprinted }
 {
-    let text = summary(alloc, shape, findings)?;
+    let text = summary(alloc, shape, counts)?;
     print(out, text.as_str())
 }

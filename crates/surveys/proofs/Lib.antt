@@ -1,4 +1,5 @@
 pub mod SumLemmas
+pub mod RunningLemmas
 pub mod Rereading
 pub mod Ranges
 pub mod Choosing
@@ -23,6 +24,8 @@ pub mod Rising
 pub mod Exactness
 pub mod Apart
 pub mod Pieces
+pub mod Spans
+pub mod PieceSearch
 pub mod Intervals
 pub mod CommanderMember
 pub mod AccountTexts

@@ -16,6 +16,7 @@ pub mod Breaches
 pub mod Counts
 pub mod Covering
 pub mod Groups
+pub mod Running
 pub mod Tables
 pub mod Wilson
 pub mod Csv

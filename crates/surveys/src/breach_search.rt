@@ -124,6 +124,10 @@ pub fn least(found: Vec<Option<Breach>>) -> Option<Breach>
     least
 }
 
+/// How many campaigns are searched before the least of them is chosen, so that the memory of a search does not grow with
+/// the number of seeds.
+const AT_ONCE: u64 = 1024;
+
 /// Returns the least of the reduced campaigns of the seeds from `first` to `end` - 1, by `is_before`. Returns `None` if
 /// IC1 and IC2 hold in all campaigns of these seeds.
 ///
@@ -141,7 +145,15 @@ pub fn least_breach<R: Threads + Sync>(
     ensures least { IfOk result (IsLeastBreach (plot_of family.now) first end) }
     ensures refused { IfErr result (λ e. e ≢ Memory → IsRefusedIn (plot_of family.now) first end e) }
 {
-    Ok(least(breaches(rt, alloc, family, first, end)?))
+    let mut so_far = None;
+    let mut next = first;
+    while next < end {
+        let until = next.saturating_add(AT_ONCE).min(end);
+        let found = breaches(rt, alloc, family, next, until)?;
+        so_far = better(so_far, least(found));
+        next = until;
+    }
+    Ok(so_far)
 }
 
 /// Returns the lesser of the earlier result and the reduced campaign `breach`, which was found with `traitors`

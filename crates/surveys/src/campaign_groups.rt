@@ -1,6 +1,6 @@
 //! Groups the campaigns of a survey by number of generals, bound and number of traitors.
-ghost use Rattle.std.specs.Prelude.{◌≡◌, ◌++◌, IfOk, OnOk};
-ghost use Rattle.surveys.specs.Groups.{failed_in, group_of, groups_by_bound, groups_in, groups_of, of_bound, of_generals, of_traitors};
+ghost use Rattle.std.specs.Prelude.{◌≡◌, ◌++◌, [], ◌∷◌, IfOk, OnOk};
+ghost use Rattle.surveys.specs.Groups.{all_groups, failed_in, group_of, groups_by_bound, groups_in, of_bound, of_generals, of_traitors};
 
 use crate::finding::Finding;
 use crate::group::Group;
@@ -68,7 +68,7 @@ pub fn failed_in(findings: &[Finding]) -> u64
     count
 }
 
-/// Appends the group of the campaigns in `findings` that have `traitors` traitors, if there are any. All campaigns in
+/// Appends the group of the campaigns in `findings` that have `traitors` traitors, which may be empty. All campaigns in
 /// `findings` have `generals` generals and the bound `bound`.
 fn push_group(
     alloc: Global,
@@ -78,12 +78,9 @@ fn push_group(
     bound: u8,
     traitors: u8,
 ) -> Result<(), AllocError>
-    ensures { OnOk result (groups.new.items ≡ groups.old.items ++ group_of generals bound findings.now traitors) }
+    ensures { OnOk result (groups.new.items ≡ groups.old.items ++ group_of generals bound findings.now traitors ∷ []) }
 {
     let some = of_traitors(alloc, findings, traitors)?;
-    if some.len() == 0 {
-        return Ok(());
-    }
     groups.push(Group {
         generals,
         bound,
@@ -94,8 +91,8 @@ fn push_group(
     Ok(())
 }
 
-/// Appends a group for each number of traitors, 0 to 13, that occurs in `findings`. All campaigns in `findings` have
-/// `generals` generals and the bound `bound`.
+/// Appends a group for each number of traitors, 0 to 13. All campaigns in `findings` have `generals` generals and the
+/// bound `bound`.
 #[tactic(auto, unfolding(crate::specs::Groups::groups_in))]
 fn push_groups(
     alloc: Global,
@@ -112,8 +109,8 @@ fn push_groups(
     Ok(())
 }
 
-/// Appends the groups of the campaigns in `findings` that have the bound `bound`: one for each number of traitors that
-/// occurs. All campaigns in `findings` have `generals` generals.
+/// Appends the groups of the campaigns in `findings` that have the bound `bound`: one for each number of traitors. All
+/// campaigns in `findings` have `generals` generals.
 fn push_bound(
     alloc: Global,
     groups: &mut Vec<Group>,
@@ -128,8 +125,8 @@ fn push_bound(
     push_groups(alloc, groups, some.as_slice(), generals, bound)
 }
 
-/// Appends a group for each combination of a bound, 0 to 4, and a number of traitors that occurs in `findings`. All
-/// campaigns in `findings` have `generals` generals.
+/// Appends a group for each combination of a bound, 0 to 4, and a number of traitors, 0 to 13. All campaigns in
+/// `findings` have `generals` generals.
 #[tactic(auto, unfolding(crate::specs::Groups::groups_by_bound))]
 fn push_bounds(
     alloc: Global,
@@ -145,8 +142,8 @@ fn push_bounds(
     Ok(())
 }
 
-/// Appends the groups of the campaigns in `findings` that have `generals` generals: one for each combination of bound
-/// and number of traitors that occurs.
+/// Appends the groups of the campaigns in `findings` that have `generals` generals: one for each combination of a bound
+/// and a number of traitors.
 fn push_generals(
     alloc: Global,
     groups: &mut Vec<Group>,
@@ -160,16 +157,15 @@ fn push_generals(
     push_bounds(alloc, groups, some.as_slice(), generals)
 }
 
-/// Returns a group for each combination of number of generals, bound and number of traitors that occurs in `findings`,
-/// in ascending order of the three. Campaigns with more than 13 generals or traitors or with a bound above 4 are left
-/// out.
+/// Returns a group for each combination of a number of generals, 0 to 13, a bound, 0 to 4, and a number of traitors, 0 to
+/// 13, in ascending order of the three. A group is empty if no campaign in `findings` has its numbers.
 ///
 /// # Errors
 ///
 /// Fails with `AllocError` if it runs out of memory.
-#[tactic(auto, unfolding(crate::specs::Groups::groups_of))]
-pub fn groups(alloc: Global, findings: &[Finding]) -> Result<Vec<Group>, AllocError>
-    ensures { IfOk result (λ groups. groups.items ≡ groups_of findings.now) }
+#[tactic(auto, unfolding(crate::specs::Groups::all_groups))]
+pub fn all_groups(alloc: Global, findings: &[Finding]) -> Result<Vec<Group>, AllocError>
+    ensures { IfOk result (λ groups. groups.items ≡ all_groups findings.now) }
 {
     let mut groups = Vec::new(alloc);
     for generals in 0..14 {

@@ -1,13 +1,11 @@
 //! Writes the counts of a survey's outcomes as lines, and a line for each of its campaigns.
 ghost use Rattle.std.specs.Prelude.{◌≡◌, ◌++◌, IfOk, OnOk, flat_map, string_bytes};
 ghost use Rattle.surveys.specs.Lines.{line_text};
-ghost use Rattle.surveys.specs.Sums.{sums_of};
 ghost use Rattle.surveys.specs.Counts.{campaigns_text, sums_text, tally_text};
 
 use crate::finding::Finding;
 use crate::lines::put_line;
-use crate::summation::sums_of;
-use crate::sums::Tally;
+use crate::sums::{Sums, Tally};
 use std::alloc::{AllocError, Global};
 
 /// Appends the line of an outcome, such as `agreement broken 3 first seed 17`. The seed is the least of a campaign with
@@ -36,10 +34,9 @@ fn put_campaigns(out: &mut String, campaigns: u64) -> Result<(), AllocError>
 ///
 /// Fails with `AllocError` if it runs out of memory.
 #[tactic(auto, unfolding(crate::specs::Counts::sums_text))]
-pub fn sums_text(alloc: Global, findings: &[Finding]) -> Result<String, AllocError>
-    ensures { IfOk result (λ text. string_bytes text ≡ sums_text (sums_of findings.now)) }
+pub fn sums_text(alloc: Global, sums: Sums) -> Result<String, AllocError>
+    ensures { IfOk result (λ text. string_bytes text ≡ sums_text sums) }
 {
-    let sums = sums_of(findings);
     let mut out = String::new(alloc);
     put_campaigns(&mut out, sums.campaigns)?;
     put_tally(&mut out, "bound kept", sums.kept)?;

@@ -1,12 +1,9 @@
 //! Writes the counts of a survey's outcomes as CSV.
 ghost use Rattle.std.specs.Prelude.{◌≡◌, ◌++◌, IfOk, OnOk, flat_map, string_bytes};
 ghost use Rattle.surveys.specs.Csv.{csv_cell, csv_header, csv_number, csv_row, csv_text, interval_text, share_text};
-ghost use Rattle.surveys.specs.Groups.{groups_of};
 ghost use Rattle.surveys.specs.Tables.{cells_of};
 
-use crate::campaign_groups::groups;
 use crate::cell::NumberCell;
-use crate::finding::Finding;
 use crate::group::Group;
 use crate::number_text::put_number;
 use crate::sums_table::cells_of;
@@ -104,19 +101,17 @@ fn csv_header() -> &'static str
      disobeyed_first,failed,failed_low,failed_high\n"
 }
 
-/// Returns the counts of the campaigns' outcomes as CSV. It has a row for each combination of number of generals, bound
-/// and number of traitors that occurs. A row has the numbers of `table` and Wilson's interval for the share of the
-/// failed campaigns.
+/// Returns the counts of these groups of campaigns as CSV, with a row for each. A row has the numbers of `table` and
+/// Wilson's interval for the share of the failed campaigns.
 ///
 /// # Errors
 ///
 /// Fails with `AllocError` if it runs out of memory.
-pub fn csv_table(alloc: Global, findings: &[Finding]) -> Result<String, AllocError>
-    ensures { IfOk result (λ text. string_bytes text ≡ csv_text (groups_of findings.now)) }
+pub fn csv_table(alloc: Global, groups: &[Group]) -> Result<String, AllocError>
+    ensures { IfOk result (λ text. string_bytes text ≡ csv_text groups.now) }
 {
-    let groups = groups(alloc, findings)?;
     let mut out = String::new(alloc);
     out.push_str(csv_header())?;
-    put_rows(&mut out, groups.as_slice())?;
+    put_rows(&mut out, groups)?;
     Ok(out)
 }

@@ -1,11 +1,8 @@
 //! Draws, as a picture in SVG, how often agreement or obedience fails in a survey's campaigns, by the number of
 //! traitors.
 ghost use Rattle.std.specs.Prelude.{◌≡◌, ◌++◌, ◌<◌, IfOk, None, OnOk, string_bytes};
-ghost use Rattle.surveys.specs.Groups.{groups_of};
 ghost use Rattle.surveys.specs.Pictures.{bar, base, begins, cell, cells, column, columns, counts, grounds, head, kept, label, limit, name, percent, picture_text, place, rise, rows_of, share_of, side, size, stand, start, start_of};
 
-use crate::campaign_groups::groups;
-use crate::finding::Finding;
 use crate::group::Group;
 use std::alloc::{AllocError, Global};
 
@@ -288,9 +285,15 @@ fn put_groups(out: &mut String, groups: &[Group]) -> Result<(), AllocError>
     Ok(())
 }
 
-/// Returns the picture of these groups in SVG.
+/// Returns a picture of these groups of campaigns in SVG. It has a row for each combination of number of generals and
+/// bound that occurs, and a column for each number of traitors. A bar shows the share of campaigns in which the loyal
+/// lieutenants do not decide alike or do not obey a loyal commander.
+///
+/// # Errors
+///
+/// Fails with `AllocError` if it runs out of memory.
 #[tactic(auto, unfolding(crate::specs::Pictures::picture_text))]
-fn drawn(alloc: Global, groups: &[Group]) -> Result<String, AllocError>
+pub fn picture(alloc: Global, groups: &[Group]) -> Result<String, AllocError>
     ensures { IfOk result (λ text. string_bytes text ≡ picture_text groups.now) }
 {
     let mut out = String::from_str(alloc, start())?;
@@ -301,18 +304,4 @@ fn drawn(alloc: Global, groups: &[Group]) -> Result<String, AllocError>
     put_groups(&mut out, groups)?;
     out.push_str("</svg>\n")?;
     Ok(out)
-}
-
-/// Returns a picture of the campaigns' results in SVG. It has a row for each combination of number of generals and
-/// bound that occurs, and a column for each number of traitors. A bar shows the share of campaigns in which the loyal
-/// lieutenants do not decide alike or do not obey a loyal commander.
-///
-/// # Errors
-///
-/// Fails with `AllocError` if it runs out of memory.
-pub fn picture(alloc: Global, findings: &[Finding]) -> Result<String, AllocError>
-    ensures { IfOk result (λ text. string_bytes text ≡ picture_text (groups_of findings.now)) }
-{
-    let groups = groups(alloc, findings)?;
-    drawn(alloc, groups.as_slice())
 }

@@ -1,12 +1,9 @@
 //! Writes the counts of a survey's outcomes as a table.
 ghost use Rattle.std.specs.Prelude.{◌≡◌, ◌++◌, IfOk, OnOk, flat_map, string_bytes};
-ghost use Rattle.surveys.specs.Groups.{groups_of};
 ghost use Rattle.surveys.specs.Tables.{cells_of, group_text, header, table_text};
 
-use crate::campaign_groups::groups;
 use crate::cell::NumberCell;
 use crate::cells::put_row;
-use crate::finding::Finding;
 use crate::group::Group;
 use std::alloc::{AllocError, Global};
 
@@ -74,18 +71,16 @@ fn header() -> &'static str
     " generals bound traitors campaigns     kept   first   broken   first disobeyed   first   failed\n"
 }
 
-/// Returns the counts of the campaigns' outcomes as a table. It has a row for each combination of number of generals,
-/// bound and number of traitors that occurs.
+/// Returns the counts of these groups of campaigns as a table, with a row for each.
 ///
 /// # Errors
 ///
 /// Fails with `AllocError` if it runs out of memory.
-pub fn table(alloc: Global, findings: &[Finding]) -> Result<String, AllocError>
-    ensures { IfOk result (λ text. string_bytes text ≡ table_text (groups_of findings.now)) }
+pub fn table(alloc: Global, groups: &[Group]) -> Result<String, AllocError>
+    ensures { IfOk result (λ text. string_bytes text ≡ table_text groups.now) }
 {
-    let groups = groups(alloc, findings)?;
     let mut out = String::new(alloc);
     out.push_str(header())?;
-    put_groups(&mut out, groups.as_slice())?;
+    put_groups(&mut out, groups)?;
     Ok(out)
 }

@@ -1,7 +1,7 @@
 use Rattle.std.proofs.Common.{ℕ, []}
 use Rattle.surveys.specs.Groups.{groups_by_bound, of_generals}
 use Rattle.surveys.proofs.Pieces.{pieces_on}
-use Rattle.surveys.proofs.campaign_groups.groups.Goals as goal
+use Rattle.surveys.proofs.campaign_groups.all_groups.Goals as goal
 
 pub loop-generals-preserved : goal.loop-generals-preserved
 loop-generals-preserved c =
