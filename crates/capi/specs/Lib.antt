@@ -9,3 +9,4 @@ pub mod Owned
 pub mod Loads
 pub mod Helpers
 pub mod Messages
+pub mod Objects

@@ -12,6 +12,8 @@ mod kept;
 mod loaded;
 mod loads;
 mod messages;
+mod object_exports;
+mod object_fault;
 mod outcome;
 mod padded;
 mod parts;
