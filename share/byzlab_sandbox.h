@@ -10,10 +10,11 @@
  *
  * The caller must ensure the following, which nothing checks:
  *
- * - Each pointer points to memory of the given size, is aligned for its type, and is not NULL. Only a pointer with a size
- *   next to it may be NULL, and only if this size is 0. It then has the effect that is described for the function, and
- *   nothing else is read or written at it (this is tested, and not proved).
- * - So NULL for board, fault, outcome, needed or loaded is undefined, at every status. It most likely ends the process.
+ * - Each pointer points to memory of the given size, is aligned for its type, and is not NULL, with two exceptions. The
+ *   fault may always be NULL: it is then not written (this is proved). And a pointer with a size next to it may be NULL if
+ *   this size is 0. It then has the effect that is described for the function, and nothing else is read or written at it
+ *   (this is tested, and not proved).
+ * - So NULL for board, outcome, needed or loaded is undefined, at every status. It most likely ends the process.
  * - The memory that a function writes (fault, outcome, outcomes, board, text, needed, loaded, and byzlab_object's
  *   program) does not overlap any other argument, and no other thread reads or writes it during the call. No other thread
  *   writes the memory that a function only reads (program, context, contexts, object, entry) during the call.
@@ -104,7 +105,7 @@ enum byzlab_number {
 
 /*
  * Why bytes are not accepted (at the statuses 1 and 2), which helper is not allowed and where it is called (at 6), or why
- * an object has no program (at 7). At other statuses it is unchanged.
+ * an object has no program (at 7). At other statuses it is unchanged. A caller that does not ask passes NULL.
  */
 struct byzlab_fault {
     uint32_t number;

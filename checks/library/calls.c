@@ -458,6 +458,33 @@ static void without(void) {
     WANT(needed == 0);
 }
 
+/* NULL for the fault: all is as with a fault, which is not written. */
+static void without_fault(void) {
+    static const uint8_t context[BYZLAB_CONTEXT_BYTES];
+    uint64_t board[BYZLAB_BOARD_WORDS] = {0};
+    struct byzlab_outcome outcome = {111, 222};
+    struct byzlab_program loaded = {0};
+    uint8_t program[64];
+    size_t needed = 0;
+    WANT(byzlab_verify(answer, 16, NULL) == BYZLAB_DONE && byzlab_verify(unset, 16, NULL) == BYZLAB_REFUSED);
+    WANT(byzlab_verify(answer, 15, NULL) == BYZLAB_MISSPELT && byzlab_verify(NULL, 0, NULL) == BYZLAB_MISSPELT);
+    WANT(byzlab_run(answer, 16, context, sizeof context, board, NULL, &outcome) == BYZLAB_DONE && outcome.r0 == 42);
+    WANT(byzlab_run(answer, 16, context, 1, board, NULL, &outcome) == BYZLAB_LENGTH);
+    WANT(byzlab_run(unset, 16, context, sizeof context, board, NULL, &outcome) == BYZLAB_REFUSED);
+    WANT(byzlab_run_many(answer, 16, context, sizeof context, NULL, &outcome, 1) == BYZLAB_DONE && outcome.steps == 2);
+    WANT(byzlab_run_many(unset, 16, NULL, 0, NULL, NULL, 0) == BYZLAB_REFUSED);
+    WANT(byzlab_load(adds, 56, BYZLAB_NO_HELPERS, &loaded, NULL) == BYZLAB_FORBIDDEN && !loaded.full);
+    WANT(byzlab_load(adds, 55, BYZLAB_NO_HELPERS, &loaded, NULL) == BYZLAB_MISSPELT && !loaded.full);
+    WANT(byzlab_load(adds, 56, BYZLAB_ALL_HELPERS, &loaded, NULL) == BYZLAB_DONE && loaded.full);
+    byzlab_unload(&loaded);
+    WANT(byzlab_explain(unset, 16, NULL, 0, &needed, NULL) == BYZLAB_REFUSED && needed > 10);
+    WANT(byzlab_explain(unset, 15, NULL, 0, &needed, NULL) == BYZLAB_MISSPELT);
+    WANT(byzlab_disassemble(unset, 16, NULL, 0, &needed, NULL) == BYZLAB_DONE && needed == 16);
+    WANT(byzlab_disassemble(unset, 15, NULL, 0, &needed, NULL) == BYZLAB_MISSPELT && needed == 16);
+    WANT(byzlab_object(object, object_length, "plain", 5, program, 64, &needed, NULL) == BYZLAB_DONE && needed == 16);
+    WANT(byzlab_object(object, object_length, "none", 4, program, 64, &needed, NULL) == BYZLAB_OBJECT_FAULT);
+}
+
 static void *all(void *none) {
     misspelt();
     refused();
@@ -472,6 +499,7 @@ static void *all(void *none) {
     objects();
     without_program();
     without();
+    without_fault();
     WANT(byzlab_version() == BYZLAB_VERSION);
     return none;
 }

@@ -10,3 +10,4 @@ pub mod Loads
 pub mod Helpers
 pub mod Messages
 pub mod Objects
+pub mod FaultPlaces

@@ -3,9 +3,11 @@
 //! calls promise.
 #![tactic(auto)]
 
+mod answer;
 mod buffer;
 mod decoder;
 mod fault;
+mod fault_place;
 mod helpers;
 mod host;
 mod kept;

@@ -3,8 +3,9 @@ ghost use Rattle.std.specs.Prelude.{◌≡◌, ◌⊎◌, ℕ, List, MatchResult
 ghost use Rattle.object.specs.Symbol.{asked};
 ghost use Rattle.capi.specs.Objects.{given, IsEntry, HasFault, IsFaulty, GivesProgram, NeedsRoom};
 
+use crate::answer::Answer;
 use crate::buffer::put_start;
-use crate::fault::NumberedFault;
+use crate::fault_place::FaultPlace;
 use crate::object_fault::object_fault;
 use crate::status::{DONE, OBJECT_FAULT, ROOM};
 use object::ObjectFault;
@@ -35,35 +36,35 @@ pub extern "C" fn byzlab_object(
     entry: &[u8],
     program: &mut [u8],
     needed: &mut usize,
-    fault: &mut NumberedFault,
-) -> u32
-    ensures known { (result ≡ 0) ⊎ (result ≡ 7) ⊎ (result ≡ 8) }
+    fault: FaultPlace,
+) -> Answer
+    ensures known { (result.status ≡ 0) ⊎ (result.status ≡ 7) ⊎ (result.status ≡ 8) }
 
     // At status 0 the entry's bytecode is written. At status 8 it is longer than `program`. If the entry has bytecode,
     // the status is 0 or 8.
-    ensures given { result ≡ 0 → GivesProgram object.now entry.now program.old program.new needed.new }
-    ensures room { result ≡ 8 → NeedsRoom object.now entry.now (length program.old) needed.new }
-    ensures only { (code : List ℕ) → IsEntry object.now entry.now code → (result ≡ 0) ⊎ (result ≡ 8) }
+    ensures given { result.status ≡ 0 → GivesProgram object.now entry.now program.old program.new needed.new }
+    ensures room { result.status ≡ 8 → NeedsRoom object.now entry.now (length program.old) needed.new }
+    ensures only { (code : List ℕ) → IsEntry object.now entry.now code → (result.status ≡ 0) ⊎ (result.status ≡ 8) }
 
     // At status 7, `fault` has the number of the object's first fault and its place.
-    ensures faulty { result ≡ 7 → IsFaulty object.now entry.now fault.new.number fault.new.unit }
+    ensures faulty { result.status ≡ 7 → IsFaulty object.now entry.now result.fault.number result.fault.unit }
 
     // `fault` changes only at status 7, `program` only at status 0, and `needed` only at status 0 and 8.
-    ensures untold { (result ≡ 7) ⊎ (fault.new ≡ fault.old) }
-    ensures unwritten { (result ≡ 0) ⊎ (program.new ≡ program.old) }
-    ensures unneeded { result ≡ 7 → needed.new ≡ needed.old }
+    ensures untold { (result.status ≡ 7) ⊎ (result.fault ≡ fault.before) }
+    ensures unwritten { (result.status ≡ 0) ⊎ (program.new ≡ program.old) }
+    ensures unneeded { result.status ≡ 7 → needed.new ≡ needed.old }
+
+    // C has the memory of the fault again.
+    ensures returned { result.place ≡ fault.at }
 {
     let code = match bytecode_of(object, entry) {
         Ok(code) => code,
-        Err(found) => {
-            *fault = object_fault(found);
-            return OBJECT_FAULT;
-        }
+        Err(found) => return fault.put(object_fault(found), OBJECT_FAULT),
     };
     *needed = code.len();
     if code.len() > program.len() {
-        return ROOM;
+        return fault.keep(ROOM);
     }
     put_start(program, code);
-    DONE
+    fault.keep(DONE)
 }
