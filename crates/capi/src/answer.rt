@@ -4,8 +4,8 @@ ghost use denote.RawPtr.{Ptr};
 
 use std::marker::Model;
 
-/// The status that a C function returns, with the memory of the fault, which C has again. C receives only the status, as
-/// a `uint32_t`.
+/// The status that a C function returns, with the memory of the fault, which C has again. By the ABI of Linux on x86-64, C
+/// receives it as a `uint32_t`.
 #[repr(C)]
 #[derive(Drop)]
 pub struct Answer {

@@ -13,7 +13,8 @@ use verify::Reason;
 
 /// Why a program is rejected, for C: the number of the fault, and the number of the unit (8 bytes) at which it is.
 /// Faults 1 to 8 are faults of the bytecode, C1 to C8. Faults 101 to 113 are the verifier's reasons, V1 to V13. If a
-/// call of a helper is not allowed, which is status 6, the number is that of the helper.
+/// call of a helper is not allowed, which is status 6, the number is that of the helper. Faults 201 to 209 are faults of an
+/// object, and the unit may be the index of a section or symbol.
 #[repr(C)]
 #[derive(Clone, Copy, Drop)]
 pub struct NumberedFault {
@@ -55,6 +56,17 @@ pub fn reason_number(reason: Reason) -> u32
         Reason::Helper => 111,
         Reason::Argument => 112,
         Reason::ExitPointer => 113,
+    }
+}
+
+/// Returns the status of a refusal for C, 1 to 3.
+pub fn status_of(refusal: BytecodeRefusal) -> u32
+    ensures { result ≡ status_of refusal }
+{
+    match refusal {
+        BytecodeRefusal::Misspelt(_, _) => MISSPELT,
+        BytecodeRefusal::Refused(_, _) => REFUSED,
+        BytecodeRefusal::Memory => MEMORY,
     }
 }
 

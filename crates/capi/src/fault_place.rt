@@ -7,7 +7,8 @@ use crate::answer::Answer;
 use crate::fault::NumberedFault;
 use std::marker::Model;
 
-/// The address at which a C program wants faults, or null if it wants none. This value owns the memory at the address.
+/// The address at which a C program wants faults, or null if it wants none. This value owns the memory at the address. By
+/// the ABI of Linux on x86-64, C passes it as it passes a pointer.
 #[repr(C)]
 #[derive(Drop)]
 pub struct FaultPlace {

@@ -5,11 +5,10 @@ ghost use Rattle.capi.specs.Texts.{GivesExplanation, GivesAssembly};
 
 use crate::answer::Answer;
 use crate::buffer::put_text;
-use crate::decoder::{assembly, explained};
-use crate::fault::tell;
+use crate::decoder::{accepted, assembly, explained};
+use crate::fault::{status_of, tell};
 use crate::fault_place::FaultPlace;
 use crate::status::{DONE, REFUSED};
-use crate::verdict::byzlab_verify;
 use std::alloc::Global;
 
 /// Verifies a program and explains it in `text`: what the verifier knows at each unit and, if it rejects the program,
@@ -50,11 +49,18 @@ pub extern "C" fn byzlab_explain(
         Ok(whole) => whole,
         Err(refusal) => return tell(refusal, fault),
     };
-    let answer = byzlab_verify(alloc, program, fault);
-    if answer.status == DONE || answer.status == REFUSED {
-        put_text(whole.as_bytes(), text, needed);
+    let refusal = match accepted(alloc, program) {
+        Ok(_) => {
+            put_text(whole.as_bytes(), text, needed);
+            return fault.keep(DONE);
+        }
+        Err(refusal) => refusal,
+    };
+    if status_of(refusal) != REFUSED {
+        return tell(refusal, fault);
     }
-    answer
+    put_text(whole.as_bytes(), text, needed);
+    tell(refusal, fault)
 }
 
 /// Disassembles a program into `text`, whether or not the verifier accepts it. The assembly is cut if `text` is too
