@@ -2,10 +2,11 @@
 
 use crate::chronicles::{MessageKind, scenario_of};
 use crate::task::{Workload, report_task};
-use crate::texts::{COLLUDING, idle};
+use crate::texts::{COLLUDING, idle, signing};
 use crate::timing::nanoseconds;
 use anyhow::{Result, bail};
 use round::Scenario;
+use signed_threads::muster_signed;
 use std::rt::Clock;
 use std::sync::Wait;
 use std::thread;
@@ -17,15 +18,41 @@ use threads::{Open, muster};
 /// the campaign cannot be played, the clock cannot be read, or memory runs out.
 pub fn muster_once<R: Clock + Threads + Wait + Sync + AllocGlobal>(
     rt: &R,
+    messages: MessageKind,
     scenario: &Scenario,
 ) -> Result<u64> {
     let copy = scenario.copy(rt.alloc())?;
+    match messages {
+        MessageKind::Oral => oral_muster_once(rt, copy),
+        MessageKind::Signed => signed_muster_once(rt, copy),
+    }
+}
+
+/// Plays an oral campaign once, with a thread for each general, and returns how long this takes in nanoseconds.
+fn oral_muster_once<R: Clock + Threads + Wait + Sync + AllocGlobal>(
+    rt: &R,
+    scenario: Scenario,
+) -> Result<u64> {
     let start = Instant::now(rt)?;
-    let chronicle = muster(rt, rt.alloc(), copy, &Open);
+    let chronicle = muster(rt, rt.alloc(), scenario, &Open);
     let time = nanoseconds(rt, start);
     match chronicle {
         Ok(_) => time,
         Err(_) => bail!("a muster is refused"),
+    }
+}
+
+/// Plays a signed campaign once, with a thread for each general, and returns how long this takes in nanoseconds.
+fn signed_muster_once<R: Clock + Threads + Wait + Sync + AllocGlobal>(
+    rt: &R,
+    scenario: Scenario,
+) -> Result<u64> {
+    let start = Instant::now(rt)?;
+    let chronicle = muster_signed(rt, rt.alloc(), scenario, &Open);
+    let time = nanoseconds(rt, start);
+    match chronicle {
+        Ok(_) => time,
+        Err(_) => bail!("a signed muster is refused"),
     }
 }
 
@@ -59,16 +86,20 @@ fn started_at_once<R: Threads + Wait + Sync>(rt: &R, wanted: u8) -> u64 {
     })
 }
 
-/// Times two campaigns that are played with threads. In one, four of thirteen generals take 4,096 steps in each of
-/// five rounds. In the other, two of seven generals share the board in three rounds.
+/// Times campaigns that are played with threads. In one, four of thirteen generals take 4,096 steps in each of five
+/// rounds. Another has signed messages, which four of thirteen generals sign and pass on. In the last, two of seven
+/// generals share the board in three rounds.
 pub fn report_musters<R: Print + Eprint + Clock + Threads + Wait + Sync + AllocGlobal>(
     rt: &R,
 ) -> Result<()> {
     let text = idle(rt.alloc())?;
     let what = "muster, 13 generals, four idle traitors: 65 letters";
-    report_muster(rt, text.as_str(), what)?;
+    report_muster(rt, MessageKind::Oral, text.as_str(), what)?;
     let what = "threads alone, 13 generals, four idle traitors: 65 letters";
     report_task(rt, what, &Workload::Threads(13, 5))?;
+    let text = signing(rt.alloc())?;
+    let what = "muster, signed, 13 generals, four traitors: 65 letters";
+    report_muster(rt, MessageKind::Signed, text.as_str(), what)?;
     report_musters_of_seven(rt)
 }
 
@@ -77,7 +108,7 @@ fn report_musters_of_seven<R: Print + Eprint + Clock + Threads + Wait + Sync + A
     rt: &R,
 ) -> Result<()> {
     let what = "muster, 7 generals, two colluders: 21 letters";
-    report_muster(rt, COLLUDING, what)?;
+    report_muster(rt, MessageKind::Oral, COLLUDING, what)?;
     let what = "threads alone, 7 generals, two colluders: 21 letters";
     report_task(rt, what, &Workload::Threads(7, 3))
 }
@@ -85,9 +116,10 @@ fn report_musters_of_seven<R: Print + Eprint + Clock + Threads + Wait + Sync + A
 /// Times the campaign whose scenario is `text` when it is played with threads.
 fn report_muster<R: Print + Eprint + Clock + Threads + Wait + Sync + AllocGlobal>(
     rt: &R,
+    messages: MessageKind,
     text: &str,
     what: &str,
 ) -> Result<()> {
-    let scenario = scenario_of(rt.alloc(), MessageKind::Oral, text)?;
-    report_task(rt, what, &Workload::Muster(&scenario))
+    let scenario = scenario_of(rt.alloc(), messages, text)?;
+    report_task(rt, what, &Workload::Muster(messages, &scenario))
 }

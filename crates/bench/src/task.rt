@@ -34,7 +34,7 @@ pub enum Workload<'a> {
     /// Plays a campaign with signed messages. Only the slowest close of a round is timed.
     Close(&'a Scenario),
     /// Plays a campaign from its scenario to its chronicle, with a thread for each general.
-    Muster(&'a Scenario),
+    Muster(MessageKind, &'a Scenario),
     /// Starts threads that do nothing, one for each general in each round. The fields are the numbers of generals and
     /// rounds.
     Threads(u8, u8),
@@ -60,7 +60,7 @@ fn time_once<R: Clock + Threads + Wait + Sync + AllocGlobal>(
             campaigns::audit_once(alloc, rt, messages, scenario, text)
         }
         Workload::Close(scenario) => campaigns::close_once(alloc, rt, scenario),
-        Workload::Muster(scenario) => musters::muster_once(rt, scenario),
+        Workload::Muster(messages, scenario) => musters::muster_once(rt, messages, scenario),
         Workload::Threads(generals, rounds) => musters::start_once(rt, generals, rounds, sum),
     }
 }

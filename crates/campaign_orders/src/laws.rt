@@ -29,8 +29,8 @@ pub fn orders_are_schedules()
     ensures { OrdersAreSchedules oral_kind }
 {}
 
-/// States that in every outcome found for an oral campaign whose bound holds, the loyal lieutenants decide on the same
-/// order and obey a loyal commander (TOPLAS 1982, Theorem 1).
+/// States that in every outcome found for an oral campaign whose traitors are few enough, the loyal lieutenants decide on
+/// the same order and obey a loyal commander (TOPLAS 1982, Theorem 1).
 pub fn findings_agree()
     ensures { FindingsAgree }
 {}

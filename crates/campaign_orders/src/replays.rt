@@ -11,7 +11,7 @@ use crate::open_round::OpenRound;
 use crate::stage::Stage;
 use round::Scenario;
 use std::alloc::{AllocError, Global};
-use world::{World, named_round, play_names};
+use world::{World, names_played, round_played};
 
 /// Plays a campaign from its start and returns its world after these accesses. `rows` lists for each closed round the
 /// generals who made its accesses, and `names` lists those for the open round. Fails with `AllocError` if it runs out
@@ -27,10 +27,11 @@ pub(crate) fn played(
     let mut world = World::open(alloc, scenario.copy(alloc)?)?;
     for (round, row) in rows.iter().enumerate() {
         let _ = round;
-        named_round(&mut world, row.as_slice())?;
+        let next = round_played(world, row.as_slice())?;
+        world = next;
     }
-    play_names(&mut world, names)?;
-    Ok(world)
+    let last = names_played(world, names)?;
+    Ok(last)
 }
 
 /// Plays a campaign from its start and returns the open round after these accesses. `rows` lists for each closed round

@@ -8,7 +8,9 @@ ghost use Rattle.world.specs.World.{oral_kind};
 use crate::schedule_outcome::{Line, Scheduled};
 use round::Scenario;
 use std::alloc::{AllocError, Global};
-use world::{PlayableWorld, Progress, Repeat, Schedule, ScheduleLine, World, parts, wind_up};
+use world::{
+    PlayableWorld, Progress, Repeat, Schedule, ScheduleLine, World, parts, round_finished,
+};
 
 /// Returns how many instructions the program of a traitor has, 1 to 4,096. Returns `None` for any other general.
 /// `standing` has each general's part in the open round.
@@ -82,7 +84,8 @@ pub fn schedule_from<W: PlayableWorld + Drop>(
         match line_of(&mut world, alloc, line.as_slice())? {
             Line::Made(entries) => {
                 lines.push(entries)?;
-                wind_up(&mut world)?;
+                let next = round_finished(world)?;
+                world = next;
             }
             Line::Stuck(place) => return Ok(Scheduled::Never(round, place)),
         }

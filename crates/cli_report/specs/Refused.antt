@@ -20,11 +20,11 @@ use Rattle.cli_report.specs.declared.refusal.Taken.{Taken}
 use Rattle.cli_report.specs.declared.refusal.Taken.TheVariants as taken
 
 -- Returns which campaigns a task accepts, or `None` if it does not explain why it rejects a scenario. A message table
--- and a muster need an oral campaign.
+-- needs an oral campaign.
 abbrev pub taken_by : Task → Option Taken
 taken_by (Play scenario schedule Chronicle (Some of)) = Some taken.Any
 taken_by (Play scenario schedule Table (Some of)) = Some taken.Oral
-taken_by (Muster scenario (Some of)) = Some taken.Oral
+taken_by (Muster scenario (Some of)) = Some taken.Any
 taken_by (Audit scenario chronicle (Some of)) = Some taken.Any
 taken_by task = None
 

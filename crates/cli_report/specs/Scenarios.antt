@@ -62,8 +62,7 @@ range_sentence names.Order = codes "an order must be 0 to 4294967295"
 range_sentence names.Board = codes "a board must have at most 64 words"
 range_sentence names.Patience = codes "a patience must be 1 to 4096 steps"
 range_sentence names.Rule = codes "a rule must be one of these texts, in quotation marks: " ++ rule_names
-range_sentence names.Messages =
-    codes "messages must be \"oral\" or \"signed\", and \"oral\" for `muster` and `play --table`"
+range_sentence names.Messages = codes "messages must be \"oral\" or \"signed\", and \"oral\" for `play --table`"
 range_sentence names.Strategy = strategy_sentence
 range_sentence name = codes "this value is out of range"
 

@@ -11,7 +11,7 @@ use scenario::ScenarioError;
 use std::alloc::{AllocError, Global};
 use streams::FileName;
 
-/// Which campaigns a task accepts. A muster, for example, accepts only oral ones.
+/// Which campaigns a task accepts. A message table, for example, is printed only for oral ones.
 #[derive(Clone, Copy)]
 pub enum Taken {
     /// The task accepts only oral campaigns.
@@ -38,7 +38,7 @@ fn taken_by(task: &Task) -> Option<Taken>
         Task::Muster {
             explained: Some(_),
             ..
-        } => Some(Taken::Oral),
+        } => Some(Taken::Any),
         Task::Audit {
             explained: Some(_),
             ..

@@ -96,7 +96,7 @@ fn range_sentence(alloc: Global, name: ScenarioKey) -> Result<String, AllocError
         ScenarioKey::Board => "a board must have at most 64 words",
         ScenarioKey::Patience => "a patience must be 1 to 4096 steps",
         ScenarioKey::Messages =>
-            "messages must be \"oral\" or \"signed\", and \"oral\" for `muster` and `play --table`",
+            "messages must be \"oral\" or \"signed\", and \"oral\" for `play --table`",
         ScenarioKey::Strategy => return strategy_sentence(alloc),
         _ => "this value is out of range",
     };

@@ -5,7 +5,7 @@ use Rattle.cli_words.specs.declared.tasks.Lieutenants.{Lieutenants}
 use Rattle.round.specs.Scenario.{Scenario, IsScenario}
 use Rattle.world.specs.declared.schedule.Repeat.{Repeat}
 use Rattle.world.specs.Chronicle.{Chronicle, chronicle_of}
-use Rattle.world.specs.Promises.{AgreeUnderBound, AreSafeThroughout, AreWhole, IsVerdictOn, IsWellUnderBound}
+use Rattle.world.specs.Promises.{AgreeIfTolerable, AreSafeThroughout, AreWhole, IsVerdictOn, IsWellUnderBound}
 use Rattle.world.proofs.Campaigns.{oral_campaigns}
 use Rattle.world.proofs.Lasting.{lists_are_complete}
 use Rattle.world.proofs.Promised.{safe_throughout, whole_letters}
@@ -15,32 +15,33 @@ use Rattle.trace.specs.Laws.{IsSoundText}
 use Rattle.trace.specs.Names.{chronicle_told, names_of}
 use Rattle.trace.specs.Text.{chronicle_text}
 use Rattle.cli_tasks.specs.AuditLines.{sound_lines}
-use Rattle.world.specs.KindLists.{IsComplete, replayed}
+use Rattle.world.specs.KindLists.{IsComplete, replay_world, replayed}
 use Rattle.world.specs.Lists.{listed, names_in}
 use Rattle.world.specs.Replay.{replay_of}
 use Rattle.world.specs.World.{oral_kind}
 use Rattle.world.specs.Schedules.{lines_by}
+use Rattle.signed.specs.Chronicle.{signed_chronicle_of}
 use Rattle.signed.specs.Explained.{signed_explained}
 use Rattle.signed.specs.Kind.{signed_kind}
 use Rattle.signed.specs.Promises.{AgreeUnderSignedBound, IsSignedVerdictOn}
 use Rattle.signed.proofs.Worlds.{signed_campaigns}
 use Rattle.trace.specs.SignedAudit.{IsSoundSignedText, signed_chronicle_told}
 use Rattle.trace.specs.SignedText.{signed_text}
-use Rattle.cli_tasks.specs.Campaigns.{IsAccount, IsFollowed, IsMustered, IsOralAudited, IsOralPlayed, IsSignedAudited, IsSignedPlayed, asked, signed_behind}
+use Rattle.cli_tasks.specs.Campaigns.{IsAccount, IsFollowed, IsOralAudited, IsOralMustered, IsOralPlayed, IsSignedAudited, IsSignedMustered, IsSignedPlayed, asked, signed_behind}
 use Rattle.cli_tasks.specs.Promises.{IsCompleteRun}
 use Rattle.cli_tasks.specs.Schedules.{played, signed_played}
 
 -- The text that `play` prints, from its parts: the chronicle or table, the explanation, and the facts about the run.
 pub is_played : (s : Scenario) (schedule : List (List Repeat)) (account : Account) (explained : Option Lieutenants) (chronicle : Chronicle) (front text : List ℕ) → chronicle ≡ played s schedule
     → IsComplete oral_kind s (listed s (lines_by schedule)) → AreSafeThroughout oral_kind s (listed s (lines_by schedule)) → AreWhole oral_kind s chronicle.accesses chronicle.letters
-    → AgreeUnderBound s chronicle.decisions → IsVerdictOn s chronicle.decisions chronicle.verdict → IsWellUnderBound chronicle.verdict
+    → AgreeIfTolerable s chronicle.decisions → IsVerdictOn s chronicle.decisions chronicle.verdict → IsWellUnderBound chronicle.verdict
     → IsAccount account chronicle front → IsFollowed explained chronicle front text → IsOralPlayed s schedule account explained text
 is_played s schedule account explained chronicle front text listed complete safe whole agree verdict well told followed = record {
   front = front;
   told = subst (λ (c : Chronicle). IsAccount account c front) listed told;
   behind = subst (λ (c : Chronicle). IsFollowed explained c front text) listed followed;
   run = record { complete = complete; safe = safe; whole = subst (λ (c : Chronicle). AreWhole oral_kind s c.accesses c.letters) listed whole };
-  agree = subst (λ (c : Chronicle). AgreeUnderBound s c.decisions) listed agree;
+  agree = subst (λ (c : Chronicle). AgreeIfTolerable s c.decisions) listed agree;
   verdict = subst (λ (c : Chronicle). IsVerdictOn s c.decisions c.verdict) listed verdict;
   well = subst (λ (c : Chronicle). IsWellUnderBound c.verdict) listed well;
 }
@@ -58,14 +59,31 @@ pub told_wholly : (s : Scenario) (bytes : List ℕ) (c : Chronicle) → IsScenar
 unfolding chronicle_told
 told_wholly s bytes c inside is = replayed_whole s (names_of bytes) c inside is
 
--- The text that `muster` prints, from its parts: the chronicle, the explanation, and the facts about the run.
+-- The text that `muster` prints for an oral campaign, from its parts: the chronicle, the explanation, and the facts
+-- about the run.
 pub is_mustered : (s : Scenario) (explained : Option Lieutenants) (c : Chronicle) (front text : List ℕ) → front ≡ chronicle_text c → IsFollowed explained c front text
     → c ≡ chronicle_of (replay_of s c.accesses) → IsComplete oral_kind s (replayed oral_kind s (names_in 1 c.accesses (suc s.bound)))
     → AreSafeThroughout oral_kind s (replayed oral_kind s (names_in 1 c.accesses (suc s.bound))) → AreWhole oral_kind s c.accesses c.letters
-    → AgreeUnderBound s c.decisions → IsVerdictOn s c.decisions c.verdict → IsWellUnderBound c.verdict → IsMustered s explained text
+    → AgreeIfTolerable s c.decisions → IsVerdictOn s c.decisions c.verdict → IsWellUnderBound c.verdict → IsOralMustered s explained text
 is_mustered s explained c front text is behind replay complete safe whole agree verdict well = record {
   chronicle = c;
   told = subst (λ (f : List ℕ). IsFollowed explained c f text) is behind;
+  replay = replay;
+  run = record { complete = complete; safe = safe; whole = whole };
+  agree = agree;
+  verdict = verdict;
+  well = well;
+}
+
+-- The text that `muster` prints for a signed campaign, from its parts: the chronicle, the explanation, and the facts
+-- about the run.
+pub is_signed_mustered : (s : Scenario) (explained : Option Lieutenants) (c : Chronicle) (front text : List ℕ) → front ≡ signed_text c → text ≡ front ++ signed_behind explained c
+    → c ≡ signed_chronicle_of (replay_world signed_kind s c.accesses) → IsComplete signed_kind s (replayed signed_kind s (names_in 1 c.accesses (suc s.bound)))
+    → AreSafeThroughout signed_kind s (replayed signed_kind s (names_in 1 c.accesses (suc s.bound))) → AreWhole signed_kind s c.accesses c.letters
+    → AgreeUnderSignedBound s c.decisions → IsSignedVerdictOn s c.decisions c.verdict → IsWellUnderBound c.verdict → IsSignedMustered s explained text
+is_signed_mustered s explained c front text is behind replay complete safe whole agree verdict well = record {
+  chronicle = c;
+  told = behind ∙ ap (λ (f : List ℕ). f ++ signed_behind explained c) is;
   replay = replay;
   run = record { complete = complete; safe = safe; whole = whole };
   agree = agree;

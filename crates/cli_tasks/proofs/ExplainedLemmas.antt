@@ -2,12 +2,9 @@
 use Rattle.std.proofs.Common.{ℕ, ◌≡◌, Bool, true, false, List, sym}
 use Rattle.std.specs.Prelude.{None, Option}
 use Rattle.cli_words.specs.declared.tasks.Lieutenants.{Lieutenants}
-use Rattle.round.specs.Scenario.{Scenario as OralScenario}
-use Rattle.scenario.specs.Reading.{Tells}
 use Rattle.scenario.specs.declared.messages.Campaign.{Campaign}
-use Rattle.scenario.specs.declared.messages.Campaign.TheVariants.{Oral}
 use Rattle.cli_tasks.specs.Explained.{RefusesExplained, TellsAsked, scenario_of, stranger_asked}
-use Rattle.cli_tasks.specs.Refusals.{RefusesAsked, RefusesScenario, RefusesText}
+use Rattle.cli_tasks.specs.Refusals.{RefusesAsked, RefusesText}
 use Rattle.cli_tasks.specs.Schedules.{TellsCampaign}
 use Rattle.cli_tasks.specs.Strangers.{IsOf}
 use Rattle.cli_tasks.specs.declared.refusal.InputRefusal.{InputRefusal}
@@ -53,29 +50,4 @@ strange_asked any explained bytes c Tolerated tells strange = absurd strange
 strange_asked any explained bytes c NotText tells strange = absurd strange
 strange_asked any explained bytes c Memory tells strange = absurd strange
 
--- A text with an oral campaign is accepted or rejected for the same reasons.
-pub told_oral : (explained : Option Lieutenants) (bytes : List ℕ) (s : OralScenario) → Tells bytes s → stranger_asked s explained ≡ None → TellsAsked false explained bytes (Oral s)
-told_oral explained bytes s tells none = (tells, none)
-
-pub unread_oral : (explained : Option Lieutenants) (bytes : List ℕ) (refusal : InputRefusal) → RefusesText RefusesScenario bytes refusal → RefusesText (RefusesExplained false explained) bytes refusal
-unread_oral explained bytes (Codec error) refuses = refuses
-unread_oral explained bytes (Object fault) refuses = refuses
-unread_oral explained bytes (Verifier fault) refuses = refuses
-unread_oral explained bytes (Assembly error) refuses = refuses
-unread_oral explained bytes (Table error) refuses = refuses
-unread_oral explained bytes (Scenario error) refuses = refuses
-unread_oral explained bytes (Setting error) refuses = refuses
-unread_oral explained bytes (Trace error) refuses = refuses
-unread_oral explained bytes (Threads error) refuses = refuses
-unread_oral explained bytes (Accesses fault) refuses = refuses
-unread_oral explained bytes (Stranger g n) refuses = absurd refuses
-unread_oral explained bytes Tolerated refuses = refuses
-unread_oral explained bytes NotText refuses = refuses
-unread_oral explained bytes Memory refuses = refuses
-
-pub strange_oral : (explained : Option Lieutenants) (bytes : List ℕ) (s : OralScenario) (refusal : InputRefusal) → Tells bytes s → IsOf s.generals (stranger_asked s explained) refusal → RefusesText (RefusesExplained false explained) bytes refusal
-strange_oral explained bytes s refusal tells strange = strange_asked false explained bytes (Oral s) refusal tells strange
-
 pub ruleset campaign_asked = (told_asked, unread_asked, strange_asked)
-
-pub ruleset oral_asked = (told_oral, unread_oral, strange_oral)

@@ -11,7 +11,7 @@ use Rattle.threads.specs.declared.error.MusterError.{MusterError}
 use Rattle.cli_tasks.specs.declared.failure.TaskFailure.{TaskFailure}
 use Rattle.cli_tasks.specs.declared.failure.TaskFailure.TheVariants.{Read, Text, Refused, Write, Memory}
 use Rattle.cli_tasks.specs.declared.first_answer.FirstAnswer.TheVariants.{Muster}
-use Rattle.round.specs.Scenario.{Scenario}
+use Rattle.scenario.specs.declared.messages.Campaign.{Campaign}
 use Rattle.cli_words.specs.declared.tasks.Lieutenants.{Lieutenants}
 use Rattle.cli_tasks.specs.declared.hint.Hint.{Hint}
 use Rattle.cli_tasks.specs.declared.refusal.InputRefusal.{InputRefusal}
@@ -86,16 +86,16 @@ any_bytes None P p = p
 any_bytes (Some None) P p = tt
 any_bytes (Some (Some all)) P p = p
 
-threads_told : (unread : Type 0) (known : Option (Option (List ℕ))) (s : Scenario) (who : Option Lieutenants) (error : MusterError) (file : Bor (List ℕ)) (fault : TaskFailure)
-    → IsRefusedLater (Muster s who) known (refusal.Threads error) → IsTold (refusal.Threads error) file (TellsWhyOf (refusal.Threads error) Nothing file.now []) fault
-    → Stops unread (IsToldLater true file.now known (Muster s who)) file.now fault
-threads_told unread known s who error file (Read own) refused told = absurd told
-threads_told unread known s who error file (Text own) refused told = let f = told.0 in absurd cc
-threads_told unread known s who error file (Refused own hint) refused told =
-    let P : InputRefusal → Type 0 = λ r. (r ≢ refusal.NotText) × IsToldLater true file.now known (Muster s who) r hint in
+threads_told : (unread : Type 0) (known : Option (Option (List ℕ))) (c : Campaign) (who : Option Lieutenants) (error : MusterError) (file : Bor (List ℕ)) (fault : TaskFailure)
+    → IsRefusedLater (Muster c who) known (refusal.Threads error) → IsTold (refusal.Threads error) file (TellsWhyOf (refusal.Threads error) Nothing file.now []) fault
+    → Stops unread (IsToldLater true file.now known (Muster c who)) file.now fault
+threads_told unread known c who error file (Read own) refused told = absurd told
+threads_told unread known c who error file (Text own) refused told = let f = told.0 in absurd cc
+threads_told unread known c who error file (Refused own hint) refused told =
+    let P : InputRefusal → Type 0 = λ r. (r ≢ refusal.NotText) × IsToldLater true file.now known (Muster c who) r hint in
     subst P (sym told.0) (told.1, (refused, any_bytes known _ told.3))
-threads_told unread known s who error file Write refused told = absurd told
-threads_told unread known s who error file Memory refused told = tt
+threads_told unread known c who error file Write refused told = absurd told
+threads_told unread known c who error file Memory refused told = tt
 
 memory_told : (unread : Type 0) (R : InputRefusal → Option Hint → Type 0) (tells : List ℕ → Type 0) (file : Bor (List ℕ)) (fault : TaskFailure) → IsTold refusal.Memory file tells fault → Stops unread R file.now fault
 memory_told unread R tells file (Read own) told = absurd told
@@ -104,22 +104,22 @@ memory_told unread R tells file (Refused own hint) told = absurd (told.2 refl)
 memory_told unread R tells file Write told = absurd told
 memory_told unread R tells file Memory told = tt
 
-pub unmustered : (unread : Type 0) (explained : Bool) (known : Option (Option (List ℕ))) (s : Scenario) (who : Option Lieutenants) (cause : InputRefusal) (file : Bor (List ℕ)) (fault : TaskFailure)
-    → (cause ≢ refusal.Memory → IsRefusedLater (Muster s who) known cause) → IsToldIf explained cause file (TellsWhyOf cause Nothing file.now []) fault
-    → Stops unread (IsToldLater explained file.now known (Muster s who)) file.now fault
-unmustered unread false known s who cause file fault refused told =
-    subst (λ (f : TaskFailure). Stops unread (IsToldLater false file.now known (Muster s who)) file.now f) (sym told) (plain unread known (IsRefusedLater (Muster s who) known) Nothing cause file refused)
-unmustered unread true known s who (refusal.Threads error) file fault refused told = threads_told unread known s who error file fault (refused (λ e. cc)) told
-unmustered unread true known s who refusal.Memory file fault refused told = memory_told unread (IsToldLater true file.now known (Muster s who)) (TellsWhyOf refusal.Memory Nothing file.now []) file fault told
-unmustered unread true known s who (refusal.Codec error) file fault refused told = absurd (refused (λ e. cc)).1
-unmustered unread true known s who (refusal.Object own) file fault refused told = absurd (refused (λ e. cc)).1
-unmustered unread true known s who (refusal.Verifier own) file fault refused told = absurd (refused (λ e. cc)).1
-unmustered unread true known s who (refusal.Assembly error) file fault refused told = absurd (refused (λ e. cc)).1
-unmustered unread true known s who (refusal.Table error) file fault refused told = absurd (refused (λ e. cc)).1
-unmustered unread true known s who (refusal.Scenario error) file fault refused told = absurd (refused (λ e. cc)).1
-unmustered unread true known s who (refusal.Setting error) file fault refused told = absurd (refused (λ e. cc)).1
-unmustered unread true known s who (refusal.Trace error) file fault refused told = absurd (refused (λ e. cc)).1
-unmustered unread true known s who (refusal.Accesses own) file fault refused told = absurd (refused (λ e. cc)).1
-unmustered unread true known s who refusal.Tolerated file fault refused told = absurd (refused (λ e. cc)).1
-unmustered unread true known s who (refusal.Stranger general generals) file fault refused told = absurd (refused (λ e. cc)).1
-unmustered unread true known s who refusal.NotText file fault refused told = absurd (refused (λ e. cc)).1
+pub unmustered : (unread : Type 0) (explained : Bool) (known : Option (Option (List ℕ))) (c : Campaign) (who : Option Lieutenants) (cause : InputRefusal) (file : Bor (List ℕ)) (fault : TaskFailure)
+    → (cause ≢ refusal.Memory → IsRefusedLater (Muster c who) known cause) → IsToldIf explained cause file (TellsWhyOf cause Nothing file.now []) fault
+    → Stops unread (IsToldLater explained file.now known (Muster c who)) file.now fault
+unmustered unread false known c who cause file fault refused told =
+    subst (λ (f : TaskFailure). Stops unread (IsToldLater false file.now known (Muster c who)) file.now f) (sym told) (plain unread known (IsRefusedLater (Muster c who) known) Nothing cause file refused)
+unmustered unread true known c who (refusal.Threads error) file fault refused told = threads_told unread known c who error file fault (refused (λ e. cc)) told
+unmustered unread true known c who refusal.Memory file fault refused told = memory_told unread (IsToldLater true file.now known (Muster c who)) (TellsWhyOf refusal.Memory Nothing file.now []) file fault told
+unmustered unread true known c who (refusal.Codec error) file fault refused told = absurd (refused (λ e. cc)).1
+unmustered unread true known c who (refusal.Object own) file fault refused told = absurd (refused (λ e. cc)).1
+unmustered unread true known c who (refusal.Verifier own) file fault refused told = absurd (refused (λ e. cc)).1
+unmustered unread true known c who (refusal.Assembly error) file fault refused told = absurd (refused (λ e. cc)).1
+unmustered unread true known c who (refusal.Table error) file fault refused told = absurd (refused (λ e. cc)).1
+unmustered unread true known c who (refusal.Scenario error) file fault refused told = absurd (refused (λ e. cc)).1
+unmustered unread true known c who (refusal.Setting error) file fault refused told = absurd (refused (λ e. cc)).1
+unmustered unread true known c who (refusal.Trace error) file fault refused told = absurd (refused (λ e. cc)).1
+unmustered unread true known c who (refusal.Accesses own) file fault refused told = absurd (refused (λ e. cc)).1
+unmustered unread true known c who refusal.Tolerated file fault refused told = absurd (refused (λ e. cc)).1
+unmustered unread true known c who (refusal.Stranger general generals) file fault refused told = absurd (refused (λ e. cc)).1
+unmustered unread true known c who refusal.NotText file fault refused told = absurd (refused (λ e. cc)).1

@@ -8,14 +8,15 @@ use Rattle.show_table.specs.Retold.{Explains, IsRetold}
 use Rattle.round.specs.Scenario.{Scenario}
 use Rattle.world.specs.declared.schedule.Repeat.{Repeat}
 use Rattle.world.specs.Chronicle.{Chronicle, chronicle_of}
-use Rattle.world.specs.KindLists.{replayed}
+use Rattle.world.specs.KindLists.{replay_world, replayed}
 use Rattle.world.specs.Lists.{listed, names_in}
-use Rattle.world.specs.Promises.{AgreeUnderBound, IsVerdictOn, IsWellUnderBound}
+use Rattle.world.specs.Promises.{AgreeIfTolerable, IsVerdictOn, IsWellUnderBound}
 use Rattle.world.specs.Replay.{replay_of}
 use Rattle.world.specs.Schedules.{lines_by}
 use Rattle.world.specs.World.{oral_kind}
 use Rattle.scenario.specs.declared.messages.Campaign.{Campaign}
 use Rattle.scenario.specs.declared.messages.Campaign.TheVariants.{Oral, Signed}
+use Rattle.signed.specs.Chronicle.{signed_chronicle_of}
 use Rattle.signed.specs.Kind.{signed_kind}
 use Rattle.signed.specs.Explained.{signed_explained}
 use Rattle.signed.specs.Promises.{AgreeUnderSignedBound, IsSignedVerdictOn}
@@ -52,15 +53,15 @@ IsFollowed explained c front text = (behind : List ℕ) × (text ≡ front ++ be
 
 -- States that `text` is the chronicle or the message table of the oral campaign when it is played by the schedule. The
 -- explanation of the decisions follows if it is asked for. The run is complete, no activation in it traps or takes more
--- steps than its program has instructions, and each letter is complete. If the bound holds, the decisions agree. The
--- verdict describes them correctly.
+-- steps than its program has instructions, and each letter is complete. The decisions agree if the traitors are few
+-- enough. The verdict describes them correctly.
 pub record IsOralPlayed (s : Scenario) (schedule : List (List Repeat)) (account : Account)
     (explained : Option Lieutenants) (text : List ℕ) : Type 0 where
   pub front : List ℕ
   pub told : IsAccount account (played s schedule) front
   pub behind : IsFollowed explained (played s schedule) front text
   pub run : IsCompleteRun oral_kind s (listed s (lines_by schedule)) (played s schedule)
-  pub agree : AgreeUnderBound s (played s schedule).decisions
+  pub agree : AgreeIfTolerable s (played s schedule).decisions
   pub verdict : IsVerdictOn s (played s schedule).decisions (played s schedule).verdict
   pub well : IsWellUnderBound (played s schedule).verdict
 
@@ -89,16 +90,34 @@ IsPlayed (Signed s) schedule account explained text = IsSignedPlayed s schedule 
 
 -- States that `text` is the chronicle of a complete run of an oral campaign with threads. The explanation of the
 -- decisions follows if it is asked for. The run is the replay of its own accesses, no activation in it traps or takes
--- more steps than its program has instructions, and each letter is complete. If the bound holds, the decisions agree.
--- The verdict describes them correctly.
-pub record IsMustered (s : Scenario) (explained : Option Lieutenants) (text : List ℕ) : Type 0 where
+-- more steps than its program has instructions, and each letter is complete. The decisions agree if the traitors are
+-- few enough. The verdict describes them correctly.
+pub record IsOralMustered (s : Scenario) (explained : Option Lieutenants) (text : List ℕ) : Type 0 where
   pub chronicle : Chronicle
   pub told : IsFollowed explained chronicle (chronicle_text chronicle) text
   pub replay : chronicle ≡ chronicle_of (replay_of s chronicle.accesses)
   pub run : IsCompleteRun oral_kind s (replayed oral_kind s (names_in 1 chronicle.accesses (suc s.bound))) chronicle
-  pub agree : AgreeUnderBound s chronicle.decisions
+  pub agree : AgreeIfTolerable s chronicle.decisions
   pub verdict : IsVerdictOn s chronicle.decisions chronicle.verdict
   pub well : IsWellUnderBound chronicle.verdict
+
+-- States that `text` is the chronicle of a complete run of a signed campaign with threads. The explanation of the
+-- decisions follows if it is asked for. The run is the replay of its own accesses, no activation in it traps or takes
+-- more steps than its program has instructions, and each letter is complete. The decisions agree if there are at most m
+-- traitors among n generals, with n at least m + 2. The verdict describes them correctly.
+pub record IsSignedMustered (s : Scenario) (explained : Option Lieutenants) (text : List ℕ) : Type 0 where
+  pub chronicle : Chronicle
+  pub told : text ≡ signed_text chronicle ++ signed_behind explained chronicle
+  pub replay : chronicle ≡ signed_chronicle_of (replay_world signed_kind s chronicle.accesses)
+  pub run : IsCompleteRun signed_kind s (replayed signed_kind s (names_in 1 chronicle.accesses (suc s.bound))) chronicle
+  pub agree : AgreeUnderSignedBound s chronicle.decisions
+  pub verdict : IsSignedVerdictOn s chronicle.decisions chronicle.verdict
+  pub well : IsWellUnderBound chronicle.verdict
+
+-- States that `text` is what `muster` prints about a run of the campaign with threads.
+abbrev pub IsMustered : Campaign → Option Lieutenants → List ℕ → Type 0
+IsMustered (Oral s) explained text = IsOralMustered s explained text
+IsMustered (Signed s) explained text = IsSignedMustered s explained text
 
 -- States that `bytes` are the chronicle of a complete run of the oral campaign, the replay of the accesses in it.
 -- `text` says that they are sound, and gives the verdict. The explanation of the decisions follows if it is asked for.

@@ -7,7 +7,7 @@ use Rattle.campaign_orders.specs.Outcomes.{oral_outcome}
 use Rattle.campaign_orders.specs.Text.{exploration_text}
 use Rattle.round.specs.Scenario.{Scenario}
 use Rattle.scenario.specs.Reading.{Tells}
-use Rattle.world.specs.Promises.{AgreeUnderBound}
+use Rattle.world.specs.Promises.{AgreeIfTolerable}
 use Rattle.world.specs.World.{oral_kind}
 
 -- Returns how many orders are counted at most: the given number, or 2^64 - 1 if all orders should be counted.
@@ -15,12 +15,12 @@ abbrev pub limit : Option ℕ → ℕ
 limit most = unwrap_or most (2 ^ 64 - 1)
 
 -- States that `text` lists the outcomes of all orders of an oral campaign. If there are more than `most` orders, it
--- covers only the `most` least ones. If the bound holds, the decisions of each outcome agree.
+-- covers only the `most` least ones. The decisions of each outcome agree if the traitors are few enough.
 pub record IsExplored (s : Scenario) (most : ℕ) (text : List ℕ) : Type 0 where
   pub exploration : Exploration
   pub explores : IsExploration oral_kind oral_outcome s most exploration
   pub told : text ≡ exploration_text oral_kind s exploration
-  pub agree : All (λ (f : Finding). AgreeUnderBound s f.decisions) exploration.findings
+  pub agree : All (λ (f : Finding). AgreeIfTolerable s f.decisions) exploration.findings
 
 -- States that the file describes an oral campaign, and that `text` lists the outcomes of its orders.
 abbrev pub Explores : Option ℕ → List ℕ → List ℕ → Type 0

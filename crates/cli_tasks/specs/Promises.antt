@@ -9,17 +9,17 @@ use Rattle.world.specs.Chronicle.{Chronicle}
 use Rattle.world.specs.declared.event.Event.{Event}
 use Rattle.world.specs.Kind.{Kind}
 use Rattle.world.specs.KindLists.{IsComplete}
-use Rattle.world.specs.Promises.{AgreeUnderBound, AreSafeThroughout, AreWhole, IsVerdictOn, IsWellUnderBound}
+use Rattle.world.specs.Promises.{AgreeIfTolerable, AreSafeThroughout, AreWhole, IsVerdictOn, IsWellUnderBound}
 
 -- States that the loyal generals of an oral campaign are faithful: each sends every receiver the order that he took.
 abbrev pub AreFaithful : Chronicle → Type 0
 AreFaithful c = (g : ℕ) → g < c.scenario.generals → is_traitor c.scenario g ≡ false →
     IsFaithful c.scenario.generals c.scenario.commander c.scenario.bound c.scenario.order (messages c.letters) g
 
--- States what Theorem 1 promises for oral messages. If the bound holds, all loyal lieutenants decide alike, and obey a
--- loyal commander. The verdict describes the decisions correctly.
+-- States what Theorem 1 promises for oral messages. If the traitors are few enough, all loyal lieutenants decide alike,
+-- and obey a loyal commander. The verdict describes the decisions correctly.
 pub record KeepsPromises (s : Scenario) (c : Chronicle) : Type 0 where
-  pub agree : AgreeUnderBound s c.decisions
+  pub agree : AgreeIfTolerable s c.decisions
   pub verdict : IsVerdictOn s c.decisions c.verdict
   pub well : IsWellUnderBound c.verdict
 

@@ -119,7 +119,7 @@ abbrev pub IsTextAfter : Option (Option (List ℕ)) → FirstAnswer → List ℕ
 IsTextAfter known (answer.Text all) text = text ≡ string_bytes all
 IsTextAfter known (answer.Bytes all) text = text ≡ all.items
 IsTextAfter known (answer.Play c account explained) text = IsPlayedBy known c account explained text
-IsTextAfter known (answer.Muster s explained) text = IsMustered s explained text
+IsTextAfter known (answer.Muster c explained) text = IsMustered c explained text
 IsTextAfter known (answer.Audit c explained) text = IsAuditOf known c explained text
 IsTextAfter known (answer.Draw c) text = IsDrawnBy known c text
 IsTextAfter known (answer.DrawRecorded c) text = IsDrawnAs known c text
@@ -195,7 +195,7 @@ IsUnmustered refusal = (refusal ≢ Memory) × RefusesMuster refusal
 abbrev pub IsRefusedLater : FirstAnswer → Option (Option (List ℕ)) → InputRefusal → Type 0
 IsRefusedLater (answer.Trial program told) known refusal = IsSettingRefused known refusal
 IsRefusedLater (answer.Play c account explained) known refusal = IsScheduleRefused known refusal
-IsRefusedLater (answer.Muster s explained) known refusal = IsUnmustered refusal
+IsRefusedLater (answer.Muster c explained) known refusal = IsUnmustered refusal
 IsRefusedLater (answer.Audit c explained) known refusal = IsChronicleRefused c known refusal
 IsRefusedLater (answer.Draw c) known refusal = IsScheduleRefused known refusal
 IsRefusedLater (answer.DrawRecorded c) known refusal = IsChronicleRefused c known refusal

@@ -7,7 +7,6 @@ use Rattle.cli_words.specs.declared.tasks.Task.TheVariants.{Check, Assemble, Ass
 use Rattle.cli_words.specs.declared.tasks.Accesses.TheVariants.{OfChronicle, Listed}
 use Rattle.cli_words.specs.declared.tasks.Course.TheVariants.{Scheduled, Recorded}
 use Rattle.scenario.specs.Reading.{Tells, TellsAny}
-use Rattle.scenario.specs.declared.messages.Campaign.TheVariants.{Oral}
 use Rattle.book.specs.Answers.{DecidesTable, ExplainsTable, IsFilled, IsFormOf}
 use Rattle.bounds.specs.Refutation.{Refutes}
 use Rattle.verify.specs.Judgement.{judged}
@@ -55,8 +54,8 @@ GoesOn (Check file notation (Some context) explained traced) first (answer.Trial
     HasProgram notation first program × (judged program ≡ None) × IsSound program × (told ≡ traced)
 GoesOn (Play scenario schedule account explained) first (answer.Play c told why) =
     TellsAsked (is_chronicle account) explained first c × (told ≡ account) × (why ≡ explained)
-GoesOn (Muster scenario explained) first (answer.Muster s why) =
-    TellsAsked false explained first (Oral s) × (why ≡ explained)
+GoesOn (Muster scenario explained) first (answer.Muster c why) =
+    TellsAsked true explained first c × (why ≡ explained)
 GoesOn (Audit scenario chronicle explained) first (answer.Audit c why) =
     TellsAsked true explained first c × (why ≡ explained)
 GoesOn (Draw scenario (Scheduled file)) first (answer.Draw c) = TellsAny first c

@@ -27,7 +27,7 @@ Refuses (Refute n m c rule story) bytes refusal =
     RefusesRefutation (string_bytes n) (string_bytes m) (string_bytes c) refusal
 Refuses (Play scenario schedule account explained) bytes refusal =
     RefusesText (RefusesExplained (is_chronicle account) explained) bytes refusal
-Refuses (Muster scenario explained) bytes refusal = RefusesText (RefusesExplained false explained) bytes refusal
+Refuses (Muster scenario explained) bytes refusal = RefusesText (RefusesExplained true explained) bytes refusal
 Refuses (Audit scenario chronicle explained) bytes refusal =
     RefusesText (RefusesExplained true explained) bytes refusal
 Refuses (Explore scenario most folder) bytes refusal = RefusesText RefusesScenario bytes refusal

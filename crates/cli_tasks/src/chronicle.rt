@@ -155,7 +155,10 @@ fn asked(who: Lieutenants) -> Option<u8>
 }
 
 /// Returns the text of a signed campaign's chronicle.
-fn signed_chronicle_text(alloc: Global, chronicle: &SignedChronicle) -> Result<Vec<u8>, AllocError>
+pub(crate) fn signed_chronicle_text(
+    alloc: Global,
+    chronicle: &SignedChronicle,
+) -> Result<Vec<u8>, AllocError>
     ensures { IfOk result (λ text. text.items ≡ signed_text chronicle.now) }
 {
     let mut latch = Latch::new(Vec::new(alloc));

@@ -1,13 +1,12 @@
 //! Reads campaigns whose decisions may be explained, and checks that the general whose decision is explained is a
 //! lieutenant.
-ghost use Rattle.std.specs.Prelude.{◌≡◌, None, IfErr, IfOk, OnOk, false};
-ghost use Rattle.scenario.specs.declared.messages.Campaign.TheVariants.{Oral};
+ghost use Rattle.std.specs.Prelude.{◌≡◌, None, IfErr, IfOk, OnOk};
 ghost use Rattle.cli_tasks.specs.Explained.{RefusesExplained, TellsAsked, scenario_of, stranger_asked};
 ghost use Rattle.cli_tasks.specs.Refusals.{RefusesText};
 ghost use Rattle.cli_tasks.specs.Schedules.{is_chronicle};
 ghost use Rattle.cli_tasks.specs.Strangers.{IsOf};
 
-use crate::campaigns::{asked_campaign, campaign};
+use crate::campaigns::asked_campaign;
 use crate::refusal::InputRefusal;
 use crate::strangers::know_tree;
 use cli_words::{Account, Lieutenants};
@@ -49,8 +48,8 @@ fn know_asked_in(campaign: &Campaign, explained: Option<Lieutenants>) -> Result<
     }
 }
 
-/// Reads the campaign that `play` or `audit` needs. `account` says whether it is printed as a chronicle or as a message
-/// table, and `explained` which decisions are explained. Only an oral campaign has a message table.
+/// Reads the campaign that `play`, `muster` or `audit` needs. `account` says whether it is printed as a chronicle or as
+/// a message table, and `explained` which decisions are explained. Only an oral campaign has a message table.
 ///
 /// # Errors
 ///
@@ -69,24 +68,4 @@ pub(crate) fn played_campaign(
     let campaign = asked_campaign(alloc, bytes, account)?;
     know_asked_in(&campaign, explained)?;
     Ok(campaign)
-}
-
-/// Reads an oral campaign that will be run with threads. `explained` says which decisions are explained.
-///
-/// # Errors
-///
-/// Fails with `Scenario` for the first fault of the scenario, with `NotText` if the bytes are not UTF-8, with
-/// `Stranger` if `explained` names a general who is not a lieutenant, and with `Memory` if memory runs out.
-#[tactic(auto, using(crate::proofs::ExplainedLemmas::oral_asked))]
-pub(crate) fn mustered_campaign(
-    alloc: Global,
-    bytes: &[u8],
-    explained: Option<Lieutenants>,
-) -> Result<Scenario, InputRefusal>
-    ensures told { IfOk result (λ scenario. TellsAsked false explained bytes.now (Oral scenario)) }
-    ensures refused { IfErr result (RefusesText (RefusesExplained false explained) bytes.now) }
-{
-    let scenario = campaign(alloc, bytes)?;
-    know_asked(&scenario, explained)?;
-    Ok(scenario)
 }

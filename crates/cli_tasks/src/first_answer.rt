@@ -18,9 +18,8 @@ pub enum FirstAnswer {
     /// A campaign to play by the schedule in the second file, whether to print its chronicle or its message table, and
     /// the lieutenants whose decisions are explained, if any.
     Play(Campaign, Account, Option<Lieutenants>),
-    /// An oral campaign to run with a thread for each general, and the lieutenants whose decisions are explained, if
-    /// any.
-    Muster(Scenario, Option<Lieutenants>),
+    /// A campaign to run with a thread for each general, and the lieutenants whose decisions are explained, if any.
+    Muster(Campaign, Option<Lieutenants>),
     /// A campaign to audit: the second file should be its chronicle. Also the lieutenants whose decisions are
     /// explained, if any.
     Audit(Campaign, Option<Lieutenants>),

@@ -178,8 +178,8 @@ where
             let text = play_by(alloc, campaign, account, explained, told, file, second)?;
             Ok(Answer::plain(text))
         }
-        FirstAnswer::Muster(scenario, explained) => {
-            let text = mustered(rt, alloc, scenario, explained);
+        FirstAnswer::Muster(campaign, explained) => {
+            let text = mustered(rt, alloc, campaign, explained);
             Ok(Answer::plain(mustered_text(alloc, text, told, file)?))
         }
         FirstAnswer::Audit(campaign, explained) => {

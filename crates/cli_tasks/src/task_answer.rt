@@ -7,7 +7,7 @@ ghost use Rattle.cli_tasks.specs.TaskRefusals.{Refuses};
 use crate::assembly::{assembled, assembled_raw, disassembled};
 use crate::campaigns::{any_campaign, campaign, campaign_with_text};
 use crate::decisions::{decided, explained};
-use crate::explained_campaign::{mustered_campaign, played_campaign};
+use crate::explained_campaign::played_campaign;
 use crate::exploration::explored as orders_of;
 use crate::first_answer::FirstAnswer;
 use crate::forms::{filled, formed};
@@ -149,10 +149,10 @@ pub fn answer(alloc: Global, task: &Task, bytes: &[u8]) -> Result<FirstAnswer, I
             *account,
             *explained,
         )),
-        Task::Muster { explained, .. } => Ok(FirstAnswer::Muster(
-            mustered_campaign(alloc, bytes, *explained)?,
-            *explained,
-        )),
+        Task::Muster { explained, .. } => {
+            let campaign = played_campaign(alloc, bytes, Account::Chronicle, *explained)?;
+            Ok(FirstAnswer::Muster(campaign, *explained))
+        }
         Task::Audit { explained, .. } => Ok(FirstAnswer::Audit(
             played_campaign(alloc, bytes, Account::Chronicle, *explained)?,
             *explained,

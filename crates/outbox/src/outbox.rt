@@ -11,7 +11,7 @@ ghost use Rattle.outbox.specs.Told.{orders_told};
 use crate::orders::Orders;
 use crate::relays::rows_of;
 use crate::rows::Rows;
-use crate::signed_entries::{Signing, copied_signing, same_signing};
+use crate::signed_entries::{Signing, copied_signing, same_held, same_signing};
 use crate::told_orders::ReceiverOrders;
 use arrayvec::ArrayVec;
 use label::Shape;
@@ -284,6 +284,14 @@ impl Outbox {
         other.shape == self.shape
             && same_signing(&self.signing, &other.signing)
             && self.rows.has_orders_of(&other.rows)
+    }
+
+    /// Returns whether two outboxes are for the same relay: with the same shape, and both for oral orders, or both for
+    /// signed orders with the same signers of each held chain.
+    pub fn same_relay(&self, other: &Outbox) -> bool
+        ensures { IsTrue result ↔ (self.now.relay ≡ other.now.relay) }
+    {
+        other.shape == self.shape && same_held(&self.signing, &other.signing)
     }
 
     /// Returns for which relay the outbox is: the relaying general, the commander, the number of generals and the

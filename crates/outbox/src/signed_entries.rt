@@ -4,6 +4,7 @@ ghost use Rattle.std.specs.Prelude.{◌≡◌, ◌≤◌, ◌↔◌, [], length,
 ghost use Rattle.label.specs.Relay.{IsShape};
 ghost use Rattle.semantics.specs.Relay.{signed};
 ghost use Rattle.semantics.specs.Entries.{is_sendable, is_entered, entered};
+ghost use Rattle.outbox.specs.Contents.{kind_of};
 
 use crate::mask::has_bit;
 use arrayvec::ArrayVec;
@@ -118,6 +119,17 @@ pub(crate) fn same_signing(one: &Option<Signing>, other: &Option<Signing>) -> bo
     match (one, other) {
         (None, None) => true,
         (Some(one), Some(other)) => one.same(other),
+        _ => false,
+    }
+}
+
+/// Returns whether both signing states are absent, or both are present and have the same signers of each held chain.
+pub(crate) fn same_held(one: &Option<Signing>, other: &Option<Signing>) -> bool
+    ensures { IsTrue result ↔ (kind_of one.now ≡ kind_of other.now) }
+{
+    match (one, other) {
+        (None, None) => true,
+        (Some(one), Some(other)) => same_signers(one.held.as_slice(), other.held.as_slice()),
         _ => false,
     }
 }

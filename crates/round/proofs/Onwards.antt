@@ -3,14 +3,14 @@ use Rattle.std.proofs.Common.{◌≡◌, ℕ, zero, suc, ◌≤◌, List, [], �
 use Rattle.std.specs.Option.{option_to_list}
 use Rattle.std.specs.Prelude.{◌||◌}
 use Rattle.insn.specs.declared.insn.Insn.{Insn}
-use Rattle.semantics.specs.Relay.{IsContext, Relay}
+use Rattle.semantics.specs.Relay.{IsContext, Relay, Oral}
 use Rattle.semantics.specs.Call.{fits}
 use Rattle.board.specs.Board.{Access}
 use Rattle.round.specs.Activation.{Activation, Turn, Goes, Asks, Ended, turn, started, has_ended, is_reached}
-use Rattle.round.specs.Contexts.{IsToldTo, relay_told}
+use Rattle.round.specs.Contexts.{IsToldTo, shape_told, tells_oral}
 use Rattle.round.specs.Letters.{Letter}
 use Rattle.round.specs.Runs.{Onward, Runs, AreFitting, IsWithin, IsLetter}
-use Rattle.round.specs.Running.{TakesTurn, IsSameRun, Silently, AreAccessesOf, IsOnWay, IsLived, letter_left}
+use Rattle.round.specs.Running.{TakesTurn, IsSameRun, Silently, AreAccessesOf, IsOnWay, IsLivedIn, letter_left}
 use Rattle.round.proofs.Patience.{under, runs_under}
 use Rattle.round.proofs.Fitting.{fitting_more}
 use Rattle.round.proofs.Stepping.{runs_steps}
@@ -93,12 +93,13 @@ run_without patience program context relay t a run =
     subst (λ (n : ℕ). Runs n (started None program context relay) t (under None a)) (sym counted) (runs_under None run.0 (started patience program context relay) t a tt run.1)
 
 -- A letter is made from the activation in its current state.
-pub letter_of_run : (general round : ℕ) (t : List Access) (a : Activation) → IsContext a.context → IsToldTo general round a.context → a.relay ≡ relay_told general round a.context → AreFitting t → (k : ℕ) × Runs k (started a.patience a.program a.context a.relay) t a → IsLetter (letter_left general round t a)
-letter_of_run general round t a context own relay fit run = record {
+pub letter_of_run : (general round : ℕ) (t : List Access) (a : Activation) → IsContext a.context → IsToldTo general round a.context → a.relay.shape ≡ shape_told general round a.context → (tells_oral a.context → a.relay.kind ≡ Oral) → AreFitting t
+    → (k : ℕ) × Runs k (started a.patience a.program a.context a.relay) t a → IsLetter (letter_left general round t a)
+letter_of_run general round t a context own shape kind fit run = record {
   context = context;
   own = own;
-  shape = ap (λ (r : Relay). r.shape) relay;
-  kind = λ spoken. ap (λ (r : Relay). r.kind) relay;
+  shape = shape;
+  kind = kind;
   run = (fit, under None a, run_without a.patience a.program a.context a.relay t a run, refl, refl, refl);
 }
 
@@ -109,17 +110,17 @@ own_run general round program context patience relay t a way =
     (way.run.0, subst (λ (x : Activation). Runs way.run.0 x t a) (λ i. started (sym s.patience i) (sym s.program i) (sym s.context i) (sym s.relay i)) way.run.1)
 
 -- The letter of an activation that has ended.
-pub lived : (general round : ℕ) (program : List Insn) (context : List ℕ) (patience : Option ℕ) (relay : Relay) (t : List Access) (a : Activation) (l : Letter) → relay ≡ relay_told general round context → IsWithin a.patience a.state.steps →
-    IsOnWay general round (started patience program context relay) a t → has_ended a ≡ true → l ≡ letter_left general round t a → IsLived general round program context patience l
-lived general round program context patience relay t a l told within way ended is =
+pub lived : (general round : ℕ) (program : List Insn) (context : List ℕ) (patience : Option ℕ) (relay : Relay) (t : List Access) (a : Activation) (l : Letter) → IsWithin a.patience a.state.steps →
+    IsOnWay general round (started patience program context relay) a t → has_ended a ≡ true → l ≡ letter_left general round t a → IsLivedIn general round program context relay patience l
+lived general round program context patience relay t a l within way ended is =
     let s = way.same in
-    subst (λ (x : Letter). IsLived general round program context patience x) (sym is)
+    subst (λ (x : Letter). IsLivedIn general round program context relay patience x) (sym is)
     (record {
       own_general = refl;
       own_round = refl;
       own_context = s.context;
       own_program = ap (λ (p : List Insn). Some p) s.program;
-      relay = s.relay ∙ told;
+      own_relay = s.relay;
       run = (
         way.fitting,
         under None a,

@@ -3,7 +3,7 @@
 use Rattle.std.specs.Prelude.{ℕ, ◌≡◌, ◌≤◌, Bool, true, false, ◌||◌, Option, Some, None, min, All, List, [], ◌∷◌, ◌++◌}
 use Rattle.semantics.specs.declared.request.Request.{Request}
 use Rattle.semantics.specs.State.{State, Outcome, Next, Ask, Exit}
-use Rattle.semantics.specs.Relay.{IsContext}
+use Rattle.semantics.specs.Relay.{IsContext, Relay}
 use Rattle.board.specs.Board.{Access, reply, next}
 use Rattle.board.specs.Ledger.{RecordedBoard}
 use Rattle.machine.specs.Standing.{Standing, before}
@@ -119,27 +119,39 @@ pub record IsWayServed (general round : ℕ) (start a : Activation)
   pub way : IsOnWay general round start a transcript
   pub whole : served ≡ before ++ transcript
 
--- States that a run of the program was stopped because memory ran out. `served` is the list `before` followed by the
--- accesses that the run had made.
+-- States that a run of the program, begun with this relay, was stopped because memory ran out. `served` is the list
+-- `before` followed by the accesses that the run had made.
+abbrev pub IsGivenUpIn : ℕ → ℕ → List Insn → List ℕ → Relay → Option ℕ → List Access → List Access → Type 0
+IsGivenUpIn general round program context relay patience before served =
+    (a : Activation) × (transcript : List Access)
+    × IsWayServed general round (started patience program context relay) a before transcript served
+
+-- States that a run of the program in a campaign with oral orders was stopped because memory ran out. `served` is the
+-- list `before` followed by the accesses that the run had made.
 abbrev pub IsGivenUp : ℕ → ℕ → List Insn → List ℕ → Option ℕ → List Access → List Access → Type 0
 IsGivenUp general round program context patience before served =
-    (a : Activation) × (transcript : List Access)
-    × IsWayServed general round
-    (started patience program context (relay_told general round context)) a before transcript served
+    IsGivenUpIn general round program context (relay_told general round context) patience before served
 
 -- States that `l` is the letter of an activation that has ended: its program has exited or used up the patience. Its
--- outbox is what the program produced in this context, with exactly the accesses of the transcript, whose replies fit.
-pub record IsLived (general round : ℕ) (program : List Insn) (context : List ℕ) (patience : Option ℕ)
+-- outbox is what the program produced in this context, begun with this relay, with exactly the accesses of the
+-- transcript, whose replies fit.
+pub record IsLivedIn (general round : ℕ) (program : List Insn) (context : List ℕ) (relay : Relay) (patience : Option ℕ)
     (l : Letter) : Type 0 where
   pub own_general : l.general ≡ general
   pub own_round : l.round ≡ round
   pub own_context : l.context ≡ context
   pub own_program : l.program ≡ Some program
-  pub relay : l.outbox.relay ≡ relay_told general round context
+  pub own_relay : l.outbox.relay ≡ relay
   pub run : IsRunOf l (Some program)
   pub accesses : AreAccessesOf general round l.transcript
   pub within : IsWithin patience l.steps
   pub ended : (l.exited || is_reached patience l.steps) ≡ true
+
+-- States that `l` is the letter of an activation that has ended, in a campaign with oral orders. Its outbox is what the
+-- program produced in this context, with exactly the accesses of the transcript, whose replies fit.
+abbrev pub IsLived : ℕ → ℕ → List Insn → List ℕ → Option ℕ → Letter → Type 0
+IsLived general round program context patience l =
+    IsLivedIn general round program context (relay_told general round context) patience l
 
 -- Returns the letter made from an activation in its current state and these accesses.
 abbrev pub letter_left : ℕ → ℕ → List Access → Activation → Letter

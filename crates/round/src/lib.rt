@@ -29,8 +29,8 @@ pub use laws::{
     runs_follow_answers, runs_have_one_end,
 };
 pub use letter::Letter;
-pub use life::live;
-pub use loyalty::{loyal_letter, shape_told};
+pub use life::{live, live_in};
+pub use loyalty::{loyal_letter, loyal_letter_with, shape_told};
 pub use origin::{are_letters_of, are_rounds_of};
 pub use round::Round;
 pub use run::Running;

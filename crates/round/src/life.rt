@@ -4,13 +4,15 @@ ghost use Rattle.std.specs.Arc.{arc_value};
 ghost use Rattle.insn.specs.declared.insn.Insn.{Insn};
 ghost use Rattle.label.specs.Relay.{IsShape};
 ghost use Rattle.semantics.specs.Call.{fits, resumed};
+ghost use Rattle.semantics.specs.Outbox.{empty_outbox};
+ghost use Rattle.semantics.specs.Relay.{Oral};
 ghost use Rattle.machine.specs.Standing.{HasAsked, before};
 ghost use Rattle.machine.specs.Advance.{IsOfRun, IsAskOfRun};
 ghost use Rattle.round.specs.Activation.{Activation as Activated, started, turn, has_ended};
 ghost use Rattle.round.specs.Runs.{Runs, AreFitting};
-ghost use Rattle.round.specs.Contexts.{IsToldTo, shape_told};
+ghost use Rattle.round.specs.Contexts.{IsToldTo, shape_told, tells_oral};
 ghost use Rattle.board.specs.Board.{Access as Entry};
-ghost use Rattle.round.specs.Running.{TakesTurn, IsSameRun, IsWayServed, IsGivenUp, IsLived};
+ghost use Rattle.round.specs.Running.{TakesTurn, IsSameRun, IsWayServed, IsGivenUp, IsGivenUpIn, IsLived, IsLivedIn};
 
 use crate::letter::Letter;
 use crate::loyalty::shape_told;
@@ -52,13 +54,42 @@ pub fn live<S: Server>(
         (S.served server.new)) }
 {
     let shape = shape_told(general, round, context.as_slice());
-    let mut running = Running::start(
-        alloc,
-        program,
-        context,
-        patience,
-        Outbox::new(alloc, shape)?,
-    )?;
+    let outbox = Outbox::new(alloc, shape)?;
+    live_in(
+        alloc, server, general, round, program, context, patience, outbox,
+    )
+}
+
+/// Runs a general's program as `live` does, for oral or signed orders, and with `outbox`. This must be empty, and for
+/// the relay that the context describes.
+///
+/// # Errors
+///
+/// The errors are those of `live`.
+pub fn live_in<S: Server>(
+    alloc: Global,
+    server: &mut S,
+    general: u32,
+    round: u32,
+    program: Arc<Verified>,
+    context: Vec<u8>,
+    patience: Option<u32>,
+    outbox: Outbox,
+) -> Result<Letter, AllocError>
+    requires context { length context.items ≡ 4096 }
+    requires own { IsToldTo general round context.items }
+    requires shape { outbox.relay.shape ≡ shape_told general round context.items }
+    requires kind { tells_oral context.items → outbox.relay.kind ≡ Oral }
+    requires empty { outbox.rows ≡ empty_outbox outbox.relay }
+    requires unentered { outbox.entries ≡ [] }
+    ensures lived { IfOk result
+        (IsLivedIn general round (arc_value program) context.items outbox.relay patience) }
+    ensures served { IfOk result (λ letter. S.served server.new ≡ S.served server.old ++ letter.transcript) }
+    ensures given_up { OnErr result
+        (IsGivenUpIn general round (arc_value program) context.items outbox.relay patience (S.served server.old)
+        (S.served server.new)) }
+{
+    let mut running = Running::start(alloc, program, context, patience, outbox)?;
     let mut transcript = Vec::new(alloc);
     while !running.has_ended() {
         go_on(&mut running, &mut transcript, server, general, round)?;

@@ -1,7 +1,8 @@
 //! Makes the letters of loyal generals.
-ghost use Rattle.std.specs.Prelude.{◌≡◌, length, IfOk};
+ghost use Rattle.std.specs.Prelude.{◌≡◌, [], length, IfOk};
 ghost use Rattle.label.specs.Relay.{IsShape};
-ghost use Rattle.round.specs.Contexts.{IsToldTo, shape_told, outbox_told, letter_told};
+ghost use Rattle.semantics.specs.Relay.{Oral};
+ghost use Rattle.round.specs.Contexts.{IsToldTo, shape_told, outbox_told, letter_told, faithful_letter_with, rows_told, tells_oral};
 
 use crate::letter::Letter;
 use crate::seat::Player;
@@ -33,7 +34,27 @@ pub fn loyal_letter(
 {
     let shape = shape_told(general, round, context.as_slice());
     let outbox = faithful(alloc, shape, context.as_slice())?;
-    Ok(Letter {
+    Ok(loyal_letter_with(alloc, general, round, context, outbox))
+}
+
+/// Returns a loyal general's letter of a round, in which he sends what `outbox` contains. The context must be for this
+/// general and round. In an oral campaign the outbox must have the orders in the context for all their receivers.
+pub fn loyal_letter_with(
+    alloc: Global,
+    general: u32,
+    round: u32,
+    context: Vec<u8>,
+    outbox: Outbox,
+) -> Letter
+    requires context { length context.items ≡ 4096 }
+    requires own { IsToldTo general round context.items }
+    requires shape { outbox.relay.shape ≡ shape_told general round context.items }
+    requires kind { tells_oral context.items → outbox.relay.kind ≡ Oral }
+    requires rows { outbox.rows ≡ rows_told outbox.relay context.items }
+    requires entries { tells_oral context.items → outbox.entries ≡ [] }
+    ensures { result ≡ faithful_letter_with general round context.items outbox }
+{
+    Letter {
         general,
         round,
         context,
@@ -42,7 +63,7 @@ pub fn loyal_letter(
         steps: 0,
         outbox,
         exited: true,
-    })
+    }
 }
 
 /// Returns the outbox of a loyal general. It sends each receiver of each label the order in `context` that the general

@@ -1,5 +1,5 @@
 -- What holds in a signed world, and what its events change.
-use Rattle.std.proofs.Common.{◌≡◌, ℕ, suc, ◌<◌, ◌≤◌, List, [], ◌∷◌, ◌++◌, length, drop, Bool, true, refl, sym, ap, subst, ◌∙◌, Result, arith}
+use Rattle.std.proofs.Common.{◌≡◌, ℕ, suc, ◌<◌, ◌≤◌, List, [], ◌∷◌, ◌++◌, length, drop, Bool, true, refl, sym, ap, subst, ◌∙◌, Result, Some, None, arith}
 use Rattle.std.specs.Prelude.{OnOk, OnErr, slice_get, replicate, ◌&&◌}
 use Rattle.std.specs.List.{list_all}
 use Rattle.board.specs.Board.{Access}
@@ -19,16 +19,17 @@ use Rattle.world.specs.KindHeld.{world_of, IsHeld, AheadTo, ticked_of, posted_of
 use Rattle.signed.specs.Sending.{IsSent, IsSignedHeld, beginnings_behind, drafts_behind, sent_drafted, signatures}
 use Rattle.signed.specs.Sent.{Sent, round_sent, sent_in}
 use Rattle.signed.specs.Signers.{Signature}
+use Rattle.signed.specs.Traitors.{AreAnyLetters}
 use Rattle.signed.proofs.Along.{sent_none, sent_more, sent_length}
 use Rattle.signed.proofs.Behind.{parts_behind}
 use Rattle.signed.proofs.Drafted.{drafts_count, drafts_run, round_drafted, row_is}
 use Rattle.world.proofs.Holding.{ahead_is, close_is, held_few, held_letters, held_on, post_is, tick_held}
 use Rattle.signed.proofs.Telling.{signed_relays}
-use Rattle.signed.proofs.Worlds.{signed_campaigns}
+use Rattle.signed.proofs.Worlds.{any_written, played_any, signed_campaigns}
 
 -- Before any event nothing was sent.
 pub none_sent : (s : Scenario) → IsSent s []
-none_sent s = ([], sym (sent_none s))
+none_sent s = ([], λ k g row l at lt of. absurd (let f : None ≡ Some row = at in cc), sym (sent_none s))
 
 pub opened : (s : Scenario) (k : RecordedBoard) (ps : List Progress) → k.words ≡ s.board → k.ledger ≡ [] → ps ≡ beginnings_behind s [] → world_of s [] k 0 ps true ≡ opening signed_kind s
 opened s k ps words ledger parts =
@@ -51,9 +52,11 @@ drafts_same s x x' a a' p p' ds is e f g = is ∙ (λ i. drafts_behind s (e i) (
 pub sendings_same : (s : Scenario) (x x' : Sent) (d d' : List LetterDraft) (p p' : List Progress) (sendings : List (List Dispatch)) → sendings ≡ sent_drafted s x' d' p' → x' ≡ x → d' ≡ d → p' ≡ p → sendings ≡ sent_drafted s x d p
 sendings_same s x x' d d' p p' sendings is e f g = is ∙ (λ i. sent_drafted s (e i) (f i) (g i))
 
--- The chains sent are those of some list of events.
-pub is_sent : (s : Scenario) (closed : List (List Letter)) (k : RecordedBoard) (opened : ℕ) (ps : List Progress) (full : Bool) (sent : Sent) (signers : List Signature) → IsSignedHeld s closed k opened ps full sent signers → IsSent s sent
-is_sent s closed k opened ps full sent signers h = (h.reached.0, h.chains ∙ ap (λ (w : World). sent_in s w.closed) (sym h.reached.1))
+-- The chains sent are those of the letters of the closed rounds.
+pub is_sent : (s : Scenario) (closed : List (List Letter)) (k : RecordedBoard) (opened : ℕ) (ps : List Progress) (full : Bool) (sent : Sent) (signers : List Signature) → IsScenario s → IsSignedHeld s closed k opened ps full sent signers → IsSent s sent
+is_sent s closed k opened ps full sent signers is h =
+    let any : AreAnyLetters s closed = subst (λ (w : World). AreAnyLetters s w.closed) h.reached.1 (played_any s h.reached.0 is) in
+    (closed, any_written s closed any, h.chains)
 
 module _ (s : Scenario) (closed : List (List Letter)) (k : RecordedBoard) (opened : ℕ) (ps : List Progress) (full : Bool) (sent : Sent) (signers : List Signature) (h : IsSignedHeld s closed k opened ps full sent signers) where
   pub as_held : IsHeld signed_kind s closed k opened ps full
@@ -136,4 +139,4 @@ module _ (s : Scenario) (closed : List (List Letter)) (k : RecordedBoard) (opene
 
     -- The next round begins with these chains sent.
     pub closing_sent : IsSent s sent'
-    closing_sent = is_sent s closed_now k (length k.ledger) (beginnings_behind s sent') (full && list_all owes_no_letter ps) sent' signers (closed_kept closed_now (length k.ledger) (beginnings_behind s sent') (full && list_all owes_no_letter ps) refl refl refl refl)
+    closing_sent = is_sent s closed_now k (length k.ledger) (beginnings_behind s sent') (full && list_all owes_no_letter ps) sent' signers is (closed_kept closed_now (length k.ledger) (beginnings_behind s sent') (full && list_all owes_no_letter ps) refl refl refl refl)

@@ -36,6 +36,7 @@ pub mod Duties
 pub mod Written
 pub mod Marks
 pub mod Behind
+pub mod Logs
 pub mod Drafted
 pub mod Closed
 pub mod Judged

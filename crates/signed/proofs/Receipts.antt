@@ -14,13 +14,12 @@ use Rattle.signed.specs.Accepted.{came, held}
 use Rattle.signed.specs.Entries.{Dispatch, Entry, dispatched}
 use Rattle.signed.specs.Sent.{Sent, delivered, held_behind, sends, round_sent, sent_along, sent_in}
 use Rattle.signed.specs.Sending.{received_in, AreRows, HeldChains, held_of, IsSent}
-use Rattle.signed.specs.Kind.{played}
 use Rattle.signed.specs.Signers.{Signature}
 use Rattle.signed.proofs.Adding.{came_is}
 use Rattle.signed.proofs.Along.{held_is}
 use Rattle.signed.proofs.Making.{IsMade}
 use Rattle.signed.proofs.Places.{row_length}
-use Rattle.signed.proofs.Worlds.{played_made}
+use Rattle.signed.proofs.Worlds.{written_made}
 
 none_came : (gs : List ℕ) → flat_map {X = ℕ} {A = Chain} (λ h. []) gs ≡ []
 none_came [] = refl
@@ -82,17 +81,17 @@ rows_in : (s : Scenario) (closed : List (List Letter)) → AreRows s.generals (s
 unfolding sent_in
 rows_in s closed = rows_along s [] closed (λ k d lt. absurd (omega arith))
 
--- The chains that events have sent are a list for each general in each round.
+-- The chains that letters have sent are a list for each general in each round.
 pub sent_rows : (s : Scenario) (sent : Sent) → IsSent s sent → AreRows s.generals sent
 sent_rows s sent h =
     let A : Sent → Type 0 = λ x. AreRows s.generals x in
-    subst A (sym h.1) (rows_in s (played s h.0).closed)
+    subst A (sym h.2) (rows_in s h.0)
 
 -- They are made by entries, or as loyal generals make them.
 pub sent_made : (s : Scenario) (sent : Sent) → IsScenario s → IsSent s sent → IsMade s sent
 sent_made s sent is h =
     let A : Sent → Type 0 = λ x. IsMade s x in
-    subst A (sym h.1) (played_made s h.0 is)
+    subst A (sym h.2) (written_made s h.0 h.1)
 
 -- One more general is considered.
 pub row_more : {X : Type 0} (f : ℕ → X) (k : ℕ) (xs : List X) (x : X) (ys : List X) → ys ≡ xs ++ x ∷ [] → xs ≡ map f (generals k) → x ≡ f k → ys ≡ map f (generals (k + 1))

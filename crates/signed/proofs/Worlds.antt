@@ -24,11 +24,12 @@ use Rattle.world.proofs.Standing.{standing}
 use Rattle.signed.specs.Entries.{Dispatch, dispatched}
 use Rattle.signed.specs.Loyal.{loyal_entries}
 use Rattle.signed.specs.Sent.{Sent, sent_by, delivered, sends, round_sent, sent_in}
+use Rattle.signed.specs.Sending.{IsWritten, AreWritten}
 use Rattle.signed.specs.Kind.{signed_kind, played}
 use Rattle.signed.specs.Traitors.{IsAnyLetter, AreAnyLetters}
 use Rattle.signed.proofs.Along.{held_is, sent_none, sent_more, sent_length}
 use Rattle.signed.proofs.Passing.{proved_loyal_entries_are_sent}
-use Rattle.signed.proofs.Making.{IsMadeOf, of_entries, of_loyal, made_more, full_more, sent_last}
+use Rattle.signed.proofs.Making.{IsMadeOf, of_loyal, made_more, full_more}
 use Rattle.signed.proofs.Making as making
 use Rattle.signed.proofs.Places.{row_at, row_past, get_or_at}
 use Rattle.signed.proofs.Sending.{runs_kept, start_kept}
@@ -69,25 +70,25 @@ letter_any s before l is h = by l.program refl h.made
     }
 
 -- What a letter sends depends on whose it is.
-letter_made : (s : Scenario) (before : List (List Letter)) (g : ℕ) (l : Letter) → g < s.generals → IsAnyLetter s before g l
+letter_made : (s : Scenario) (before : List (List Letter)) (g : ℕ) (l : Letter) → g < s.generals → IsWritten s before g l
     → IsMadeOf s (delivered (sent_in s before)) (suc (length (sent_in s before))) g (sends s (sent_in s before) g (Some l))
-letter_made s before g l lt h = elim (cases_Bool (is_traitor s g)) [
-  | inl bad ↦ inr (inl (record {
-    general = lt;
-    entries = l.outbox.entries;
-    few = h.few bad;
-    sends = ap (λ held. dispatched s.generals s.commander g held l.outbox.entries) (held_is s.generals (sent_in s before) g);
-  }))
-  | inr good ↦
+letter_made s before g l lt h = elim h [
+  | inl own ↦
       let sent = sent_in s before in
       let entries : l.outbox.entries ≡ loyal_entries s.generals s.commander s.bound s.order (delivered sent) (suc (length sent)) g =
-      ap (λ (m : Letter). m.outbox.entries) (h.loyal good)
+      ap (λ (m : Letter). m.outbox.entries) own
       ∙ ap (λ (n : ℕ). loyal_entries s.generals s.commander s.bound s.order (delivered sent) (suc n) g) (sym (sent_length s before)) in
       inr (inr (record {
         general = lt;
         sends = (λ i. dispatched s.generals s.commander g (held_is s.generals sent g i) (entries i))
             ∙ proved_loyal_entries_are_sent s.generals s.commander s.bound s.order (delivered sent) (suc (length sent)) g;
       }))
+  | inr few ↦ inr (inl (record {
+    general = lt;
+    entries = l.outbox.entries;
+    few = few;
+    sends = ap (λ held. dispatched s.generals s.commander g held l.outbox.entries) (held_is s.generals (sent_in s before) g);
+  }))
 ]
 
 -- The letter that is found is one of the list, and his.
@@ -102,7 +103,7 @@ found P (x ∷ row) g l e all = by (x.general == g) refl e (λ f. found P row g 
     by false other is next = next is
 
 -- What the letters of a round send.
-row_made : (s : Scenario) (before : List (List Letter)) (row : List Letter) → ((g : ℕ) (l : Letter) → g < s.generals → letter_of row g ≡ Some l → IsAnyLetter s before g l) → (g : ℕ)
+row_made : (s : Scenario) (before : List (List Letter)) (row : List Letter) → ((g : ℕ) (l : Letter) → g < s.generals → letter_of row g ≡ Some l → IsWritten s before g l) → (g : ℕ)
     → IsMadeOf s (delivered (sent_in s before)) (suc (length (sent_in s before))) g (get_or (round_sent s (sent_in s before) row) g [])
 row_made s before row all g =
     let sent = sent_in s before in
@@ -117,7 +118,7 @@ row_made s before row all g =
     by None e lt = inl refl
     by (Some l) e lt = letter_made s before g l lt (all g l lt e)
 
-made_to : (s : Scenario) (closed : List (List Letter)) → AreAnyLetters s closed → (k : ℕ) → k ≤ length closed → making.IsMade s (sent_in s (take k closed))
+made_to : (s : Scenario) (closed : List (List Letter)) → AreWritten s closed → (k : ℕ) → k ≤ length closed → making.IsMade s (sent_in s (take k closed))
 made_to s closed all zero le =
     let A : Sent → Type 0 = λ sent. making.IsMade s sent in
     subst A (sym (sent_none s)) (λ r g. inl (nothing r g))
@@ -135,10 +136,20 @@ made_to s closed all (suc k) le =
     (row_made s (take k closed) at.0 (λ g l lt e. all k g at.0 l at.1 lt e))))
 
 -- So the chains sent in them are made as signed orders are.
-pub made_in : (s : Scenario) (closed : List (List Letter)) → AreAnyLetters s closed → making.IsMade s (sent_in s closed)
-made_in s closed all =
+pub written_made : (s : Scenario) (closed : List (List Letter)) → AreWritten s closed → making.IsMade s (sent_in s closed)
+written_made s closed all =
     let A : List (List Letter) → Type 0 = λ rows. making.IsMade s (sent_in s rows) in
     subst A (take_all (length closed) closed (omega arith)) (made_to s closed all (length closed) (omega arith))
+
+-- Letters that events can make are written in this way.
+pub any_written : (s : Scenario) (closed : List (List Letter)) → AreAnyLetters s closed → AreWritten s closed
+any_written s closed all k g row l at lt of =
+    let h = all k g row l at lt of in
+    elim (cases_Bool (is_traitor s g)) [ inl bad ↦ inr (h.few bad) | inr good ↦ inl (h.loyal good) ]
+
+-- So the chains that they send are made as signed orders are.
+pub made_in : (s : Scenario) (closed : List (List Letter)) → AreAnyLetters s closed → making.IsMade s (sent_in s closed)
+made_in s closed all = written_made s closed (any_written s closed all)
 
 -- If every loyal general's letters are there, each sends what SM(m) requires.
 row_full : (s : Scenario) (before : List (List Letter)) (row : List Letter) (g : ℕ) → g < s.generals → letter_of row g ≡ Some (loyal_letter signed_kind s before g)

@@ -12,7 +12,7 @@ use Rattle.mem.proofs.Bytes.{bytes_context}
 use Rattle.round.proofs.Contexts.{shape_is}
 use Rattle.signed.specs.Chains.{Chain}
 use Rattle.signed.specs.Contexts.{signed_context_numbers, signer_bits}
-use Rattle.signed.specs.Kind.{signed_context, played}
+use Rattle.signed.specs.Kind.{signed_context}
 use Rattle.signed.specs.Loyal.{loyal_entries}
 use Rattle.signed.specs.Sent.{Sent, delivered, held_behind, sent_in}
 use Rattle.signed.specs.Sending.{context_behind, relay_behind, letter_behind, held_of, AreRows, IsSent}
@@ -21,21 +21,21 @@ use Rattle.signed.proofs.Receipts.{chains_held}
 use Rattle.signed.proofs.Telling.{signed_relays, not_oral}
 
 -- His context after the closed rounds that sent these chains.
-told_in : (s : Scenario) (sent : Sent) (g : ℕ) (h : IsSent s sent) → context_behind s sent g ≡ signed_context s (played s h.0).closed g
+told_in : (s : Scenario) (sent : Sent) (g : ℕ) (h : IsSent s sent) → context_behind s sent g ≡ signed_context s h.0 g
 told_in s sent g h =
-    let closed = (played s h.0).closed in
-    ap (λ (x : Sent). context_behind s x g) h.1
+    let closed = h.0 in
+    ap (λ (x : Sent). context_behind s x g) h.2
     ∙ ap (λ (k : ℕ). context_bytes (signed_context_numbers s.generals s.bound s.commander g (suc k) (held_behind s.generals (sent_in s closed) g))) (sent_length s closed)
 
-rounds_in : (s : Scenario) (sent : Sent) (h : IsSent s sent) → length sent ≡ length (played s h.0).closed
-rounds_in s sent h = ap length h.1 ∙ sent_length s (played s h.0).closed
+rounds_in : (s : Scenario) (sent : Sent) (h : IsSent s sent) → length sent ≡ length h.0
+rounds_in s sent h = ap length h.2 ∙ sent_length s h.0
 
 pub context_whole : (s : Scenario) (sent : Sent) (g : ℕ) → IsContext (context_behind s sent g)
 context_whole s sent g = bytes_context _
 
 pub letter_is : (s : Scenario) (sent : Sent) (g : ℕ) → IsScenario s → IsSent s sent → g < s.generals → length sent ≤ s.bound → IsLetter (letter_behind s sent g)
 letter_is s sent g is h lt le =
-    let closed = (played s h.0).closed in
+    let closed = h.0 in
     let C : List ℕ → Type 0 = λ context. IsToldTo g (suc (length closed)) context in
     let tell = signed_relays s is in
     let rounds = rounds_in s sent h in

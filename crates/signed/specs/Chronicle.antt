@@ -4,6 +4,7 @@ use Rattle.std.specs.List.{list_all}
 use Rattle.label.specs.Labels.{generals}
 use Rattle.label.specs.Lieutenants.{lieutenants}
 use Rattle.book.specs.Conditions.{are_alike}
+use Rattle.board.specs.Board.{Access}
 use Rattle.round.specs.Scenario.{Scenario, is_traitor}
 use Rattle.round.specs.Letters.{Letter}
 use Rattle.world.specs.declared.verdict.Verdict.{Verdict}
@@ -27,13 +28,17 @@ signed_verdict_of s ds =
       bound = nat_le (count_by (is_traitor s) (generals s.generals)) s.bound;
     }
 
+-- Returns the chronicle of these letters, accesses and decisions, with the verdict on the decisions.
+abbrev pub signed_chronicle_with : Scenario → List (List Letter) → List Access → List ℕ → Chronicle
+signed_chronicle_with s letters accesses ds = record {
+  scenario = s;
+  letters = letters;
+  accesses = accesses;
+  decisions = ds;
+  verdict = signed_verdict_of s ds;
+}
+
 -- Returns the chronicle of a world: its letters, its accesses, the lieutenants' decisions from the chains, and the
 -- verdict on these.
 abbrev pub signed_chronicle_of : World → Chronicle
-signed_chronicle_of w = record {
-  scenario = w.scenario;
-  letters = w.closed;
-  accesses = w.ledger;
-  decisions = signed_decisions w.scenario w.closed;
-  verdict = signed_verdict_of w.scenario (signed_decisions w.scenario w.closed);
-}
+signed_chronicle_of w = signed_chronicle_with w.scenario w.closed w.ledger (signed_decisions w.scenario w.closed)

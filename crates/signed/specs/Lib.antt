@@ -8,6 +8,7 @@ pub mod Signers
 pub mod Sent
 pub mod Kind
 pub mod Sending
+pub mod Logs
 pub mod Explained
 pub mod Laws
 pub mod Traitors

@@ -1,6 +1,6 @@
 -- How the code stores the chains that were sent (own). Only the promise of `SignedChronicle::sent` depends on this file
 -- (`named`, `dispatch_of`). Entries.antt and Sent.antt define which chains are sent.
-use Rattle.std.specs.Prelude.{ℕ, suc, ◌≡◌, ◌==◌, ◌-◌, nat_lt, cond, Bool, List, [], ◌∷◌, ◌++◌, map, filter, flat_map, take, All, length, Option, Some, None, slice_get}
+use Rattle.std.specs.Prelude.{ℕ, suc, ◌≡◌, ◌<◌, ◌≤◌, ◌⊎◌, ◌==◌, ◌-◌, nat_lt, cond, Bool, List, [], ◌∷◌, ◌++◌, map, filter, flat_map, take, All, length, Option, Some, None, slice_get}
 use Rattle.std.specs.Borrow.{Bor}
 use Rattle.std.specs.Int.{bit_at}
 use Rattle.insn.specs.declared.insn.Insn.{Insn}
@@ -10,21 +10,21 @@ use Rattle.semantics.specs.Entries.{entered}
 use Rattle.board.specs.Board.{Access}
 use Rattle.board.specs.Ledger.{RecordedBoard}
 use Rattle.round.specs.Scenario.{Scenario, program_of, shape_of}
-use Rattle.round.specs.Letters.{Letter}
+use Rattle.round.specs.Letters.{Letter, letter_of}
 use Rattle.round.specs.Contexts.{context_bytes, faithful_letter_with}
 use Rattle.round.specs.Activation.{started}
 use Rattle.world.specs.declared.event.Event.{Event}
 use Rattle.world.specs.declared.draft.LetterDraft.{LetterDraft}
 use Rattle.world.specs.declared.draft.LetterDraft.TheVariants.{Begun, Whole, Missing}
-use Rattle.world.specs.Kind.{each, accesses_of}
+use Rattle.world.specs.Kind.{each, accesses_of, loyal_letter}
 use Rattle.world.specs.declared.part.Progress.{Progress}
 use Rattle.world.specs.declared.part.Progress.TheVariants.{Acting, Silent, Posted}
 use Rattle.world.specs.Reached.{world_of}
 use Rattle.signed.specs.Chains.{Chain}
 use Rattle.signed.specs.Accepted.{counts}
 use Rattle.signed.specs.Contexts.{signed_context_numbers, signer_bits}
-use Rattle.signed.specs.Entries.{Dispatch, Entry, dispatched, received}
-use Rattle.signed.specs.Kind.{played, sent_after}
+use Rattle.signed.specs.Entries.{Dispatch, Entry, dispatched, most_entries, received}
+use Rattle.signed.specs.Kind.{signed_kind, played}
 use Rattle.signed.specs.Loyal.{loyal_entries}
 use Rattle.signed.specs.Sent.{Sent, delivered, held_behind, sent_in}
 use Rattle.signed.specs.Signers.{Signature}
@@ -153,9 +153,27 @@ sent_drafted s sent drafts parts =
     map (λ g. dispatched s.generals s.commander g (held_behind s.generals sent g)
     (entries_drafted (slice_get drafts g) (slice_get parts g))) (generals s.generals)
 
--- States that some list of events leads to closed rounds in which exactly this was sent.
+-- Returns the entries with which general `g` begins the round after those in which `sent` was sent. A loyal general,
+-- who has no program, begins with all that he sends, and a traitor with none.
+abbrev pub entries_behind : Scenario → Sent → ℕ → Option (List Insn) → List Entry
+entries_behind s sent g None =
+    loyal_entries s.generals s.commander s.bound s.order (delivered sent) (suc (length sent)) g
+entries_behind s sent g (Some program) = []
+
+-- States that `l` is the letter that a loyal general `g` makes in the round after these closed rounds, or has at most
+-- eight entries.
+abbrev pub IsWritten : Scenario → List (List Letter) → ℕ → Letter → Type 0
+IsWritten s before g l = (l ≡ loyal_letter signed_kind s before g) ⊎ (length l.outbox.entries ≤ most_entries)
+
+-- States that each letter of these rounds is the one that a loyal general makes in its round, or has at most eight
+-- entries.
+abbrev pub AreWritten : Scenario → List (List Letter) → Type 0
+AreWritten s closed = (k g : ℕ) (row : List Letter) (l : Letter) → slice_get closed k ≡ Some row → g < s.generals →
+    letter_of row g ≡ Some l → IsWritten s (take k closed) g l
+
+-- States that some rounds of letters, each a loyal general's or with at most eight entries, send exactly this.
 abbrev pub IsSent : Scenario → Sent → Type 0
-IsSent s sent = (events : List Event) × (sent ≡ sent_after s events)
+IsSent s sent = (closed : List (List Letter)) × AreWritten s closed × (sent ≡ sent_in s closed)
 
 -- Returns the signers of all generals, ascending.
 abbrev pub signatures : ℕ → ℕ → List Signature

@@ -13,7 +13,7 @@ use crate::chronicle::SignedChronicle;
 use crate::signed_world::SignedWorld;
 use round::Scenario;
 use std::alloc::{AllocError, Global};
-use world::{Schedule, play_listed, play_named};
+use world::{Schedule, rounds_played, schedule_played};
 
 /// Returns the chronicle of the scenario's signed campaign, played by a schedule. In each round the entries of the
 /// schedule's line for this round are played one by one. Then all loyal generals post their letters, ascending, and all
@@ -88,8 +88,8 @@ fn played_listed(
     ensures finished { IfOk result IsFinished }
 {
     scenario.recall();
-    let mut world = SignedWorld::open(alloc, scenario)?;
-    play_listed(&mut world, schedule)?;
+    let opened = SignedWorld::open(alloc, scenario)?;
+    let world = schedule_played(opened, schedule)?;
     Ok(world)
 }
 
@@ -105,7 +105,7 @@ fn played_named(
     ensures finished { IfOk result IsFinished }
 {
     scenario.recall();
-    let mut world = SignedWorld::open(alloc, scenario)?;
-    play_named(&mut world, names)?;
+    let opened = SignedWorld::open(alloc, scenario)?;
+    let world = rounds_played(opened, names)?;
     Ok(world)
 }

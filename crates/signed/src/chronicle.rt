@@ -1,9 +1,13 @@
 //! Defines the chronicle of a finished signed campaign: its letters, chains, accesses, decisions and verdict.
 ghost use Rattle.std.specs.Prelude.{◌≡◌, ◌≤◌, ◌<◌, map};
+ghost use Rattle.signed.specs.Chronicle.{signed_chronicle_with};
+ghost use Rattle.signed.specs.Logs.{IsLogOf};
 ghost use Rattle.signed.specs.Sending.{dispatch_of};
 ghost use Rattle.signed.specs.Sent.{sent_by, sent_in};
 
 use crate::chain::Chain;
+use crate::chain_log::ChainLog;
+use crate::judgement::verdict;
 use crate::sent_chains::SentRound;
 use arrayvec::ArrayVec;
 use board::Access;
@@ -42,6 +46,31 @@ impl Model for SignedChronicle {
 }
 
 impl SignedChronicle {
+    /// Returns the chronicle of a campaign. `accesses` are in the board's order, `letters` has the letters by round and
+    /// within a round by general, and `decisions` are ascending by lieutenant. `log` must be the log of these letters.
+    /// The verdict is computed from the scenario and the decisions.
+    pub fn of(
+        scenario: Scenario,
+        accesses: Vec<Access>,
+        letters: Vec<Round>,
+        decisions: ArrayVec<u32, 12>,
+        log: ChainLog,
+    ) -> SignedChronicle
+        requires { IsLogOf scenario letters.items log }
+        ensures { result ≡ signed_chronicle_with scenario letters.items accesses.items decisions.items }
+    {
+        let verdict = verdict(&scenario, decisions.as_slice());
+        let ChainLog { sent, .. } = log;
+        SignedChronicle {
+            scenario,
+            letters,
+            accesses,
+            decisions,
+            verdict,
+            sent,
+        }
+    }
+
     /// Returns the scenario of the campaign.
     pub fn scenario(&self) -> &Scenario
         ensures { result.now ≡ self.now.scenario }

@@ -1,11 +1,14 @@
 //! Judges a signed campaign: computes the lieutenants' decisions, the verdict on them, and the chronicle.
-ghost use Rattle.std.specs.Prelude.{◌≡◌, ◌↔◌, IfSome, IsSome};
+ghost use Rattle.std.specs.Prelude.{◌≡◌, ◌↔◌, ◌≤◌, List, suc, length, IfSome, IsSome};
+ghost use Rattle.round.specs.Letters.{Letter as LetterSeen};
 ghost use Rattle.signed.specs.Chronicle.{signed_chronicle_of, signed_decisions, signed_verdict_of};
 ghost use Rattle.signed.specs.Promises.{AgreeUnderSignedBound};
+ghost use Rattle.signed.specs.Sent.{sent_in};
 ghost use Rattle.world.specs.Agreement.{IsFinished};
 
 use crate::acceptance::{accepted, decided};
 use crate::chronicle::SignedChronicle;
+use crate::sent_chains::SentRound;
 use crate::signed_world::SignedWorld;
 use arrayvec::ArrayVec;
 use round::Scenario;
@@ -23,15 +26,8 @@ impl SignedWorld {
         ensures values { result.items ≡ signed_decisions self.now.scenario self.now.closed }
         ensures agree { IsFinished self.now → AgreeUnderSignedBound self.now.scenario result.items }
     {
-        let rounds = self.sent.len();
-        let mut decisions = ArrayVec::new();
-        for general in 0..self.scenario.generals() {
-            if general != self.scenario.commander() {
-                let orders = accepted(self.sent.as_slice(), rounds, general);
-                decisions.push(decided(orders.as_slice()));
-            }
-        }
-        decisions
+        self.scenario.recall();
+        decisions_of(&self.scenario, self.sent.as_slice())
     }
 
     /// Returns the chronicle of the world's campaign. Returns `None` if a round is open, or if a loyal general had not
@@ -63,8 +59,27 @@ impl SignedWorld {
     }
 }
 
+/// Returns the lieutenants' decisions, ascending by lieutenant, from the chains in `sent`. They must be the chains that
+/// the letters of some rounds have sent. It allocates no memory.
+pub(crate) fn decisions_of(scenario: &Scenario, sent: &[SentRound]) -> ArrayVec<u32, 12>
+    requires sent { (closed : List (List LetterSeen)) × (sent.now ≡ sent_in scenario.now closed) }
+    requires few { length sent.now ≤ suc scenario.now.bound }
+    ensures { (closed : List (List LetterSeen)) → sent.now ≡ sent_in scenario.now closed →
+        result.items ≡ signed_decisions scenario.now closed }
+{
+    let rounds = sent.len();
+    let mut decisions = ArrayVec::new();
+    for general in 0..scenario.generals() {
+        if general != scenario.commander() {
+            let orders = accepted(sent, rounds, general);
+            decisions.push(decided(orders.as_slice()));
+        }
+    }
+    decisions
+}
+
 /// Returns the verdict on the lieutenants' decisions, which are given ascending by lieutenant.
-fn verdict(scenario: &Scenario, decisions: &[u32]) -> Verdict
+pub(crate) fn verdict(scenario: &Scenario, decisions: &[u32]) -> Verdict
     ensures { result ≡ signed_verdict_of scenario.now decisions.now }
 {
     let loyal = loyal_decisions(scenario, decisions);

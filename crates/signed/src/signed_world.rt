@@ -212,7 +212,7 @@ impl SignedWorld {
 }
 
 /// Returns the signers of all generals, ascending. Fails with `AllocError` if it runs out of memory.
-fn signers(alloc: Global, generals: u8, commander: u8) -> Result<Vec<Signer>, AllocError>
+pub(crate) fn signers(alloc: Global, generals: u8, commander: u8) -> Result<Vec<Signer>, AllocError>
     requires size { generals ≤ 13 }
     requires commander { commander < 13 }
     ensures { IfOk result (λ signers. signers.items ≡ signatures generals commander) }

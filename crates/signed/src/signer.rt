@@ -3,8 +3,8 @@ ghost use Rattle.std.specs.Prelude.{◌≡◌, ◌<◌};
 
 use std::marker::Model;
 
-/// The right to sign in the name of one general of a campaign. It cannot be copied, and only `SignedWorld::open` makes
-/// signers, one for each general.
+/// The right to sign in the name of one general of a campaign. It cannot be copied, and only `SignedWorld::open` and
+/// `ChainLog::new` make signers, one for each general.
 #[derive(Drop)]
 pub struct Signer {
     general: u8,

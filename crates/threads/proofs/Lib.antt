@@ -4,6 +4,7 @@ pub mod Parts
 pub mod Cuts
 pub mod Grids
 pub mod Whose
+pub mod Briefings
 pub mod Deciding
 pub mod Tasks
 pub mod Concluded

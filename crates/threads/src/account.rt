@@ -2,14 +2,13 @@
 ghost use Rattle.std.specs.Prelude.{◌≡◌, ◌↔◌, ◌<◌, ◌≤◌, ℕ, suc, take, drop, min, sum_by, length, All, List, IsTrue, IfOk, OnOk};
 ghost use Rattle.round.specs.Scenario.{program_of};
 ghost use Rattle.round.specs.Letters.{Letter as LetterSeen};
-ghost use Rattle.round.specs.Contexts.{context_of, AreWords};
-ghost use Rattle.round.specs.Told.{WasTold};
-ghost use Rattle.world.specs.World.{accesses_of};
-ghost use Rattle.world.specs.Accounted.{IsLetterOf, IsAccountedRound, AreAccounted};
+ghost use Rattle.world.specs.Kind.{accesses_of};
+ghost use Rattle.world.specs.KindAccounted.{IsLetterOf, IsAccountedRound, AreAccounted};
 ghost use Rattle.threads.specs.Holding.{EndedInTime, Stands};
 
+use crate::delivered::Delivered;
 use board::Access;
-use round::{Letter, Received, Round, Scenario};
+use round::{Letter, Round, Scenario};
 use std::alloc::{AllocError, Global};
 
 /// Returns whether `transcript` is exactly the list of this general's accesses in `piece`, in the same order. `piece`
@@ -61,54 +60,27 @@ fn stands(scenario: &Scenario, piece: &[Access], general: u8, round: u32, letter
         && is_part(piece, u32::from(general), letter.transcript.as_slice())
 }
 
-/// Returns whether the context in `letter` is the one that this general has after the first `rounds` rounds. `told`
-/// contains what the lieutenants received in these rounds, and perhaps in later ones.
-///
-/// # Errors
-///
-/// `AllocError` if an allocation fails.
-fn has_context(
-    alloc: Global,
-    told: &Received,
-    scenario: &Scenario,
-    rounds: u8,
-    general: u8,
-    letter: &Letter,
-) -> Result<bool, AllocError>
-    requires told { (rows : List (List LetterSeen)) × WasTold scenario.now rows told.now }
-    requires passed { rounds ≤ told.now.rounds }
-    requires left { rounds ≤ scenario.now.bound }
-    requires general { general < scenario.now.generals }
-    ensures context { IfOk result (λ b. (rows : List (List LetterSeen)) → WasTold scenario.now rows told.now
-        → IsTrue b ↔ (letter.now.context ≡ context_of scenario.now (take rounds rows) general)) }
-    ensures words { OnOk result ((rows : List (List LetterSeen)) → WasTold scenario.now rows told.now →
-        AreWords scenario.now (take rounds rows) general) }
-{
-    let context = told.context_after(alloc, scenario, general, rounds)?;
-    Ok(letter.context.as_slice() == context.as_slice())
-}
-
 /// Returns whether `letter` is this general's letter of round `rounds` + 1, and its transcript is exactly his accesses
-/// in `piece`. `told` contains what the lieutenants received in the first `rounds` rounds, and perhaps in later ones.
+/// in `piece`. `told` is what the letters of the first `rounds` rounds have delivered, and perhaps later ones.
 ///
 /// # Errors
 ///
 /// `AllocError` if an allocation fails.
-fn holds_letter(
+fn holds_letter<D: Delivered>(
     alloc: Global,
-    told: &Received,
+    told: &D,
     scenario: &Scenario,
     rounds: u8,
     piece: &[Access],
     general: u8,
     letter: &Letter,
 ) -> Result<bool, AllocError>
-    requires told { (rows : List (List LetterSeen)) × WasTold scenario.now rows told.now }
-    requires passed { rounds ≤ told.now.rounds }
+    requires told { (rows : List (List LetterSeen)) × D.was_told scenario.now rows told.now }
+    requires passed { rounds ≤ D.count told.now }
     requires left { rounds ≤ scenario.now.bound }
     requires general { general < scenario.now.generals }
-    ensures { IfOk result (λ b. (rows : List (List LetterSeen)) → WasTold scenario.now rows told.now →
-        IsTrue b ↔ (IsLetterOf scenario.now (take rounds rows) general (program_of scenario.now general) letter.now
+    ensures { IfOk result (λ b. (rows : List (List LetterSeen)) → D.was_told scenario.now rows told.now → IsTrue b ↔
+        (IsLetterOf D.kind scenario.now (take rounds rows) general (program_of scenario.now general) letter.now
         × (accesses_of general piece.now ≡ letter.now.transcript))) }
 {
     letter.recall();
@@ -117,30 +89,30 @@ fn holds_letter(
     if !stands(scenario, piece, general, round, letter) {
         return Ok(false);
     }
-    let has = has_context(alloc, told, scenario, rounds, general, letter)?;
-    Ok(has)
+    let is_briefed = told.is_briefed(alloc, scenario, rounds, general, letter)?;
+    Ok(is_briefed)
 }
 
 /// Returns whether `letters` has exactly one letter of round `rounds` + 1 for each general, in ascending order, and
-/// `piece` has exactly the accesses in these letters. `told` contains what the lieutenants received in the first
-/// `rounds` rounds, and perhaps in later ones.
+/// `piece` has exactly the accesses in these letters. `told` is what the letters of the first
+/// `rounds` rounds have delivered, and perhaps later ones.
 ///
 /// # Errors
 ///
 /// `AllocError` if an allocation fails.
-fn holds_round(
+fn holds_round<D: Delivered>(
     alloc: Global,
-    told: &Received,
+    told: &D,
     scenario: &Scenario,
     rounds: u8,
     piece: &[Access],
     letters: &[Letter],
 ) -> Result<bool, AllocError>
-    requires told { (rows : List (List LetterSeen)) × WasTold scenario.now rows told.now }
-    requires passed { rounds ≤ told.now.rounds }
+    requires told { (rows : List (List LetterSeen)) × D.was_told scenario.now rows told.now }
+    requires passed { rounds ≤ D.count told.now }
     requires left { rounds ≤ scenario.now.bound }
-    ensures { IfOk result (λ b. (rows : List (List LetterSeen)) → WasTold scenario.now rows told.now →
-        IsTrue b ↔ IsAccountedRound scenario.now (take rounds rows) piece.now letters.now) }
+    ensures { IfOk result (λ b. (rows : List (List LetterSeen)) → D.was_told scenario.now rows told.now →
+        IsTrue b ↔ IsAccountedRound D.kind scenario.now (take rounds rows) piece.now letters.now) }
 {
     let generals = scenario.generals();
     let round = u32::from(rounds) + 1;
@@ -169,15 +141,14 @@ fn count_accesses(letters: &[Letter], most: usize) -> usize
 }
 
 /// Returns whether `rest`, the ledger's accesses from index `at` of the rounds on, accounts for the letters of these
-/// rounds: `rows[at]` and all later ones. `rows` has the letters of all rounds, and `told` is what the lieutenants
-/// received from them.
+/// rounds: `rows[at]` and all later ones. `rows` has the letters of all rounds, and `told` is what they have delivered.
 ///
 /// # Errors
 ///
 /// `AllocError` if an allocation fails.
-pub(crate) fn are_accounted(
+pub(crate) fn are_accounted<D: Delivered>(
     alloc: Global,
-    told: &Received,
+    told: &D,
     scenario: &Scenario,
     rows: &[Round],
     at: u8,
@@ -185,8 +156,9 @@ pub(crate) fn are_accounted(
 ) -> Result<bool, AllocError>
     requires rounds { length rows.now ≡ suc scenario.now.bound }
     requires at { at ≤ length rows.now }
-    requires told { WasTold scenario.now rows.now told.now }
-    ensures { IfOk result (λ b. IsTrue b ↔ AreAccounted scenario.now (take at rows.now) rest.now (drop at rows.now)) }
+    requires told { D.was_told scenario.now rows.now told.now }
+    ensures { IfOk result (λ b.
+        IsTrue b ↔ AreAccounted D.kind scenario.now (take at rows.now) rest.now (drop at rows.now)) }
 {
     if usize::from(at) == rows.len() {
         return Ok(rest.is_empty());

@@ -2,9 +2,8 @@
 //! posted letters.
 ghost use Rattle.std.specs.Prelude.{◌≡◌, ℕ, ◌<◌, ◌≤◌, ◌∷◌, [], List, length, slice_index_or, IfOk};
 ghost use Rattle.round.specs.Letters.{Letter as LetterSeen};
-ghost use Rattle.round.specs.Told.{WasTold};
 ghost use Rattle.threads.specs.Seen.{PosterSeen, poster_seen};
-ghost use Rattle.world.specs.World.{each};
+ghost use Rattle.world.specs.Kind.{each};
 ghost use Rattle.threads.specs.Duties.{duty_of};
 ghost use Rattle.threads.specs.Inboxes.{AreByGeneral, AreOwn};
 
@@ -12,6 +11,7 @@ mod receipts;
 
 use crate::claim::Claim;
 use crate::collector::Collector;
+use crate::delivered::Delivered;
 use crate::inbox::Inbox;
 use crate::post::PostOf;
 use crate::poster::Poster;
@@ -20,7 +20,7 @@ use crate::tally::PostedCount;
 use crate::task::Task;
 use receipts::AllGiven;
 pub(crate) use receipts::AllShut;
-use round::{Received, Scenario};
+use round::Scenario;
 use shared_board::{Room, SharedBoard};
 use std::alloc::{AllocError, Global};
 use std::snapshot::Snapshot;
@@ -28,11 +28,11 @@ use std::sync::Wait;
 
 /// Evidence that all generals were given their tasks of one round. Only `Crew::hand_out` creates one.
 #[derive(Drop)]
-pub(crate) struct HandedOut {
+pub(crate) struct HandedOut<D> {
     /// The scenario to which the tasks belong.
     scenario: Snapshot<Scenario>,
-    /// What the lieutenants received in the rounds before the round of the tasks.
-    told: Snapshot<Received>,
+    /// What the letters of the rounds before the tasks' round have delivered.
+    told: Snapshot<D>,
     /// Evidence that each task was put into its general's inbox.
     given: AllGiven,
 }
@@ -110,19 +110,19 @@ impl<'a, G, J: Room, C: Claim> Crew<'a, G, J, C> {
     }
 
     /// Puts each general's task into his inbox. `tasks` are their tasks in the next round, ascending by general, and
-    /// `told` is what the lieutenants received in the earlier rounds.
-    pub(crate) fn hand_out<R: Wait>(
+    /// `told` is what the letters of the earlier rounds have delivered.
+    pub(crate) fn hand_out<R: Wait, D: Delivered>(
         &self,
         rt: &R,
         scenario: &Scenario,
-        told: &Received,
+        told: &D,
         mut tasks: Vec<Task>,
-    ) -> HandedOut
+    ) -> HandedOut<D>
         requires few { length tasks.items ≤ length self.now.inboxes.items }
         requires own { AreOwn self.now.inboxes.items }
         requires tasks { AreByGeneral tasks.items }
-        requires duties { (before : List (List LetterSeen)) → WasTold scenario.now before told.now
-            → tasks.items ≡ each scenario.now.generals (λ g. duty_of scenario.now before g ∷ []) }
+        requires duties { (before : List (List LetterSeen)) → D.was_told scenario.now before told.now
+            → tasks.items ≡ each scenario.now.generals (λ g. duty_of D.kind scenario.now before g ∷ []) }
         ensures scenario { result.scenario.value ≡ scenario.now }
         ensures told { result.told.value ≡ told.now }
         ensures given { (result.given.from ≡ 0) × (result.given.tasks ≡ length tasks.items) }

@@ -1,7 +1,6 @@
 //! Collects the letters of a campaign from the generals' threads.
 ghost use Rattle.std.specs.Prelude.{◌≡◌, ℕ, ◌<◌, ◌≤◌, [], suc, length, slice_index_or, vec_capacity, None, All, IsPermutation, IfOk, IfSome, Err};
 ghost use Rattle.round.specs.Letters.{Letter as LetterSeen};
-ghost use Rattle.round.specs.Told.{WasTold};
 ghost use Rattle.threads.specs.Seen.{PosterSeen, poster_seen};
 ghost use Rattle.threads.specs.Answers.{AreAscending};
 ghost use Rattle.threads.specs.Inboxes.{AreOwn};
@@ -14,21 +13,22 @@ use crate::claim::Claim;
 use crate::collection_error::Uncollected;
 use crate::collector::Collector;
 use crate::conductor::conduct;
+use crate::delivered::Delivered;
 use crate::ending::Ending;
 use crate::gate::Gate;
 use crate::halt::Halt;
 use crate::poster::Poster;
 use crate::resident::Answer;
-use round::{Received, Round, Scenario};
+use round::{Round, Scenario};
 use shared_board::{Room, SharedBoard, Witness};
 use std::alloc::{AllocError, Global};
 use std::sync::Wait;
 use std::thread;
 use std::thread::{JoinHandle, Threads};
 
-/// Returns the letters of all rounds, within a round ascending by general, and what the lieutenants received from them.
-/// Each general has one thread for all rounds, with a stack of `stack` bytes. Before the function returns, all threads
-/// that were started have ended.
+/// Returns the letters of all rounds, within a round ascending by general, and what they have delivered. Each general
+/// has one thread for all rounds, with a stack of `stack` bytes. Before the function returns, all threads that were
+/// started have ended.
 ///
 /// # Errors
 ///
@@ -39,6 +39,7 @@ pub(crate) fn collect<
     G: Gate + Sync,
     J: Room + Send + Sync,
     C: Claim + Send + Sync,
+    D: Delivered,
 >(
     rt: &R,
     alloc: Global,
@@ -47,16 +48,16 @@ pub(crate) fn collect<
     board: &SharedBoard<J>,
     witnesses: Vec<Witness<J>>,
     stack: usize,
-) -> Result<(Vec<Round>, Received), Uncollected>
+) -> Result<(Vec<Round>, D), Uncollected>
     requires many { scenario.now.generals ≤ length witnesses.items }
     requires unserved { All (λ w. w.made ≡ 0) witnesses.items }
     requires claim { (l : LetterSeen) → IsGated (G.passed gate.now) l → C.holds l }
     ensures rounds { IfOk result (λ r. length r.0.items ≡ suc scenario.now.bound) }
-    ensures told { IfOk result (λ r. WasTold scenario.now r.0.items r.1) }
+    ensures told { IfOk result (λ r. D.was_told scenario.now r.0.items r.1) }
     ensures claims { IfOk result (λ r. All (λ letters. All C.holds letters) r.0.items) }
 {
     let (camp, posters, collector) = Crew::<G, J, C>::new(alloc, scenario.generals(), gate, board)?;
-    let ending = through_residents(
+    let ending = through_residents::<R, G, J, C, D>(
         rt, alloc, scenario, &camp, posters, witnesses, collector, stack,
     )?;
     ending.told()
@@ -73,6 +74,7 @@ fn through_residents<
     G: Gate + Sync,
     J: Room + Send + Sync,
     C: Claim + Send + Sync,
+    D: Delivered,
 >(
     rt: &R,
     alloc: Global,
@@ -82,7 +84,7 @@ fn through_residents<
     mut witnesses: Vec<Witness<J>>,
     collector: Collector,
     stack: usize,
-) -> Result<Ending, AllocError>
+) -> Result<Ending<D>, AllocError>
     requires few { length posters.items ≤ 13 }
     requires witnesses { length posters.items ≤ length witnesses.items }
     requires unserved { All (λ w. w.made ≡ 0) witnesses.items }
@@ -99,7 +101,7 @@ fn through_residents<
     ensures ascending { IfOk result (λ ending. AreAscending ending.answers.items) }
     ensures rounds { IfOk result
         (λ ending. IfOk ending.outcome (λ r. length r.0.items ≡ suc scenario.now.bound)) }
-    ensures told { IfOk result (λ ending. IfOk ending.outcome (λ r. WasTold scenario.now r.0.items r.1)) }
+    ensures told { IfOk result (λ ending. IfOk ending.outcome (λ r. D.was_told scenario.now r.0.items r.1)) }
     ensures claims { IfOk result
         (λ ending. IfOk ending.outcome (λ r. All (λ letters. All C.holds letters) r.0.items)) }
 {
@@ -108,7 +110,7 @@ fn through_residents<
     let ending = thread::scope(
         thread::scope_env(),
         rt,
-        |scope| -> Ending
+        |scope| -> Ending<D>
             requires fresh { (handles.items ≡ []) × (answers.items ≡ []) }
             requires room { length posters.items ≤ vec_capacity answers }
             requires few { length posters.items ≤ 13 }
@@ -126,7 +128,7 @@ fn through_residents<
             ensures few { length result.answers.items ≤ 13 }
             ensures ascending { AreAscending result.answers.items }
             ensures rounds { IfOk result.outcome (λ r. length r.0.items ≡ suc scenario.entry.now.bound) }
-            ensures told { IfOk result.outcome (λ r. WasTold scenario.entry.now r.0.items r.1) }
+            ensures told { IfOk result.outcome (λ r. D.was_told scenario.entry.now r.0.items r.1) }
             ensures claims { IfOk result.outcome (λ r. All (λ letters. All C.holds letters) r.0.items) }
         {
             let mut refused = None;
@@ -161,7 +163,7 @@ fn through_residents<
 
 /// Conducts the rounds if all threads were started (`refused` is `None`), closes the inboxes, and joins the threads.
 /// Returns how the campaign ended.
-fn finish<R: Threads + Wait, G, J: Room, C: Claim>(
+fn finish<R: Threads + Wait, G, J: Room, C: Claim, D: Delivered>(
     rt: &R,
     alloc: Global,
     scenario: &Scenario,
@@ -170,7 +172,7 @@ fn finish<R: Threads + Wait, G, J: Room, C: Claim>(
     handles: Vec<JoinHandle<Answer>>,
     answers: Vec<Answer>,
     refused: Option<Refused>,
-) -> Ending
+) -> Ending<D>
     requires collector { collector.table ≡ camp.now.post.table }
     requires inboxes { scenario.now.generals ≤ length camp.now.inboxes.items }
     requires own { AreOwn camp.now.inboxes.items }
@@ -183,7 +185,7 @@ fn finish<R: Threads + Wait, G, J: Room, C: Claim>(
     ensures all { length result.answers.items ≡ length handles.items }
     ensures ascending { AreAscending result.answers.items }
     ensures rounds { IfOk result.outcome (λ r. length r.0.items ≡ suc scenario.now.bound) }
-    ensures told { IfOk result.outcome (λ r. WasTold scenario.now r.0.items r.1) }
+    ensures told { IfOk result.outcome (λ r. D.was_told scenario.now r.0.items r.1) }
     ensures claims { IfOk result.outcome (λ r. All (λ letters. All C.holds letters) r.0.items) }
 {
     let outcome = conducted(rt, alloc, scenario, camp, collector, refused);
@@ -193,26 +195,26 @@ fn finish<R: Threads + Wait, G, J: Room, C: Claim>(
 }
 
 /// Conducts the rounds if all threads were started (`refused` is `None`). Returns the letters of all rounds, and what
-/// the lieutenants received from them.
+/// they have delivered.
 ///
 /// # Errors
 ///
 /// `Unstarted` if a thread was not started, otherwise the errors of `conduct`.
-fn conducted<R: Wait, G, J: Room, C: Claim>(
+fn conducted<R: Wait, G, J: Room, C: Claim, D: Delivered>(
     rt: &R,
     alloc: Global,
     scenario: &Scenario,
     camp: &Crew<G, J, C>,
     collector: Collector,
     refused: Option<Refused>,
-) -> Result<(Vec<Round>, Received), Halt>
+) -> Result<(Vec<Round>, D), Halt>
     requires collector { collector.table ≡ camp.now.post.table }
     requires inboxes { scenario.now.generals ≤ length camp.now.inboxes.items }
     requires own { AreOwn camp.now.inboxes.items }
     requires tally { scenario.now.generals ≤ camp.now.tally.generals }
     ensures unstarted { IfSome refused (λ r. result ≡ Err (Unstarted r)) }
     ensures rounds { IfOk result (λ r. length r.0.items ≡ suc scenario.now.bound) }
-    ensures told { IfOk result (λ r. WasTold scenario.now r.0.items r.1) }
+    ensures told { IfOk result (λ r. D.was_told scenario.now r.0.items r.1) }
     ensures claims { IfOk result (λ r. All (λ letters. All C.holds letters) r.0.items) }
 {
     match refused {

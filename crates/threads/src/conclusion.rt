@@ -1,12 +1,12 @@
 //! Judges a campaign that has ended: compares its letters with the ledger, and makes its decisions and its chronicle.
 ghost use Rattle.std.specs.Prelude.{◌≡◌, ◌≢◌, ◌≤◌, [], suc, All, List, length, Ok, IfOk, OnOk, IfErr, IsErrAnd, MatchBool};
+ghost use Rattle.std.specs.Thread.{IsSync};
 ghost use Rattle.board.specs.Board.{IsLegal};
 ghost use Rattle.round.specs.Letters.{Letter as LetterSeen, messages};
-ghost use Rattle.round.specs.Told.{WasTold};
-ghost use Rattle.world.specs.Accounted.{AreAccounted};
+ghost use Rattle.world.specs.KindAccounted.{AreAccounted};
 ghost use Rattle.world.specs.Chronicle.{decisions, chronicle_of};
 ghost use Rattle.world.specs.Lists.{IsComplete, replayed, names_in};
-ghost use Rattle.world.specs.Promises.{AgreeUnderBound, AreSafeThroughout, AreWhole, IsVerdictOn, IsWellUnderBound};
+ghost use Rattle.world.specs.Promises.{AgreeIfTolerable, AreSafeThroughout, AreWhole, IsVerdictOn, IsWellUnderBound};
 ghost use Rattle.world.specs.Replay.{replay_of};
 ghost use Rattle.world.specs.Safety.{IsShort};
 ghost use Rattle.world.specs.World.{oral_kind};
@@ -14,11 +14,11 @@ ghost use Rattle.threads.specs.Answers.{mishap_as, IfUnlike};
 ghost use Rattle.threads.specs.declared.error.MusterError.TheVariants.{Memory, Unaccounted, Spawn, Post};
 
 use crate::account::are_accounted;
+use crate::delivered::Delivered;
 use crate::mishap::Mishap;
 use arrayvec::ArrayVec;
 use board::{Access, Board};
-use resolve::resolve_all;
-use round::{Received, Round, Scenario};
+use round::{Round, Scenario};
 use std::alloc::{AllocError, Global};
 use std::snapshot::Snapshot;
 use std::thread;
@@ -33,28 +33,29 @@ pub(crate) struct Unlike {
 }
 
 /// Returns the order on which each lieutenant decides, ascending by lieutenant, if the ledger of `board` accounts for
-/// the letters in `rows`. `board` served the campaign, and `told` is what the lieutenants received from these letters.
-/// One thread compares the letters with the ledger while another makes the decisions.
+/// the letters in `rows`. `board` served the campaign, and `told` is what these letters have delivered. One thread
+/// compares the letters with the ledger while another makes the decisions.
 ///
 /// # Errors
 ///
 /// `Unlike` if the board opened with other words than the scenario's, or if its ledger does not account for the
 /// letters. `Memory` if an allocation fails.
-pub(crate) fn judge<R: Threads + Sync>(
+pub(crate) fn judge<R: Threads + Sync, D: Delivered + Sync>(
     rt: &R,
     alloc: Global,
     scenario: &Scenario,
     board: &Board,
     rows: &[Round],
-    told: &Received,
+    told: &D,
 ) -> Result<ArrayVec<u32, 12>, Mishap>
     requires rounds { length rows.now ≡ suc scenario.now.bound }
-    requires told { WasTold scenario.now rows.now told.now }
+    requires told { D.was_told scenario.now rows.now told.now }
+    requires all { D.count told.now ≡ suc scenario.now.bound }
     ensures legal { OnOk result (IsLegal scenario.now.board board.now.ledger) }
-    ensures accounted { OnOk result (AreAccounted scenario.now [] board.now.ledger rows.now) }
-    ensures decisions { IfOk result (λ orders. orders.items ≡ decisions scenario.now (messages rows.now)) }
+    ensures accounted { OnOk result (AreAccounted D.kind scenario.now [] board.now.ledger rows.now) }
+    ensures decisions { IfOk result (λ orders. orders.items ≡ D.decided scenario.now rows.now) }
     ensures unaccounted { IfErr result (λ e. mishap_as e ≡ Unaccounted →
-        ¬ ((board.now.opening ≡ scenario.now.board) × AreAccounted scenario.now [] board.now.ledger rows.now)) }
+        ¬ ((board.now.opening ≡ scenario.now.board) × AreAccounted D.kind scenario.now [] board.now.ledger rows.now)) }
     ensures memory { IfErr result (λ e. mishap_as e ≡ Memory → board.now.opening ≡ scenario.now.board) }
     ensures started { IfErr result (λ e. mishap_as e ≢ Spawn) }
     ensures posted { IfErr result (λ e. mishap_as e ≢ Post) }
@@ -64,12 +65,12 @@ pub(crate) fn judge<R: Threads + Sync>(
         rt,
         || -> Result<(), Mishap>
             requires rounds { length rows.now ≡ suc scenario.now.bound }
-            requires told { WasTold scenario.now rows.now told.now }
+            requires told { D.was_told scenario.now rows.now told.now }
             ensures legal { OnOk result (IsLegal scenario.entry.now.board board.entry.now.ledger) }
-            ensures accounted { OnOk result (AreAccounted scenario.entry.now [] board.entry.now.ledger rows.entry.now) }
+            ensures accounted { OnOk result (AreAccounted D.kind scenario.entry.now [] board.entry.now.ledger rows.entry.now) }
             ensures unaccounted { IfErr result (λ e. mishap_as e ≡ Unaccounted
                 → ¬ ((board.entry.now.opening ≡ scenario.entry.now.board)
-                × AreAccounted scenario.entry.now [] board.entry.now.ledger rows.entry.now)) }
+                × AreAccounted D.kind scenario.entry.now [] board.entry.now.ledger rows.entry.now)) }
             ensures opening { OnOk result (board.entry.now.opening ≡ scenario.entry.now.board) }
             ensures memory { IfErr result (λ e. mishap_as e ≡ Memory → board.entry.now.opening ≡ scenario.entry.now.board) }
             ensures started { IfErr result (λ e. mishap_as e ≢ Spawn) }
@@ -77,37 +78,39 @@ pub(crate) fn judge<R: Threads + Sync>(
             ensures unlike { IfErr result (λ e. IfUnlike e (λ b. b ≡ board.entry.now)) }
         { account(alloc, scenario, board, rows, told) },
         || -> Result<ArrayVec<u32, 12>, AllocError>
-            requires { (before : List (List LetterSeen)) × WasTold scenario.now before told.now }
+            requires shared { IsSync R.row }
+            requires told { (before : List (List LetterSeen)) × D.was_told scenario.now before told.now }
+            requires all { D.count told.now ≡ suc scenario.now.bound }
             ensures { IfOk result (λ orders. (before : List (List LetterSeen)) →
-                WasTold scenario.entry.now before told.entry.now
-                → orders.items ≡ decisions scenario.entry.now (messages before)) }
-        { decide(rt, alloc, scenario, told) },
+                D.was_told scenario.entry.now before told.entry.now
+                → orders.items ≡ D.decided scenario.entry.now before) }
+        { told.decide(rt, alloc, scenario) },
     );
     compared?;
     Ok(decided?)
 }
 
 /// Checks that the ledger of `board` accounts for the letters in `rows`, which has them by round. `board` served the
-/// campaign, and `told` is what the lieutenants received from these letters.
+/// campaign, and `told` is what these letters have delivered.
 ///
 /// # Errors
 ///
 /// `Unlike` if the board opened with other words than the scenario's, or if its ledger does not account for the
 /// letters. `Memory` if an allocation fails.
-fn account(
+fn account<D: Delivered>(
     alloc: Global,
     scenario: &Scenario,
     board: &Board,
     rows: &[Round],
-    told: &Received,
+    told: &D,
 ) -> Result<(), Mishap>
     requires rounds { length rows.now ≡ suc scenario.now.bound }
-    requires told { WasTold scenario.now rows.now told.now }
+    requires told { D.was_told scenario.now rows.now told.now }
     ensures legal { OnOk result (IsLegal scenario.now.board board.now.ledger) }
     ensures opening { OnOk result (board.now.opening ≡ scenario.now.board) }
-    ensures accounted { OnOk result (AreAccounted scenario.now [] board.now.ledger rows.now) }
+    ensures accounted { OnOk result (AreAccounted D.kind scenario.now [] board.now.ledger rows.now) }
     ensures unaccounted { IfErr result (λ e. mishap_as e ≡ Unaccounted →
-        ¬ ((board.now.opening ≡ scenario.now.board) × AreAccounted scenario.now [] board.now.ledger rows.now)) }
+        ¬ ((board.now.opening ≡ scenario.now.board) × AreAccounted D.kind scenario.now [] board.now.ledger rows.now)) }
     ensures memory { IfErr result (λ e. mishap_as e ≡ Memory → board.now.opening ≡ scenario.now.board) }
     ensures started { IfErr result (λ e. mishap_as e ≢ Spawn) }
     ensures posted { IfErr result (λ e. mishap_as e ≢ Post) }
@@ -137,38 +140,6 @@ fn accounted(board: &Board, is_so: bool) -> Result<(), Unlike>
     }
 }
 
-/// Returns the order on which each lieutenant decides, ascending by lieutenant. `told` is what they received.
-///
-/// # Errors
-///
-/// `AllocError` if an allocation fails.
-fn decide<R: Threads + Sync>(
-    rt: &R,
-    alloc: Global,
-    scenario: &Scenario,
-    told: &Received,
-) -> Result<ArrayVec<u32, 12>, AllocError>
-    requires { (before : List (List LetterSeen)) × WasTold scenario.now before told.now }
-    ensures { IfOk result (λ orders. (before : List (List LetterSeen)) → WasTold scenario.now before told.now →
-        orders.items ≡ decisions scenario.now (messages before)) }
-{
-    scenario.recall();
-    let orders = resolve_all(rt, alloc, told.trees(), &scenario.rule())?;
-    Ok(as_array(orders.as_slice()))
-}
-
-/// Copies at most 12 orders into an array.
-fn as_array(orders: &[u32]) -> ArrayVec<u32, 12>
-    requires { length orders.now ≤ 12 }
-    ensures { result.items ≡ orders.now }
-{
-    let mut list = ArrayVec::new();
-    for order in orders {
-        list.push(*order);
-    }
-    list
-}
-
 /// Returns the chronicle of a campaign: its accesses, its letters by round and the lieutenants' decisions. The accesses
 /// must be legal and account for the letters, so the chronicle is the same as that of the replay of the accesses.
 /// `orders` must be the decisions to which the letters lead, ascending by lieutenant.
@@ -179,7 +150,7 @@ pub(crate) fn conclude(
     orders: ArrayVec<u32, 12>,
 ) -> Chronicle
     requires legal { IsLegal scenario.board accesses.items }
-    requires accounted { AreAccounted scenario [] accesses.items rows.items }
+    requires accounted { AreAccounted oral_kind scenario [] accesses.items rows.items }
     requires decisions { orders.items ≡ decisions scenario (messages rows.items) }
     ensures scenario { result.scenario ≡ scenario }
     ensures accesses { result.accesses ≡ accesses.items }
@@ -192,7 +163,7 @@ pub(crate) fn conclude(
     ensures whole { AreWhole oral_kind scenario result.accesses result.letters }
     ensures short { All (λ letters. All IsShort letters) result.letters }
     ensures decisions { result.decisions ≡ decisions scenario (messages result.letters) }
-    ensures agree { AgreeUnderBound scenario result.decisions }
+    ensures agree { AgreeIfTolerable scenario result.decisions }
     ensures verdict { IsVerdictOn scenario result.decisions result.verdict }
     ensures well { IsWellUnderBound result.verdict }
 {

@@ -1,8 +1,7 @@
 //! Conducts the rounds of a campaign: gives the generals their tasks, and takes their letters.
 ghost use Rattle.std.specs.Prelude.{◌≡◌, ◌≢◌, ◌≤◌, ◌∷◌, [], suc, All, List, length, IfOk, IfErr};
 ghost use Rattle.round.specs.Letters.{Letter as LetterSeen};
-ghost use Rattle.round.specs.Told.{WasTold};
-ghost use Rattle.world.specs.World.{each};
+ghost use Rattle.world.specs.Kind.{each};
 ghost use Rattle.threads.specs.Answers.{halt_as};
 ghost use Rattle.threads.specs.Duties.{duty_of};
 ghost use Rattle.threads.specs.Inboxes.{AreByGeneral, AreOwn};
@@ -11,41 +10,42 @@ ghost use Rattle.threads.specs.declared.error.MusterError.TheVariants.{Spawn, Po
 use crate::camp::Crew;
 use crate::claim::Claim;
 use crate::collector::Collector;
+use crate::delivered::Delivered;
 use crate::halt::Halt;
 use crate::round_letters::receive;
 use crate::task::Task;
-use round::{Received, Round, Scenario};
+use round::{Round, Scenario};
 use shared_board::Room;
 use std::alloc::{AllocError, Global};
 use std::sync::Wait;
 
 /// Conducts all rounds. In each round it gives the generals their tasks, waits until all have posted their letters, and
-/// takes these out of the post. Returns the letters of all rounds, within a round ascending by general, and what the
-/// lieutenants received from them.
+/// takes these out of the post. Returns the letters of all rounds, within a round ascending by general, and what they
+/// have delivered.
 ///
 /// # Errors
 ///
 /// `Memory` if an allocation fails, `Failed` if a general has failed, `Strayed` if the letters taken are not those of
 /// their round.
-pub(crate) fn conduct<R: Wait, G, J: Room, C: Claim>(
+pub(crate) fn conduct<R: Wait, G, J: Room, C: Claim, D: Delivered>(
     rt: &R,
     alloc: Global,
     scenario: &Scenario,
     camp: &Crew<G, J, C>,
     mut collector: Collector,
-) -> Result<(Vec<Round>, Received), Halt>
+) -> Result<(Vec<Round>, D), Halt>
     requires collector { collector.table ≡ camp.now.post.table }
     requires inboxes { scenario.now.generals ≤ length camp.now.inboxes.items }
     requires own { AreOwn camp.now.inboxes.items }
     requires tally { scenario.now.generals ≤ camp.now.tally.generals }
     ensures rounds { IfOk result (λ r. length r.0.items ≡ suc scenario.now.bound) }
-    ensures told { IfOk result (λ r. WasTold scenario.now r.0.items r.1) }
+    ensures told { IfOk result (λ r. D.was_told scenario.now r.0.items r.1) }
     ensures claims { IfOk result (λ r. All (λ letters. All C.holds letters) r.0.items) }
     ensures started { IfErr result (λ halt. halt_as halt ≢ Spawn) }
     ensures posted { IfErr result (λ halt. halt_as halt ≢ PostFull) }
 {
     let rounds = scenario.bound() + 1;
-    let mut told = Received::new(alloc, scenario)?;
+    let mut told = D::begin(alloc, scenario)?;
     let mut rows = Vec::with_capacity(alloc, usize::from(rounds))?;
     for _round in 0..rounds {
         let tasks = tasks(alloc, scenario, &told)?;
@@ -53,30 +53,34 @@ pub(crate) fn conduct<R: Wait, G, J: Room, C: Claim>(
         let all = camp.tally.all_posted(rt, out)?;
         let (again, letters) = receive(rt, alloc, scenario, &told, &camp.post, collector, all)?;
         collector = again;
-        told.deliver(scenario, letters.as_slice());
+        told.add(alloc, scenario, letters.as_slice())?;
         rows.push(Round { letters })?;
     }
     Ok((rows, told))
 }
 
-/// Returns the generals' tasks in the next round, ascending by general. `told` is what the lieutenants received in the
-/// earlier rounds.
+/// Returns the generals' tasks in the next round, ascending by general. `told` is what the letters of the earlier
+/// rounds have delivered.
 ///
 /// # Errors
 ///
 /// `AllocError` if an allocation fails.
-fn tasks(alloc: Global, scenario: &Scenario, told: &Received) -> Result<Vec<Task>, AllocError>
-    requires told { (before : List (List LetterSeen)) × WasTold scenario.now before told.now }
-    requires left { told.now.rounds ≤ scenario.now.bound }
+fn tasks<D: Delivered>(
+    alloc: Global,
+    scenario: &Scenario,
+    told: &D,
+) -> Result<Vec<Task>, AllocError>
+    requires told { (before : List (List LetterSeen)) × D.was_told scenario.now before told.now }
+    requires left { D.count told.now ≤ scenario.now.bound }
     ensures count { IfOk result (λ tasks. length tasks.items ≡ scenario.now.generals) }
     ensures own { IfOk result (λ tasks. AreByGeneral tasks.items) }
-    ensures duties { IfOk result (λ tasks. (before : List (List LetterSeen)) → WasTold scenario.now before told.now
-        → tasks.items ≡ each scenario.now.generals (λ g. duty_of scenario.now before g ∷ [])) }
+    ensures duties { IfOk result (λ tasks. (before : List (List LetterSeen)) → D.was_told scenario.now before told.now
+        → tasks.items ≡ each scenario.now.generals (λ g. duty_of D.kind scenario.now before g ∷ [])) }
 {
     let generals = scenario.generals();
     let mut tasks = Vec::with_capacity(alloc, usize::from(generals))?;
     for general in 0..generals {
-        tasks.push(Task::new(alloc, scenario, told, general)?)?;
+        tasks.push(told.task(alloc, scenario, general)?)?;
     }
     Ok(tasks)
 }

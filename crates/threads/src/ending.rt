@@ -8,25 +8,25 @@ use crate::collection_error::Uncollected;
 use crate::halt::Halt;
 use crate::resident::Answer;
 use arrayvec::ArrayVec;
-use round::{Received, Round};
+use round::Round;
 
 /// How a campaign with threads has ended. Only `Ending::told` turns it into a result, and that looks at every thread's
 /// answer.
 #[derive(Drop)]
-pub(crate) struct Ending {
+pub(crate) struct Ending<D> {
     refused: Option<Refused>,
     answers: Vec<Answer>,
-    outcome: Result<(Vec<Round>, Received), Halt>,
+    outcome: Result<(Vec<Round>, D), Halt>,
 }
 
-impl Ending {
+impl<D: Drop> Ending<D> {
     /// Returns an ending. `refused` says why a thread was not started, `answers` are the results of the threads that
     /// were, and `outcome` is the result of conducting the rounds.
     pub(crate) fn new(
         refused: Option<Refused>,
         answers: Vec<Answer>,
-        outcome: Result<(Vec<Round>, Received), Halt>,
-    ) -> Ending
+        outcome: Result<(Vec<Round>, D), Halt>,
+    ) -> Ending<D>
         ensures refused { result.refused ≡ refused }
         ensures answers { result.answers.items ≡ answers.items }
         ensures outcome { result.outcome ≡ outcome }
@@ -38,13 +38,13 @@ impl Ending {
         }
     }
 
-    /// Returns the letters of all rounds, and what the lieutenants received from them.
+    /// Returns the letters of all rounds, and what they have delivered.
     ///
     /// # Errors
     ///
     /// `Unstarted` if not all threads were started, otherwise `Failed` with the first failure among the answers.
     /// Otherwise `Halted` if not all rounds were conducted.
-    pub(crate) fn told(self) -> Result<(Vec<Round>, Received), Uncollected>
+    pub(crate) fn told(self) -> Result<(Vec<Round>, D), Uncollected>
         requires { length self.answers.items ≤ 13 }
         ensures { result ≡ ended_as (option_map Unstarted self.refused)
             (first_failure (map failure_of self.answers.items)) (outcome_as self.outcome) }

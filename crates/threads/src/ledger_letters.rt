@@ -1,13 +1,14 @@
 //! Arranges the letters of a campaign by round, and checks that a ledger accounts for them.
 ghost use Rattle.std.specs.Prelude.{◌≡◌, ◌≢◌, suc, length, IfOk, OnOk, IfErr, MatchOption};
 ghost use Rattle.round.specs.Origin.{AreRoundsOf};
-ghost use Rattle.round.specs.Told.{WasTold};
 ghost use Rattle.world.specs.Accounted.{rounds_of, IsAccounted};
+ghost use Rattle.world.specs.KindAccounted.{IsAccounted as IsAccountedOf};
 ghost use Rattle.threads.specs.declared.error.MusterError.TheVariants.{Unaccounted, Spawn, Post};
 
 use crate::account::are_accounted;
 use crate::answers::{accounted, found};
 use crate::arrangement::arrange;
+use crate::delivered::Delivered;
 use crate::error::MusterError;
 use board::Access;
 use round::{Letter, Received, Round, Scenario, are_letters_of};
@@ -33,36 +34,59 @@ pub fn gather(
     ensures started { IfErr result (λ e. e ≢ Spawn) }
     ensures posted { IfErr result (λ e. e ≢ Post) }
 {
+    gather_as::<Received>(alloc, scenario, ledger, letters)
+}
+
+/// Returns the letters of an oral or of a signed campaign by round, within a round ascending by general, if the ledger
+/// accounts for them. `gather` does this for an oral campaign.
+///
+/// # Errors
+///
+/// The errors are those of `gather`.
+pub fn gather_as<D: Delivered>(
+    alloc: Global,
+    scenario: &Scenario,
+    ledger: &[Access],
+    letters: Vec<Letter>,
+) -> Result<Vec<Round>, MusterError>
+    ensures rows { IfOk result (λ rows. rows.items ≡ rounds_of scenario.now letters.items) }
+    ensures accounted { OnOk result (IsAccountedOf D.kind scenario.now ledger.now letters.items) }
+    ensures unaccounted { IfErr result
+        (λ e. e ≡ Unaccounted → ¬ IsAccountedOf D.kind scenario.now ledger.now letters.items) }
+    ensures started { IfErr result (λ e. e ≢ Spawn) }
+    ensures posted { IfErr result (λ e. e ≢ Post) }
+{
     let generals = u32::from(scenario.generals());
     let rounds = u32::from(scenario.bound()) + 1;
     let rows = found(arrange(alloc, letters, generals, rounds)?)?;
-    let told = found(deliver_all(alloc, scenario, rows.as_slice())?)?;
+    let told = found(deliver_all::<D>(alloc, scenario, rows.as_slice())?)?;
     let are_accounted = are_accounted(alloc, &told, scenario, rows.as_slice(), 0, ledger)?;
     accounted(are_accounted)?;
     Ok(rows)
 }
 
-/// Delivers the letters of all rounds, and returns what the lieutenants received. Returns `None` if some element of
-/// `rows` is not the letters of its round, one for each general.
+/// Delivers the letters of all rounds, and returns what they have delivered. Returns `None` if some element of `rows`
+/// is not the letters of its round, one for each general.
 ///
 /// # Errors
 ///
 /// `AllocError` if an allocation fails.
-fn deliver_all(
+fn deliver_all<D: Delivered>(
     alloc: Global,
     scenario: &Scenario,
     rows: &[Round],
-) -> Result<Option<Received>, AllocError>
+) -> Result<Option<D>, AllocError>
     requires { length rows.now ≡ suc scenario.now.bound }
-    ensures { IfOk result (λ o. MatchOption o (¬ AreRoundsOf scenario.now rows.now) (WasTold scenario.now rows.now)) }
+    ensures { IfOk result (λ o.
+        MatchOption o (¬ AreRoundsOf scenario.now rows.now) (D.was_told scenario.now rows.now)) }
 {
-    let mut told = Received::new(alloc, scenario)?;
+    let mut told = D::begin(alloc, scenario)?;
     for row in rows {
         let round = u32::from(told.rounds()) + 1;
         if !are_letters_of(scenario, round, row.letters()) {
             return Ok(None);
         }
-        told.deliver(scenario, row.letters());
+        told.add(alloc, scenario, row.letters())?;
     }
     Ok(Some(told))
 }

@@ -3,6 +3,7 @@
 #![tactic(auto)]
 
 mod account;
+mod accounted_campaign;
 mod answers;
 mod arrangement;
 mod camp;
@@ -12,6 +13,7 @@ mod collection_error;
 mod collector;
 mod conclusion;
 mod conductor;
+mod delivered;
 mod ending;
 mod error;
 mod failure;
@@ -24,6 +26,7 @@ mod mishap;
 mod musters;
 mod post;
 mod poster;
+mod received;
 mod resident;
 mod round_letters;
 mod rule;
@@ -32,13 +35,16 @@ mod session;
 mod tally;
 mod task;
 
+pub use accounted_campaign::AccountedCampaign;
 pub use answers::ended;
 pub use claim::{AnyLetter, Claim};
 pub use collector::Collector;
+pub use delivered::Delivered;
 pub use error::MusterError;
 pub use gate::{Gate, Open};
-pub use ledger_letters::gather;
-pub use musters::{muster, muster_with};
+pub use ledger_letters::{gather, gather_as};
+pub use musters::{STACK, muster, muster_as, muster_with};
 pub use post::{Post, PostOf};
 pub use poster::Poster;
 pub use shared_board::{Room, SharedBoard, Unshared, Witness};
+pub use task::Task;

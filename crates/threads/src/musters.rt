@@ -1,25 +1,28 @@
 //! Plays campaigns with one thread for each general.
-ghost use Rattle.std.specs.Prelude.{◌≡◌, ◌≤◌, ◌↔◌, suc, length, All, IfOk, IfErr};
+ghost use Rattle.std.specs.Prelude.{◌≡◌, ◌≤◌, ◌↔◌, [], suc, length, All, IfOk, IfErr};
 ghost use mathlib.Core.List.{IsPrefix};
 ghost use Rattle.board.specs.Board.{IsLegal};
 ghost use Rattle.round.specs.Letters.{Letter as LetterSeen, messages};
 ghost use Rattle.world.specs.Chronicle.{decisions, chronicle_of};
+ghost use Rattle.world.specs.KindAccounted.{AreAccounted};
 ghost use Rattle.world.specs.Lists.{IsComplete, replayed, names_in};
-ghost use Rattle.world.specs.Promises.{AgreeUnderBound, AreSafeThroughout, AreWhole, IsVerdictOn, IsWellUnderBound};
+ghost use Rattle.world.specs.Promises.{AgreeIfTolerable, AreSafeThroughout, AreWhole, IsVerdictOn, IsWellUnderBound};
 ghost use Rattle.world.specs.Replay.{replay_of};
 ghost use Rattle.world.specs.Safety.{IsShort};
 ghost use Rattle.world.specs.World.{oral_kind};
 ghost use Rattle.threads.specs.Answers.{IfUnlike};
 ghost use Rattle.threads.specs.Served.{AreGated, IsGated};
 
+use crate::accounted_campaign::AccountedCampaign;
 use crate::claim::Claim;
 use crate::collection::collect;
 use crate::conclusion::{conclude, judge};
+use crate::delivered::Delivered;
 use crate::error::MusterError;
 use crate::gate::Gate;
 use crate::mishap::Mishap;
 use board::Board;
-use round::Scenario;
+use round::{Received, Scenario};
 use shared_board::{Room, SharedBoard, Unshared, Witness};
 use std::alloc::Global;
 use std::marker::Brand;
@@ -27,8 +30,8 @@ use std::sync::Wait;
 use std::thread::Threads;
 use world::Chronicle;
 
-/// The stack size of each thread, in bytes.
-const STACK: usize = 1 << 20;
+/// The stack size, in bytes, that a muster gives each of its threads unless its caller says otherwise.
+pub const STACK: usize = 1 << 20;
 
 /// Plays the scenario's campaign with one thread for each general. The thread makes its general's letter in each round.
 /// Before each access to the board, `gate` may hold the traitor who makes it.
@@ -41,8 +44,8 @@ const STACK: usize = 1 << 20;
 /// - No activation traps or takes more steps than its program has instructions (`safe`).
 /// - Each letter is complete: a traitor's letter is the run of his program to its end, with his accesses (`whole`).
 /// - Each lieutenant decides what OM(m) gives from the recorded messages.
-/// - If the bound holds, all loyal lieutenants decide on the same order, and on the commander's order if he is loyal
-///   (TOPLAS 1982, Theorem 1).
+/// - If the traitors are few enough, all loyal lieutenants decide on the same order, and on the commander's order if he
+///   is loyal (TOPLAS 1982, Theorem 1). At most m traitors among more than 3m generals are few enough.
 ///
 /// For each access in a letter of the chronicle, `Gate::passed` holds for its general, its round and its number in the
 /// letter, counted from 0.
@@ -72,12 +75,12 @@ pub fn muster<R: Threads + Wait + Sync, G: Gate + Sync>(
     ensures short { IfOk result (λ chronicle. All (λ letters. All IsShort letters) chronicle.letters) }
     ensures decisions { IfOk result
         (λ chronicle. chronicle.decisions ≡ decisions scenario (messages chronicle.letters)) }
-    ensures agree { IfOk result (λ chronicle. AgreeUnderBound scenario chronicle.decisions) }
+    ensures agree { IfOk result (λ chronicle. AgreeIfTolerable scenario chronicle.decisions) }
     ensures verdict { IfOk result (λ chronicle. IsVerdictOn scenario chronicle.decisions chronicle.verdict) }
     ensures well { IfOk result (λ chronicle. IsWellUnderBound chronicle.verdict) }
     ensures passed { IfOk result (λ chronicle. AreGated (G.passed gate.now) chronicle.letters) }
 {
-    Ok(muster_on(rt, alloc, scenario, gate, STACK)?)
+    muster_with(rt, alloc, scenario, gate, STACK)
 }
 
 /// Plays the scenario's campaign as `muster` does. Each thread gets a stack of `stack` bytes.
@@ -103,139 +106,153 @@ pub fn muster_with<R: Threads + Wait + Sync, G: Gate + Sync>(
     ensures short { IfOk result (λ chronicle. All (λ letters. All IsShort letters) chronicle.letters) }
     ensures decisions { IfOk result
         (λ chronicle. chronicle.decisions ≡ decisions scenario (messages chronicle.letters)) }
-    ensures agree { IfOk result (λ chronicle. AgreeUnderBound scenario chronicle.decisions) }
+    ensures agree { IfOk result (λ chronicle. AgreeIfTolerable scenario chronicle.decisions) }
     ensures verdict { IfOk result (λ chronicle. IsVerdictOn scenario chronicle.decisions chronicle.verdict) }
     ensures well { IfOk result (λ chronicle. IsWellUnderBound chronicle.verdict) }
     ensures passed { IfOk result (λ chronicle. AreGated (G.passed gate.now) chronicle.letters) }
 {
-    Ok(muster_on(rt, alloc, scenario, gate, stack)?)
+    let campaign = muster_as::<R, G, Received>(rt, alloc, &scenario, gate, stack)?;
+    let AccountedCampaign {
+        accesses,
+        rounds,
+        decisions,
+        ..
+    } = campaign;
+    Ok(conclude(scenario, accesses, rounds, decisions))
 }
 
-/// Plays the scenario's campaign as `muster` does. Each thread gets a stack of `stack` bytes.
+/// Plays the scenario's oral or signed campaign, with one thread for each general, each with a stack of `stack` bytes.
+/// Returns its accesses, its letters, what they have delivered, and the lieutenants' decisions. The accesses are a
+/// legal history from the scenario's words on, and account for the letters. Each access has passed the gate.
 ///
 /// # Errors
 ///
-/// `Mishap` says why there is no chronicle, with the evidence for it.
-fn muster_on<R: Threads + Wait + Sync, G: Gate + Sync>(
+/// The errors are those of `muster`.
+pub fn muster_as<R: Threads + Wait + Sync, G: Gate + Sync, D: Delivered + Sync>(
     rt: &R,
     alloc: Global,
-    scenario: Scenario,
+    scenario: &Scenario,
     gate: &G,
     stack: usize,
-) -> Result<Chronicle, Mishap>
-    ensures scenario { IfOk result (λ chronicle. chronicle.scenario ≡ scenario) }
-    ensures replay { IfOk result (λ chronicle. chronicle ≡ chronicle_of (replay_of scenario chronicle.accesses)) }
-    ensures complete { IfOk result
-        (λ chronicle. IsComplete scenario (replayed scenario (names_in 1 chronicle.accesses (suc scenario.bound)))) }
-    ensures legal { IfOk result (λ chronicle. IsLegal scenario.board chronicle.accesses) }
-    ensures safe { IfOk result (λ chronicle. AreSafeThroughout oral_kind scenario
-        (replayed scenario (names_in 1 chronicle.accesses (suc scenario.bound)))) }
-    ensures whole { IfOk result (λ chronicle. AreWhole oral_kind scenario chronicle.accesses chronicle.letters) }
-    ensures short { IfOk result (λ chronicle. All (λ letters. All IsShort letters) chronicle.letters) }
+) -> Result<AccountedCampaign<D>, MusterError>
+    ensures legal { IfOk result (λ campaign. IsLegal scenario.now.board campaign.accesses.items) }
+    ensures accounted { IfOk result
+        (λ campaign. AreAccounted D.kind scenario.now [] campaign.accesses.items campaign.rounds.items) }
+    ensures told { IfOk result (λ campaign. D.was_told scenario.now campaign.rounds.items campaign.told) }
     ensures decisions { IfOk result
-        (λ chronicle. chronicle.decisions ≡ decisions scenario (messages chronicle.letters)) }
-    ensures agree { IfOk result (λ chronicle. AgreeUnderBound scenario chronicle.decisions) }
-    ensures verdict { IfOk result (λ chronicle. IsVerdictOn scenario chronicle.decisions chronicle.verdict) }
-    ensures well { IfOk result (λ chronicle. IsWellUnderBound chronicle.verdict) }
-    ensures passed { IfOk result (λ chronicle. AreGated (G.passed gate.now) chronicle.letters) }
+        (λ campaign. campaign.decisions.items ≡ D.decided scenario.now campaign.rounds.items) }
+    ensures passed { IfOk result (λ campaign. AreGated (G.passed gate.now) campaign.rounds.items) }
+{
+    Ok(muster_on::<R, G, D>(rt, alloc, scenario, gate, stack)?)
+}
+
+/// Plays the scenario's campaign as `muster_as` does.
+///
+/// # Errors
+///
+/// `Mishap` says why there is no such campaign, with the evidence for it.
+fn muster_on<R: Threads + Wait + Sync, G: Gate + Sync, D: Delivered + Sync>(
+    rt: &R,
+    alloc: Global,
+    scenario: &Scenario,
+    gate: &G,
+    stack: usize,
+) -> Result<AccountedCampaign<D>, Mishap>
+    ensures legal { IfOk result (λ campaign. IsLegal scenario.now.board campaign.accesses.items) }
+    ensures accounted { IfOk result
+        (λ campaign. AreAccounted D.kind scenario.now [] campaign.accesses.items campaign.rounds.items) }
+    ensures told { IfOk result (λ campaign. D.was_told scenario.now campaign.rounds.items campaign.told) }
+    ensures decisions { IfOk result
+        (λ campaign. campaign.decisions.items ≡ D.decided scenario.now campaign.rounds.items) }
+    ensures passed { IfOk result (λ campaign. AreGated (G.passed gate.now) campaign.rounds.items) }
 {
     let threads = scenario.generals();
     let unshared = Unshared::new(Board::new(alloc, *scenario.board()), threads + 1);
-    mustered::<R, G, Brand>(rt, alloc, scenario, gate, stack, unshared)
+    mustered::<R, G, Brand, D>(rt, alloc, scenario, gate, stack, unshared)
 }
 
-/// Plays the scenario's campaign as `muster` does, on the board `unshared`. `J` is this board's name in proofs. No
+/// Plays the scenario's campaign as `muster_as` does, on the board `unshared`. `J` is this board's name in proofs. No
 /// thread uses the board yet, and it must have the scenario's words.
 ///
 /// # Errors
 ///
-/// `Mishap` says why there is no chronicle, with the evidence for it.
-fn mustered<R: Threads + Wait + Sync, G: Gate + Sync, J: Room + Send + Sync>(
+/// `Mishap` says why there is no such campaign, with the evidence for it.
+fn mustered<R: Threads + Wait + Sync, G: Gate + Sync, J: Room + Send + Sync, D: Delivered + Sync>(
     rt: &R,
     alloc: Global,
-    scenario: Scenario,
+    scenario: &Scenario,
     gate: &G,
     stack: usize,
     unshared: Unshared,
-) -> Result<Chronicle, Mishap>
+) -> Result<AccountedCampaign<D>, Mishap>
     requires book { unshared.book ≡ J.book }
     requires opening { unshared.opening ≡ J.opening }
-    requires words { unshared.opening ≡ scenario.board }
+    requires words { unshared.opening ≡ scenario.now.board }
     requires ledger { (unshared.name ≡ J.name) × (unshared.parts ≡ J.parts) }
-    requires threads { unshared.parts ≡ suc scenario.generals }
-    ensures scenario { IfOk result (λ chronicle. chronicle.scenario ≡ scenario) }
-    ensures replay { IfOk result (λ chronicle. chronicle ≡ chronicle_of (replay_of scenario chronicle.accesses)) }
-    ensures complete { IfOk result
-        (λ chronicle. IsComplete scenario (replayed scenario (names_in 1 chronicle.accesses (suc scenario.bound)))) }
-    ensures legal { IfOk result (λ chronicle. IsLegal scenario.board chronicle.accesses) }
-    ensures safe { IfOk result (λ chronicle. AreSafeThroughout oral_kind scenario
-        (replayed scenario (names_in 1 chronicle.accesses (suc scenario.bound)))) }
-    ensures whole { IfOk result (λ chronicle. AreWhole oral_kind scenario chronicle.accesses chronicle.letters) }
-    ensures short { IfOk result (λ chronicle. All (λ letters. All IsShort letters) chronicle.letters) }
+    requires threads { unshared.parts ≡ suc scenario.now.generals }
+    ensures legal { IfOk result (λ campaign. IsLegal scenario.now.board campaign.accesses.items) }
+    ensures accounted { IfOk result
+        (λ campaign. AreAccounted D.kind scenario.now [] campaign.accesses.items campaign.rounds.items) }
+    ensures told { IfOk result (λ campaign. D.was_told scenario.now campaign.rounds.items campaign.told) }
     ensures decisions { IfOk result
-        (λ chronicle. chronicle.decisions ≡ decisions scenario (messages chronicle.letters)) }
-    ensures agree { IfOk result (λ chronicle. AgreeUnderBound scenario chronicle.decisions) }
-    ensures verdict { IfOk result (λ chronicle. IsVerdictOn scenario chronicle.decisions chronicle.verdict) }
-    ensures well { IfOk result (λ chronicle. IsWellUnderBound chronicle.verdict) }
-    ensures passed { IfOk result (λ chronicle. AreGated (G.passed gate.now) chronicle.letters) }
+        (λ campaign. campaign.decisions.items ≡ D.decided scenario.now campaign.rounds.items) }
+    ensures passed { IfOk result (λ campaign. AreGated (G.passed gate.now) campaign.rounds.items) }
 {
     let threads = scenario.generals() + 1;
     let (board, mut witnesses) = SharedBoard::<J>::new(alloc, unshared, threads)?;
     let Some(witness) = witnesses.pop() else {
         unreachable!()
     };
-    by_board::<R, G, J, Brand>(rt, alloc, scenario, gate, stack, board, witness, witnesses)
+    by_board::<R, G, J, Brand, D>(rt, alloc, scenario, gate, stack, board, witness, witnesses)
 }
 
-/// Plays the scenario's campaign as `muster` does, on `board`, which must have the scenario's words at first. Each
-/// general gets one of `witnesses`. `witness` is kept to take the board back at the end, so the chronicle's accesses
+/// Plays the scenario's campaign as `muster_as` does, on `board`, which must have the scenario's words at first. Each
+/// general gets one of `witnesses`. `witness` is kept to take the board back at the end, so the campaign's accesses
 /// begin with those that it has seen.
 ///
 /// # Errors
 ///
-/// `Mishap` says why there is no chronicle, with the evidence for it.
+/// `Mishap` says why there is no such campaign, with the evidence for it.
 fn by_board<
     R: Threads + Wait + Sync,
     G: Gate + Sync,
     J: Room + Send + Sync,
     C: Claim + Send + Sync,
+    D: Delivered + Sync,
 >(
     rt: &R,
     alloc: Global,
-    scenario: Scenario,
+    scenario: &Scenario,
     gate: &G,
     stack: usize,
     board: SharedBoard<J>,
     witness: Witness<J>,
     witnesses: Vec<Witness<J>>,
-) -> Result<Chronicle, Mishap>
-    requires words { J.opening ≡ scenario.board }
-    requires witnesses { scenario.generals ≤ length witnesses.items }
+) -> Result<AccountedCampaign<D>, Mishap>
+    requires words { J.opening ≡ scenario.now.board }
+    requires witnesses { scenario.now.generals ≤ length witnesses.items }
     requires unserved { All (λ w. w.made ≡ 0) witnesses.items }
     requires claim { (l : LetterSeen) → C.holds l ↔ IsGated (G.passed gate.now) l }
     ensures unlike { IfErr result (λ e.
-        IfUnlike e (λ b. (b.opening ≡ scenario.board) × IsPrefix witness.seen b.ledger)) }
-    ensures history { IfOk result (λ chronicle. IsPrefix witness.seen chronicle.accesses) }
-    ensures scenario { IfOk result (λ chronicle. chronicle.scenario ≡ scenario) }
-    ensures replay { IfOk result (λ chronicle. chronicle ≡ chronicle_of (replay_of scenario chronicle.accesses)) }
-    ensures complete { IfOk result
-        (λ chronicle. IsComplete scenario (replayed scenario (names_in 1 chronicle.accesses (suc scenario.bound)))) }
-    ensures legal { IfOk result (λ chronicle. IsLegal scenario.board chronicle.accesses) }
-    ensures safe { IfOk result (λ chronicle. AreSafeThroughout oral_kind scenario
-        (replayed scenario (names_in 1 chronicle.accesses (suc scenario.bound)))) }
-    ensures whole { IfOk result (λ chronicle. AreWhole oral_kind scenario chronicle.accesses chronicle.letters) }
-    ensures short { IfOk result (λ chronicle. All (λ letters. All IsShort letters) chronicle.letters) }
+        IfUnlike e (λ b. (b.opening ≡ scenario.now.board) × IsPrefix witness.seen b.ledger)) }
+    ensures history { IfOk result (λ campaign. IsPrefix witness.seen campaign.accesses.items) }
+    ensures legal { IfOk result (λ campaign. IsLegal scenario.now.board campaign.accesses.items) }
+    ensures accounted { IfOk result
+        (λ campaign. AreAccounted D.kind scenario.now [] campaign.accesses.items campaign.rounds.items) }
+    ensures told { IfOk result (λ campaign. D.was_told scenario.now campaign.rounds.items campaign.told) }
     ensures decisions { IfOk result
-        (λ chronicle. chronicle.decisions ≡ decisions scenario (messages chronicle.letters)) }
-    ensures agree { IfOk result (λ chronicle. AgreeUnderBound scenario chronicle.decisions) }
-    ensures verdict { IfOk result (λ chronicle. IsVerdictOn scenario chronicle.decisions chronicle.verdict) }
-    ensures well { IfOk result (λ chronicle. IsWellUnderBound chronicle.verdict) }
-    ensures passed { IfOk result (λ chronicle. AreGated (G.passed gate.now) chronicle.letters) }
+        (λ campaign. campaign.decisions.items ≡ D.decided scenario.now campaign.rounds.items) }
+    ensures passed { IfOk result (λ campaign. AreGated (G.passed gate.now) campaign.rounds.items) }
 {
-    let (rounds, told) = collect::<R, G, J, C>(
-        rt, alloc, &scenario, gate, &board, witnesses, stack,
+    let (rounds, told) = collect::<R, G, J, C, D>(
+        rt, alloc, scenario, gate, &board, witnesses, stack,
     )?;
     let board = board.into_board(rt, witness);
-    let decisions = judge(rt, alloc, &scenario, &board, rounds.as_slice(), &told)?;
-    Ok(conclude(scenario, board.into_ledger(), rounds, decisions))
+    let decisions = judge(rt, alloc, scenario, &board, rounds.as_slice(), &told)?;
+    Ok(AccountedCampaign {
+        accesses: board.into_ledger(),
+        rounds,
+        told,
+        decisions,
+    })
 }

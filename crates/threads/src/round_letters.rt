@@ -8,10 +8,11 @@ ghost use Rattle.threads.specs.declared.error.MusterError.TheVariants.{Spawn, Po
 
 use crate::claim::Claim;
 use crate::collector::Collector;
+use crate::delivered::Delivered;
 use crate::halt::Halt;
 use crate::post::PostOf;
 use crate::tally::AllPosted;
-use round::{Letter, Received, Scenario, are_letters_of};
+use round::{Letter, Scenario, are_letters_of};
 use std::alloc::{AllocError, Global};
 use std::sync::Wait;
 
@@ -29,14 +30,14 @@ pub(crate) struct Strayed {
 /// # Errors
 ///
 /// `Memory` if an allocation fails, `Strayed` if the letters are not exactly one letter of that round for each general.
-pub(crate) fn receive<R: Wait, C: Claim>(
+pub(crate) fn receive<R: Wait, C: Claim, D: Delivered>(
     rt: &R,
     alloc: Global,
     scenario: &Scenario,
-    told: &Received,
+    told: &D,
     post: &PostOf<C>,
     collector: Collector,
-    all: AllPosted,
+    all: AllPosted<D>,
 ) -> Result<(Collector, Vec<Letter>), Halt>
     requires collector { collector.table ≡ post.now.table }
     requires all { scenario.now.generals ≤ all.letters }
@@ -44,12 +45,12 @@ pub(crate) fn receive<R: Wait, C: Claim>(
     requires told { all.out.told.value ≡ told.now }
     requires given { (all.out.given.from ≡ 0) × (all.out.given.tasks ≡ scenario.now.generals) }
     ensures post { IfOk result (λ r. r.0.table ≡ post.now.table) }
-    ensures letters { IfOk result (λ r. AreLettersOf scenario.now (suc told.now.rounds) r.1.items) }
+    ensures letters { IfOk result (λ r. AreLettersOf scenario.now (suc (D.count told.now)) r.1.items) }
     ensures ascending { IfOk result (λ r. IsSortedByKey (λ (letter : LetterSeen). letter.general) nat_cmp r.1.items) }
     ensures taken { IfOk result (λ r. (came : List LetterSeen) × (r.0.taken ≡ collector.taken ++ came)
         × IsPermutation came r.1.items) }
     ensures claims { IfOk result (λ r. All C.holds r.1.items) }
-    ensures strayed { IfErr result (HasStrayedIn (suc told.now.rounds)) }
+    ensures strayed { IfErr result (HasStrayedIn (suc (D.count told.now))) }
     ensures started { IfErr result (λ halt. halt_as halt ≢ Spawn) }
     ensures posted { IfErr result (λ halt. halt_as halt ≢ PostFull) }
 {
@@ -81,12 +82,12 @@ fn of_round(scenario: &Scenario, round: u32, letters: &[Letter]) -> Result<(), S
 /// # Errors
 ///
 /// `AllocError` if an allocation fails.
-fn take_letters<R: Wait, C: Claim>(
+fn take_letters<R: Wait, C: Claim, D: Drop>(
     rt: &R,
     alloc: Global,
     post: &PostOf<C>,
     mut collector: Collector,
-    all: AllPosted,
+    all: AllPosted<D>,
 ) -> Result<(Collector, Vec<Letter>), AllocError>
     requires { collector.table ≡ post.now.table }
     ensures post { IfOk result (λ r. r.0.table ≡ post.now.table) }

@@ -81,11 +81,11 @@ impl PostedCount {
     /// # Errors
     ///
     /// `SomeoneFailed` if a general has failed.
-    pub(crate) fn all_posted<R: Wait>(
+    pub(crate) fn all_posted<R: Wait, D: Drop>(
         &self,
         rt: &R,
-        out: HandedOut,
-    ) -> Result<AllPosted, SomeoneFailed>
+        out: HandedOut<D>,
+    ) -> Result<AllPosted<D>, SomeoneFailed>
         ensures all { IfOk result (λ all. self.now.generals ≤ all.letters) }
         ensures out { IfOk result (λ all. all.out ≡ out) }
     {

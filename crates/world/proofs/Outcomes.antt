@@ -13,23 +13,23 @@ use Rattle.world.specs.World.{oral_kind, World, opening, run}
 use Rattle.world.specs.Reached.{world_of, IsHeld}
 use Rattle.world.specs.Agreement.{IsFinished}
 use Rattle.world.specs.Chronicle.{Chronicle, decisions, verdict_of, chronicle_of}
-use Rattle.world.specs.Promises.{AgreeUnderBound, IsVerdictOn, IsWellUnderBound}
+use Rattle.world.specs.Promises.{AgreeIfTolerable, IsVerdictOn, IsWellUnderBound}
 use Rattle.world.proofs.Punctual.{run_scenario}
 use Rattle.world.proofs.Holding.{held_few}
 use Rattle.world.proofs.Verdicts.{proved_decisions_agree, proved_verdicts_mean}
 
--- In a finished world the loyal lieutenants agree under the bound.
+-- In a finished world the loyal lieutenants agree if the traitors are few enough.
 pub held_agree : (s : Scenario) (closed : List (List Letter)) (k : RecordedBoard) (opened : ℕ) (ps : List Progress) (full : Bool) → IsScenario s → IsHeld s closed k opened ps full → IsFinished (world_of s closed k opened ps full) →
-    AgreeUnderBound s (decisions s (messages closed))
+    AgreeIfTolerable s (decisions s (messages closed))
 held_agree s closed k opened ps full is h done bound =
     let Q : World → Type 0 = λ v. IsFinished v → AgreeInList s.generals s.commander s.order (is_traitor s) (decisions s (messages v.closed)) in
     subst Q h.reached.1 (λ over. proved_decisions_agree s h.reached.0 is over bound) done
 
 pub decided_agree : (s : Scenario) (closed : List (List Letter)) (k : RecordedBoard) (opened : ℕ) (ps : List Progress) (full : Bool) (w : World) (xs : List ℕ) → IsScenario s → IsHeld s closed k opened ps full → world_of s closed k opened ps full ≡ w →
-    xs ≡ decisions w.scenario (messages w.closed) → IsFinished w → AgreeUnderBound w.scenario xs
+    xs ≡ decisions w.scenario (messages w.closed) → IsFinished w → AgreeIfTolerable w.scenario xs
 decided_agree s closed k opened ps full w xs is h same decided done =
-    let A : World → Type 0 = λ v. IsFinished v → AgreeUnderBound v.scenario (decisions v.scenario (messages v.closed)) in
-    subst (λ (ds : List ℕ). AgreeUnderBound w.scenario ds) (sym decided) (subst A same (held_agree s closed k opened ps full is h) done)
+    let A : World → Type 0 = λ v. IsFinished v → AgreeIfTolerable v.scenario (decisions v.scenario (messages v.closed)) in
+    subst (λ (ds : List ℕ). AgreeIfTolerable w.scenario ds) (sym decided) (subst A same (held_agree s closed k opened ps full is h) done)
 
 -- A world is finished if no round is open and every loyal general had posted in each.
 pub is_done : (s : Scenario) (closed : List (List Letter)) (k : RecordedBoard) (opened : ℕ) (ps : List Progress) (full : Bool) (w : World) (len from : ℕ) → IsScenario s → IsHeld s closed k opened ps full → world_of s closed k opened ps full ≡ w →
@@ -49,7 +49,7 @@ module _ (s : Scenario) (events : List Event) (c : Chronicle) (is : IsScenario s
   pub finished_decisions : c.decisions ≡ decisions s (messages c.letters)
   finished_decisions = decided ∙ ap (λ (rounds : List (List Letter)). decisions s (messages rounds)) (sym (ap (λ (d : Chronicle). d.letters) same))
 
-  pub finished_agree : AgreeUnderBound s c.decisions
+  pub finished_agree : AgreeIfTolerable s c.decisions
   finished_agree bound = subst (λ (ds : List ℕ). AgreeInList s.generals s.commander s.order (is_traitor s) ds) (sym decided) (proved_decisions_agree s events is done bound)
 
   judged : c.verdict ≡ verdict_of s c.decisions

@@ -1,30 +1,39 @@
 -- Lists of decisions, and what the verdict says of them.
-use Rattle.std.proofs.Common.{◌≡◌, ◌≢◌, ℕ, zero, suc, ◌*◌, ◌<◌, List, [], ◌∷◌, length, Bool, true, false, refl, sym, ap, subst, ◌∙◌, ⊎_elim, Some, None, arith}
+use Rattle.std.proofs.Common.{◌≡◌, ◌≢◌, ℕ, zero, suc, ◌*◌, ◌<◌, ◌≤◌, List, [], ◌∷◌, map, length, Bool, true, false, refl, sym, ap, subst, ◌∙◌, ⊎_elim, inr, Some, None, arith}
 use Rattle.std.specs.Prelude.{◌↔◌, ◌==◌, nat_lt, nat_le, count_by, slice_index}
 use Rattle.std.specs.List.{list_all}
 use Rattle.std.proofs.lemmas.Bool.{and_parts, and_from, eq-eqb, eqb-true, lt-ltb, ltb-true, le-leb, leb-true, cases_Bool}
 use Rattle.std.proofs.lemmas.List.{length-map}
-use Rattle.combine.specs.Rule.{combined_by}
-use Rattle.combine.specs.Laws.{chosen_is_rule}
 use Rattle.label.specs.Labels.{generals}
-use Rattle.label.specs.Oral.{IsBound}
+use Rattle.label.specs.Oral.{Agree, IsBound}
 use Rattle.label.specs.Lieutenants.{lieutenants, AgreeInList}
 use Rattle.book.specs.Conditions.{are_alike}
-use Rattle.book.proofs.Induction.{holds}
-use Rattle.book.proofs.Listed.{listed}
+use Rattle.book.proofs.Listed.{loyal_at, read_map}
 use Rattle.round.specs.Scenario.{Scenario, is_traitor}
 use Rattle.round.specs.Letters.{messages}
 use Rattle.world.specs.World.{oral_kind, opening, run}
-use Rattle.world.specs.Chronicle.{decisions, of_loyal, verdict_of}
-use Rattle.world.specs.Agreement.{DecisionsAgree, AreAlike, AreObedient, VerdictsMean}
+use Rattle.world.specs.Chronicle.{decision, decisions, of_loyal, verdict_of}
+use Rattle.world.specs.Agreement.{AreTolerable, BoundSuffices, DecisionsAgree, AreAlike, AreObedient, VerdictsMean}
 use Rattle.world.proofs.Punctual.{run_scenario}
 use Rattle.world.proofs.Agreeing.{proved_worlds_agree}
 
+pub proved_bound_suffices : BoundSuffices
+proved_bound_suffices s bound =
+    let few : count_by (is_traitor s) (generals s.generals) ≤ s.bound = bound.few in
+    let enough : 3 * s.bound < s.generals = bound.enough in
+    inr (few, omega arith)
+
+-- If the loyal lieutenants agree, so do their decisions in the list of lieutenants.
+in_list : (n c order : ℕ) (traitor : ℕ → Bool) (d : ℕ → ℕ) → Agree n c order traitor d → AgreeInList n c order traitor (map d (lieutenants n c))
+in_list n c order traitor d all = record {
+  alike = λ i j a b. read_map d (lieutenants n c) i a.within ∙ (all.alike _ _ (loyal_at n c traitor i a) (loyal_at n c traitor j b) ∙ sym (read_map d (lieutenants n c) j b.within));
+  obeyed = λ good i a. read_map d (lieutenants n c) i a.within ∙ all.obeyed good _ (loyal_at n c traitor i a);
+}
+
 pub proved_decisions_agree : DecisionsAgree
 unfolding decisions
-proved_decisions_agree s events is done bound =
-    let M = messages (run (opening s) events).closed in
-    listed (combined_by s.rule) (chosen_is_rule s.rule) holds s.generals s.commander s.bound M is.commander s.order (is_traitor s) bound (proved_worlds_agree.faithful s events is done)
+proved_decisions_agree s events is done few =
+    in_list s.generals s.commander s.order (is_traitor s) (decision s (messages (run (opening s) events).closed)) (proved_worlds_agree.agree s events is done few)
 
 module _ (s : Scenario) where
   -- A test that holds for all decisions of loyal generals holds for each of them.
@@ -132,5 +141,5 @@ proved_verdicts_mean = record {
   kept = λ s events is done b.
       let M = messages (run (opening s) events).closed in
       let A : Scenario → Type 0 = λ v. (verdict_of v (decisions v M)).bound ≡ true → ((verdict_of v (decisions v M)).alike ≡ true) × ((verdict_of v (decisions v M)).obeyed ≢ Some false) in
-      subst A (sym (run_scenario oral_kind events (opening s))) (kept_is s (decisions s M) (length-map (lieutenants s.generals s.commander) _) (λ bound. proved_decisions_agree s events is done bound)) b;
+      subst A (sym (run_scenario oral_kind events (opening s))) (kept_is s (decisions s M) (length-map (lieutenants s.generals s.commander) _) (λ bound. proved_decisions_agree s events is done (proved_bound_suffices s bound))) b;
 }

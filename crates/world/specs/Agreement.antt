@@ -1,8 +1,10 @@
 -- Agreement of the loyal lieutenants, for the list of decisions and for the verdict (TOPLAS 1982, Theorem 1, IC1 and
 -- IC2). Each law is the contract of a function of this crate.
-use Rattle.std.specs.Prelude.{ℕ, suc, ◌≡◌, ◌≢◌, ◌<◌, ◌↔◌, true, false, List, length, slice_index, None, Some}
+use Rattle.std.specs.Prelude.{ℕ, suc, ◌≡◌, ◌≢◌, ◌<◌, ◌↔◌, true, false, List, length, count_by, slice_index, None, Some}
+use Rattle.label.specs.Labels.{generals}
 use Rattle.label.specs.Oral.{IsFaithful, IsBound, Agree}
 use Rattle.label.specs.Lieutenants.{lieutenants, IsLoyalAt, AgreeInList}
+use Rattle.bounds.specs.Tolerance.{IsTolerable}
 use Rattle.round.specs.Scenario.{Scenario, IsScenario, is_traitor}
 use Rattle.round.specs.Letters.{messages}
 use Rattle.world.specs.declared.event.Event.{Event}
@@ -15,22 +17,31 @@ pub record IsFinished (w : World) : Type 0 where
   pub closed : length w.closed ≡ suc w.scenario.bound
   pub full : w.full ≡ true
 
+-- States that a scenario's traitors are few enough for OM(m), where m is the bound. There are none, or their number k is
+-- at most m and there are more than 2k + m generals.
+abbrev pub AreTolerable : Scenario → Type 0
+AreTolerable s = IsTolerable s.generals s.bound (count_by (is_traitor s) (generals s.generals))
+
+-- States that the traitors are few enough if the bound holds.
+abbrev pub BoundSuffices : Type 0
+BoundSuffices = (s : Scenario) → IsBound s.generals s.bound (is_traitor s) → AreTolerable s
+
 -- States the agreement theorem for worlds. If events are punctual, every loyal general posts in each round. In a
--- finished world the loyal generals are faithful, and the loyal lieutenants' decisions agree if the bound holds.
+-- finished world the loyal generals are faithful, and the loyal lieutenants' decisions agree if the traitors are few
+-- enough.
 pub record WorldsAgree : Type 0 where
   pub full : (s : Scenario) (events : List Event) → IsPunctual s events → (run (opening s) events).full ≡ true
   pub faithful : (s : Scenario) (events : List Event) → IsScenario s → IsFinished (run (opening s) events) → (g : ℕ) →
       g < s.generals → is_traitor s g ≡ false →
       IsFaithful s.generals s.commander s.bound s.order (messages (run (opening s) events).closed) g
   pub agree : (s : Scenario) (events : List Event) → IsScenario s → IsFinished (run (opening s) events) →
-      IsBound s.generals s.bound (is_traitor s) →
-      Agree s.generals s.commander s.order (is_traitor s) (decision s (messages (run (opening s) events).closed))
+      AreTolerable s → Agree s.generals s.commander s.order (is_traitor s) (decision s (messages (run (opening s) events).closed))
 
--- States that the loyal lieutenants' decisions agree in a finished world whose bound holds. The decisions are a list,
--- ascending by lieutenant.
+-- States that the loyal lieutenants' decisions agree in a finished world whose traitors are few enough. The decisions
+-- are a list, ascending by lieutenant.
 abbrev pub DecisionsAgree : Type 0
 DecisionsAgree = (s : Scenario) (events : List Event) → IsScenario s → IsFinished (run (opening s) events) →
-    IsBound s.generals s.bound (is_traitor s) →
+    AreTolerable s →
     AgreeInList s.generals s.commander s.order (is_traitor s) (decisions s (messages (run (opening s) events).closed))
 
 -- States that all loyal lieutenants decide on the same order (IC1).

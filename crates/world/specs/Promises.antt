@@ -11,16 +11,16 @@ use Rattle.round.specs.Letters.{Letter}
 use Rattle.round.specs.Scenario.{Scenario, is_traitor}
 use Rattle.world.specs.declared.event.Event.{Event}
 use Rattle.world.specs.declared.verdict.Verdict.{Verdict}
-use Rattle.world.specs.Agreement.{AreAlike, AreObedient}
+use Rattle.world.specs.Agreement.{AreAlike, AreObedient, AreTolerable}
 use Rattle.world.specs.Kind.{Kind, opening, run}
 use Rattle.world.specs.KindAccounted.{AreAccounted}
 use Rattle.world.specs.Part.{Acting}
 
--- States that, if the bound holds, all loyal lieutenants decide on the same order, and on the commander's order if he
--- is loyal.
-abbrev pub AgreeUnderBound : Scenario → List ℕ → Type 0
-AgreeUnderBound s ds =
-    IsBound s.generals s.bound (is_traitor s) → AgreeInList s.generals s.commander s.order (is_traitor s) ds
+-- States that, if the traitors are few enough, all loyal lieutenants decide on the same order, and on the commander's
+-- order if he is loyal. At most m traitors among more than 3m generals are few enough (`BoundSuffices`).
+abbrev pub AgreeIfTolerable : Scenario → List ℕ → Type 0
+AgreeIfTolerable s ds =
+    AreTolerable s → AgreeInList s.generals s.commander s.order (is_traitor s) ds
 
 -- States that the verdict is right: it says whether the bound holds, whether all loyal lieutenants decide on the same
 -- order, and whether they obey a loyal commander. `obeyed` is `None` exactly if the commander is a traitor.

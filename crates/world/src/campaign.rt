@@ -6,7 +6,7 @@ ghost use Rattle.world.specs.Agreement.{IsFinished};
 ghost use Rattle.world.specs.Chronicle.{decisions, chronicle_of};
 ghost use Rattle.world.specs.Lists.{IsComplete, listed, replayed};
 ghost use Rattle.world.specs.Playing.{lists_in, line_events};
-ghost use Rattle.world.specs.Promises.{AgreeUnderBound, AreSafeThroughout, AreWhole, IsVerdictOn, IsWellUnderBound};
+ghost use Rattle.world.specs.Promises.{AgreeIfTolerable, AreSafeThroughout, AreWhole, IsVerdictOn, IsWellUnderBound};
 ghost use Rattle.world.specs.Schedules.{lines_by, entries_of};
 ghost use Rattle.world.specs.World.{opening, oral_kind, run};
 ghost use Rattle.world.specs.declared.event.Event.TheVariants.{Tick, Post, Close};
@@ -37,7 +37,7 @@ pub fn play(alloc: Global, scenario: Scenario, schedule: &Schedule) -> Result<Ch
     ensures letters { IfOk result (λ chronicle. AreWhole oral_kind scenario chronicle.accesses chronicle.letters) }
     ensures decisions { IfOk result
         (λ chronicle. chronicle.decisions ≡ decisions scenario (messages chronicle.letters)) }
-    ensures agree { IfOk result (λ chronicle. AgreeUnderBound scenario chronicle.decisions) }
+    ensures agree { IfOk result (λ chronicle. AgreeIfTolerable scenario chronicle.decisions) }
     ensures verdict { IfOk result (λ chronicle. IsVerdictOn scenario chronicle.decisions chronicle.verdict) }
     ensures well { IfOk result (λ chronicle. IsWellUnderBound chronicle.verdict) }
 {
@@ -64,7 +64,7 @@ pub fn replay(alloc: Global, scenario: Scenario, names: &[Vec<u8>]) -> Result<Ch
     ensures letters { IfOk result (λ chronicle. AreWhole oral_kind scenario chronicle.accesses chronicle.letters) }
     ensures decisions { IfOk result
         (λ chronicle. chronicle.decisions ≡ decisions scenario (messages chronicle.letters)) }
-    ensures agree { IfOk result (λ chronicle. AgreeUnderBound scenario chronicle.decisions) }
+    ensures agree { IfOk result (λ chronicle. AgreeIfTolerable scenario chronicle.decisions) }
     ensures verdict { IfOk result (λ chronicle. IsVerdictOn scenario chronicle.decisions chronicle.verdict) }
     ensures well { IfOk result (λ chronicle. IsWellUnderBound chronicle.verdict) }
 {
@@ -196,7 +196,7 @@ fn tick_to_access<W: PlayableWorld>(world: &mut W, general: u32) -> Result<(), A
 ///
 /// Fails with `AllocError` if it runs out of memory. The world is then valid, but nothing else is known about it, and
 /// it should be dropped.
-pub fn play_names<W: PlayableWorld>(world: &mut W, names: &[u8]) -> Result<(), AllocError>
+pub(crate) fn play_names<W: PlayableWorld>(world: &mut W, names: &[u8]) -> Result<(), AllocError>
     ensures { OnOk result (W.seen world.new
         ≡ run_of W.kind (W.seen world.old) (names_events W.kind (W.seen world.old) names.now)) }
 {
@@ -274,7 +274,7 @@ fn end_round<W: PlayableWorld>(world: &mut W) -> Result<(), AllocError>
 ///
 /// Fails with `AllocError` if it runs out of memory. The world is then valid, but nothing else is known about it, and
 /// it should be dropped.
-pub fn wind_up<W: PlayableWorld>(world: &mut W) -> Result<(), AllocError>
+pub(crate) fn wind_up<W: PlayableWorld>(world: &mut W) -> Result<(), AllocError>
     ensures { OnOk result (W.seen world.new ≡ run_of W.kind (W.seen world.old) (wound_up (W.seen world.old).scenario)) }
 {
     all_post(world);
@@ -301,7 +301,7 @@ fn listed_round<W: PlayableWorld>(world: &mut W, line: &[Repeat]) -> Result<(), 
 ///
 /// Fails with `AllocError` if it runs out of memory. The world is then valid, but nothing else is known about it, and
 /// it should be dropped.
-pub fn named_round<W: PlayableWorld>(world: &mut W, names: &[u8]) -> Result<(), AllocError>
+pub(crate) fn named_round<W: PlayableWorld>(world: &mut W, names: &[u8]) -> Result<(), AllocError>
     ensures { OnOk result (W.seen world.new
         ≡ run_of W.kind (run_of W.kind (W.seen world.old) (names_events W.kind (W.seen world.old) names.now))
         (wound_up (W.seen world.old).scenario)) }
@@ -316,7 +316,10 @@ pub fn named_round<W: PlayableWorld>(world: &mut W, names: &[u8]) -> Result<(), 
 ///
 /// Fails with `AllocError` if it runs out of memory. The world is then valid, but nothing else is known about it, and
 /// it should be dropped.
-pub fn play_listed<W: PlayableWorld>(world: &mut W, schedule: &Schedule) -> Result<(), AllocError>
+pub(crate) fn play_listed<W: PlayableWorld>(
+    world: &mut W,
+    schedule: &Schedule,
+) -> Result<(), AllocError>
     ensures { OnOk result (W.seen world.new
         ≡ run_of W.kind (W.seen world.old)
         (listed_rounds (W.seen world.old).scenario (suc (W.seen world.old).scenario.bound) (lines_by schedule.now))) }
@@ -336,7 +339,10 @@ pub fn play_listed<W: PlayableWorld>(world: &mut W, schedule: &Schedule) -> Resu
 ///
 /// Fails with `AllocError` if it runs out of memory. The world is then valid, but nothing else is known about it, and
 /// it should be dropped.
-pub fn play_named<W: PlayableWorld>(world: &mut W, names: &[Vec<u8>]) -> Result<(), AllocError>
+pub(crate) fn play_named<W: PlayableWorld>(
+    world: &mut W,
+    names: &[Vec<u8>],
+) -> Result<(), AllocError>
     ensures { OnOk result (W.seen world.new
         ≡ run_of W.kind (W.seen world.old)
         (replayed_rounds W.kind (W.seen world.old) (suc (W.seen world.old).scenario.bound) (lists_in names.now))) }

@@ -3,7 +3,7 @@ ghost use Rattle.std.specs.Prelude.{◌≡◌, ◌↔◌, IfSome, IsSome};
 ghost use Rattle.round.specs.Letters.{messages};
 ghost use Rattle.world.specs.Agreement.{IsFinished};
 ghost use Rattle.world.specs.Chronicle.{decisions, chronicle_of};
-ghost use Rattle.world.specs.Promises.{AgreeUnderBound};
+ghost use Rattle.world.specs.Promises.{AgreeIfTolerable};
 
 use crate::chronicle::Chronicle;
 use crate::world::World;
@@ -14,11 +14,11 @@ impl World {
     /// Returns the order on which each lieutenant decides from the messages so far, ascending by lieutenant. He decides
     /// by OM(m) with the scenario's rule, where m is the bound (TOPLAS 1982). It allocates no memory.
     ///
-    /// Suppose all rounds are closed, every loyal general has posted in each, and the bound holds. Then all loyal
-    /// lieutenants decide on the same order, and on the commander's order if he is loyal.
+    /// Suppose all rounds are closed, every loyal general has posted in each, and the traitors are few enough. Then all
+    /// loyal lieutenants decide on the same order, and on the commander's order if he is loyal.
     pub fn decisions(&self) -> ArrayVec<u32, 12>
         ensures values { result.items ≡ decisions self.now.scenario (messages self.now.closed) }
-        ensures agree { IsFinished self.now → AgreeUnderBound self.now.scenario result.items }
+        ensures agree { IsFinished self.now → AgreeIfTolerable self.now.scenario result.items }
     {
         self.scenario.recall();
         let rule = self.scenario.rule();

@@ -37,7 +37,7 @@ fn are_rounds(rounds: &[Round], chronicle: &Chronicle) -> bool {
 
 /// Returns the chronicle's letters in reverse order.
 fn reversed(alloc: Global, chronicle: &Chronicle) -> Result<Vec<Letter>, AllocError> {
-    let mut all = letters(alloc, chronicle)?;
+    let mut all = letters(alloc, chronicle.letters())?;
     all.reverse();
     Ok(all)
 }
@@ -68,7 +68,7 @@ fn refuses(alloc: Global, chronicle: &Chronicle, ledger: &[Access], letters: Vec
 
 /// Returns the chronicle's letters without the one at index `place`.
 fn without(alloc: Global, chronicle: &Chronicle, place: usize) -> Result<Vec<Letter>, AllocError> {
-    let mut fewer = letters(alloc, chronicle)?;
+    let mut fewer = letters(alloc, chronicle.letters())?;
     if place < fewer.len() {
         let _left_out = fewer.remove(place);
     }
@@ -77,7 +77,7 @@ fn without(alloc: Global, chronicle: &Chronicle, place: usize) -> Result<Vec<Let
 
 /// Returns the chronicle's letters with a second copy of the one at index `place`.
 fn with(alloc: Global, chronicle: &Chronicle, place: usize) -> Result<Vec<Letter>, AllocError> {
-    let mut more = letters(alloc, chronicle)?;
+    let mut more = letters(alloc, chronicle.letters())?;
     if let Some(letter) = more.get(place) {
         let again = letter.copy(alloc)?;
         more.push(again)?;
@@ -147,7 +147,7 @@ fn with_a_stranger(alloc: Global, ledger: &[Access]) -> Result<Vec<Access>, Allo
 
 /// Returns whether this ledger does not account for the chronicle's letters.
 fn is_another(alloc: Global, chronicle: &Chronicle, ledger: &[Access]) -> bool {
-    match letters(alloc, chronicle) {
+    match letters(alloc, chronicle.letters()) {
         Ok(letters) => refuses(alloc, chronicle, ledger, letters),
         Err(_) => false,
     }

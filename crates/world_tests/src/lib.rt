@@ -25,6 +25,8 @@ mod rounds;
 #[cfg(test)]
 mod scenarios;
 #[cfg(test)]
+mod signed_musters;
+#[cfg(test)]
 mod signed_worlds;
 #[cfg(test)]
 mod texts;

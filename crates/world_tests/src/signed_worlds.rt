@@ -9,7 +9,7 @@ use std::alloc::Global;
 use world::{Event, EventError, Verdict};
 
 /// Returns the scenario of three generals with these traitors' tables.
-fn three(alloc: Global, traitors: &str) -> Option<Scenario> {
+pub(crate) fn three(alloc: Global, traitors: &str) -> Option<Scenario> {
     let Ok(text) = joined(alloc, THREE_SIGNED, traitors) else {
         return None;
     };

@@ -2,7 +2,7 @@
 
 use crate::scenarios::{are_told_alike, told};
 use board::Access;
-use round::Letter;
+use round::{Letter, Round};
 use semantics::Reply;
 use std::alloc::{AllocError, Global};
 use std::sync::Wait;
@@ -88,10 +88,10 @@ pub(crate) fn count(accesses: &[Access], number: usize, first: u64) -> bool {
     accesses.len() == number
 }
 
-/// Returns copies of a chronicle's letters, by round.
-pub(crate) fn letters(alloc: Global, chronicle: &Chronicle) -> Result<Vec<Letter>, AllocError> {
+/// Returns copies of the letters of these rounds, by round.
+pub(crate) fn letters(alloc: Global, rounds: &[Round]) -> Result<Vec<Letter>, AllocError> {
     let mut all = Vec::new(alloc);
-    for round in chronicle.letters() {
+    for round in rounds {
         for letter in round.letters() {
             all.push(letter.copy(alloc)?)?;
         }

@@ -17,7 +17,8 @@ pub enum AllocatingCall {
     /// Calls `play` or `play_signed`.
     Play(MessageKind),
     ResolveAll,
-    Muster,
+    /// Calls `muster` or `muster_signed`.
+    Muster(MessageKind),
     Read,
     ReadSchedule,
     /// Calls `check` or `check_signed`.
@@ -36,7 +37,7 @@ pub const CALLS: &[(&str, AllocatingCall)] = &[
     ("world_apply", AllocatingCall::WorldApply(MessageKind::Oral)),
     ("play", AllocatingCall::Play(MessageKind::Oral)),
     ("resolve_all", AllocatingCall::ResolveAll),
-    ("muster", AllocatingCall::Muster),
+    ("muster", AllocatingCall::Muster(MessageKind::Oral)),
     ("read", AllocatingCall::Read),
     ("read_schedule", AllocatingCall::ReadSchedule),
     ("check", AllocatingCall::Check(MessageKind::Oral)),
@@ -47,6 +48,7 @@ pub const CALLS: &[(&str, AllocatingCall)] = &[
     ),
     ("play_signed", AllocatingCall::Play(MessageKind::Signed)),
     ("check_signed", AllocatingCall::Check(MessageKind::Signed)),
+    ("muster_signed", AllocatingCall::Muster(MessageKind::Signed)),
 ];
 
 /// Returns the call with this name, or `None` if there is no such call.

@@ -39,7 +39,7 @@ fn made<R: Print + Threads + Wait + Sync + AllocGlobal>(
         AllocatingCall::WorldApply(messages) => world_calls::happens(rt, messages, campaign),
         AllocatingCall::Play(messages) => world_calls::plays(rt, messages, campaign),
         AllocatingCall::ResolveAll => decision_calls::resolves(rt, campaign),
-        AllocatingCall::Muster => world_calls::musters(rt, campaign),
+        AllocatingCall::Muster(messages) => world_calls::musters(rt, messages, campaign),
         AllocatingCall::Read => reader_calls::reads(rt, campaign),
         AllocatingCall::ReadSchedule => reader_calls::reads_schedule(rt, campaign),
         AllocatingCall::Check(messages) => audit_calls::checks(rt, messages, campaign),

@@ -1,5 +1,6 @@
-//! Makes calls on worlds: `open`, `apply`, `play`, and `muster`, which uses threads.
-use crate::chronicles::{MessageKind, text, told_freely};
+//! Makes calls on worlds: `open`, `apply`, `play`, and `muster`, which uses threads, each for both kinds of messages.
+use crate::chronicles;
+use crate::chronicles::{MessageKind, told_freely};
 use crate::hostile_calls::campaign::SampleCampaign;
 use crate::hostile_calls::marks::{back, ready};
 use crate::hostile_calls::outcome::{CallAnswer, CallOutcome, compared, led};
@@ -10,9 +11,8 @@ use std::alloc::{AllocError, Global};
 use std::str;
 use std::sync::Wait;
 use std::thread::Threads;
-use threads::{MusterError, Open, muster};
-use trace::check;
-use world::{Chronicle, Event, EventError, Schedule};
+use threads::MusterError;
+use world::{Event, EventError, Schedule};
 
 /// Opens the world of a campaign's scenario twice, with `World::open` or `SignedWorld::open`, and compares the
 /// results.
@@ -163,40 +163,43 @@ fn chronicled(alloc: Global, answer: Result<Made, AllocError>) -> Result<CallAns
     }
 }
 
-/// Calls `muster` twice on a campaign's scenario. The order of the accesses depends on the threads, so the chronicles
-/// are audited and not compared.
+/// Calls `muster` or `muster_signed` twice on a campaign's scenario. The order of the accesses depends on the threads,
+/// so the chronicles are audited and not compared.
 pub fn musters<R: Print + Threads + Wait + Sync + AllocGlobal>(
     rt: &R,
+    messages: MessageKind,
     campaign: SampleCampaign,
 ) -> Result<CallOutcome> {
-    let scenario = campaign.scenario(rt.alloc(), MessageKind::Oral)?;
+    let scenario = campaign.scenario(rt.alloc(), messages)?;
     ready(rt);
-    let first = muster(rt, rt.alloc(), scenario, &Open);
+    let first = Made::muster(rt, messages, scenario);
     back(rt);
-    musters_again(rt, campaign, first)
+    musters_again(rt, messages, campaign, first)
 }
 
-/// Calls `muster` again, audits both chronicles, and returns the outcome.
+/// Calls `muster` or `muster_signed` again, audits both chronicles, and returns the outcome.
 fn musters_again<R: Threads + Wait + Sync + AllocGlobal>(
     rt: &R,
+    messages: MessageKind,
     campaign: SampleCampaign,
-    first: Result<Chronicle, MusterError>,
+    first: Result<Made, MusterError>,
 ) -> Result<CallOutcome> {
-    let scenario = campaign.scenario(rt.alloc(), MessageKind::Oral)?;
-    let first = audited(rt.alloc(), first, &scenario)?;
-    let again = muster(rt, rt.alloc(), scenario.copy(rt.alloc())?, &Open);
-    compared(first, audited(rt.alloc(), again, &scenario)?)
+    let scenario = campaign.scenario(rt.alloc(), messages)?;
+    let first = audited(rt.alloc(), messages, first, &scenario)?;
+    let again = Made::muster(rt, messages, scenario.copy(rt.alloc())?);
+    compared(first, audited(rt.alloc(), messages, again, &scenario)?)
 }
 
-/// Returns the answer of `muster`. It has no bytes if an audit accepts the chronicle. Otherwise it says that memory
-/// ran out, or that a thread could not be started.
+/// Returns the answer of a muster. It has no bytes if an audit accepts the chronicle. Otherwise it says that memory ran
+/// out, or that a thread could not be started.
 fn audited(
     alloc: Global,
-    answer: Result<Chronicle, MusterError>,
+    messages: MessageKind,
+    answer: Result<Made, MusterError>,
     scenario: &Scenario,
 ) -> Result<CallAnswer> {
     match answer {
-        Ok(chronicle) => audit(alloc, scenario, &chronicle),
+        Ok(chronicle) => audit(alloc, messages, scenario, &chronicle),
         Err(MusterError::Memory) => Ok(CallAnswer::Memory),
         Err(MusterError::Spawn) => Ok(CallAnswer::NoThread),
         Err(_) => bail!("the muster is refused"),
@@ -204,10 +207,15 @@ fn audited(
 }
 
 /// Audits a chronicle, and returns an answer without bytes. Fails if the chronicle is rejected.
-fn audit(alloc: Global, scenario: &Scenario, chronicle: &Chronicle) -> Result<CallAnswer> {
-    let text = text(alloc, chronicle)?;
+fn audit(
+    alloc: Global,
+    messages: MessageKind,
+    scenario: &Scenario,
+    chronicle: &Made,
+) -> Result<CallAnswer> {
+    let text = chronicle.text(alloc)?;
     let told = str::from_utf8(text.as_slice())?;
-    match check(alloc, scenario, told) {
+    match chronicles::audited(alloc, messages, scenario, told) {
         Ok(_) => Ok(CallAnswer::Bytes(Vec::new(alloc))),
         Err(_) => bail!("a chronicle is not sound"),
     }

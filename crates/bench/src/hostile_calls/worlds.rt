@@ -4,7 +4,11 @@ use anyhow::{Result, bail};
 use arrayvec::ArrayVec;
 use round::Scenario;
 use signed::{SignedChronicle, SignedWorld, play_signed};
+use signed_threads::muster_signed;
 use std::alloc::{AllocError, Global};
+use std::sync::Wait;
+use std::thread::Threads;
+use threads::{MusterError, Open, muster};
 use world::{Chronicle, Event, EventError, Schedule, World, play};
 
 /// A world with oral or signed messages.
@@ -94,6 +98,20 @@ impl Made {
         match messages {
             MessageKind::Oral => Ok(Made::Oral(play(alloc, scenario, schedule)?)),
             MessageKind::Signed => Ok(Made::Signed(play_signed(alloc, scenario, schedule)?)),
+        }
+    }
+
+    /// Plays a scenario with a thread for each general, with `muster` or `muster_signed`.
+    pub fn muster<R: Threads + Wait + Sync + AllocGlobal>(
+        rt: &R,
+        messages: MessageKind,
+        scenario: Scenario,
+    ) -> Result<Made, MusterError> {
+        match messages {
+            MessageKind::Oral => Ok(Made::Oral(muster(rt, rt.alloc(), scenario, &Open)?)),
+            MessageKind::Signed => {
+                Ok(Made::Signed(muster_signed(rt, rt.alloc(), scenario, &Open)?))
+            }
         }
     }
 

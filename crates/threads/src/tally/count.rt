@@ -10,13 +10,13 @@ pub(crate) use uncounted_letter::{Uncounted, send};
 
 /// Evidence that all generals have posted their letters of a round. Only `Count::begin_again` creates one.
 #[derive(Drop)]
-pub(crate) struct AllPosted {
+pub(crate) struct AllPosted<D> {
     letters: usize,
     /// The evidence that they were given their tasks of this round.
-    out: HandedOut,
+    out: HandedOut<D>,
 }
 
-impl AllPosted {
+impl<D> AllPosted<D> {
     /// Returns how many letters the generals have posted in this round.
     pub(crate) fn letters(&self) -> usize
         ensures { result ≡ self.now.letters }
@@ -82,11 +82,11 @@ impl Count {
     /// # Errors
     ///
     /// `SomeoneFailed` if a general has failed.
-    pub(super) fn begin_again(
+    pub(super) fn begin_again<D: Drop>(
         &mut self,
         generals: usize,
-        out: HandedOut,
-    ) -> Result<AllPosted, SomeoneFailed>
+        out: HandedOut<D>,
+    ) -> Result<AllPosted<D>, SomeoneFailed>
         requires over { (generals ≤ self.old.posted) ⊎ IsSome self.old.failed }
         ensures count { self.new ≡ record self.old { posted = 0 } }
         ensures nobody { OnOk result (self.old.failed ≡ None) }

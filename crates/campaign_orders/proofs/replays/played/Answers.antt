@@ -10,8 +10,8 @@ loop-round-init c = c.in_ok-world.ensures ∙ ap (opening oral_kind) c.in_ok-cop
 
 pub loop-round-preserved : goal.loop-round-preserved
 loop-round-preserved c =
-    played_more (opening oral_kind c.args.scenario.now) c.loop-round.world c.named_round.new.world c.args.rows.now c.loop-round.round c.index-rows-round.result c.as_slice.result.now c.loop-round-test.true c.index-rows-round.is c.as_slice.ensures.value
-    c.loop-round.invariant c.in_ok-named_round.ensures
+    played_more (opening oral_kind c.args.scenario.now) c.loop-round.world c.in_ok-next.next c.args.rows.now c.loop-round.round c.index-rows-round.result c.as_slice.result.now c.loop-round-test.true c.index-rows-round.is c.as_slice.ensures.value
+    c.loop-round.invariant c.in_ok-next.ensures
 
 pub returns : goal.returns
-returns c = played_last (opening oral_kind c.args.scenario.now) c.loop-round.world c.play_names.new.world c.args.rows.now c.loop-round.round c.args.names.now (omega arith) c.loop-round.invariant c.in_ok-play_names.ensures
+returns c = played_last (opening oral_kind c.args.scenario.now) c.loop-round.world c.in_ok-last.last c.args.rows.now c.loop-round.round c.args.names.now (omega arith) c.loop-round.invariant c.in_ok-last.ensures

@@ -27,5 +27,5 @@ loop-round-preserved g c =
     let at = lists_at c.args.names.now c.loop-round.round c.index-names-round.result lt c.index-names-round.is in
     let here = subst (λ (l : List (List ℕ)). IsOnSchedule K start (lists_in c.args.names.now) w l c.loop-round.round c.loop-round.lines.items) at c.loop-round.invariant in
     let line = subst (λ (l : List ℕ). IsLineOf K w l v c.in_ok-entries.field-0) c.as_slice.ensures.value c.in_ok-entries.ensures in
-    schedule_goes_on K start w v (g.W.PlayableWorld.seen c.wind_up.new.world) (lists_in c.args.names.now) (lists_in (drop (c.loop-round.round + 1) c.args.names.now)) c.index-names-round.result.items c.loop-round.round c.in-Made.entries c.loop-round.lines.items c.push.new.self.items
-    here (rw c.in-Made.is at line) c.in_ok-wind_up-in-Made.ensures c.in_ok-push-in-Made.ensures.items
+    schedule_goes_on K start w v (g.W.PlayableWorld.seen c.in_ok-next-in-Made.next) (lists_in c.args.names.now) (lists_in (drop (c.loop-round.round + 1) c.args.names.now)) c.index-names-round.result.items c.loop-round.round c.in-Made.entries c.loop-round.lines.items c.push.new.self.items
+    here (rw c.in-Made.is at line) c.in_ok-next-in-Made.ensures c.in_ok-push-in-Made.ensures.items

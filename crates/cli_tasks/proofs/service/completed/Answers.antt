@@ -18,11 +18,11 @@ returns-in_err-mustered_text-in-Muster-clause-fault g c =
     let unread = IsSomeAnd c.args.second g.R.Source.fails in
     let known = option_map g.R.Source.bytes c.args.second in
     let reported = c.is_explained-told.result in
-    let course = Muster c.in-Muster.scenario c.in-Muster.explained in
+    let course = Muster c.in-Muster.campaign c.in-Muster.explained in
     let P : TaskFailure → Type 0 = λ fault. Stops unread (IsToldLater reported c.args.file.now known course) c.args.file.now fault in
     let all : IfErr c.mustered_text.result P =
     either_err (λ (cause : InputRefusal). λ (fault : TaskFailure). IsToldIf reported cause c.args.file (TellsWhyOf cause Nothing c.args.file.now []) fault) RefusesMuster P c.mustered-text.result c.mustered_text.result c.mustered_text.ensures
-    (λ refusal fault refuses told. unmustered unread reported known c.in-Muster.scenario c.in-Muster.explained refusal c.args.file fault (λ other. (other, refuses)) told)
+    (λ refusal fault refuses told. unmustered unread reported known c.in-Muster.campaign c.in-Muster.explained refusal c.args.file fault (λ other. (other, refuses)) told)
     c.mustered-text.ensures.refused in
     let own = c.in_err-mustered_text-in-Muster.field-0.0 in
     let why : P own = rw c.in_err-mustered_text-in-Muster.was at all in

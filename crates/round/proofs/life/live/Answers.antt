@@ -1,61 +1,40 @@
--- The program is run from its start to its end.
-use Rattle.std.proofs.Common.{◌≡◌, ◌∙◌, ℕ, List, [], ◌++◌, ap, sym, subst, arith, refl}
+-- The program runs from its start to its end, with an empty outbox for oral orders.
+use Rattle.std.proofs.Common.{◌∙◌, ℕ, List, [], ap, sym, subst, refl}
+use Rattle.std.specs.Prelude.{IfOk, OnErr}
 use Rattle.std.specs.Arc.{arc_value}
-use Rattle.semantics.specs.Relay.{Relay}
-use Rattle.round.specs.Activation.{Activation, started}
-use Rattle.round.specs.Letters.{Letter}
-use Rattle.round.specs.Contexts.{IsToldTo, relay_told, shape_told}
-use Rattle.semantics.specs.Relay.{oral}
-use Rattle.round.specs.Running.{IsWayServed}
-use Rattle.round.proofs.Onwards.{letter_of_run, own_run, lived}
+use Rattle.semantics.specs.Outbox.{empty_outbox}
+use Rattle.semantics.specs.Relay.{Relay, oral}
+use Rattle.round.specs.Activation.{started}
+use Rattle.round.specs.Contexts.{relay_told, shape_told}
+use Rattle.round.specs.Running.{IsLivedIn, IsGivenUpIn}
 use Rattle.round.proofs.Served.{served_first, any_error}
 use Rattle.round.proofs.life.live.Goals as goal
 
-pub loop-running-init : goal.loop-running-init
-loop-running-init g c =
-    let context = c.args.context.items in
-    let relay : c.in_ok-new.field-0.relay ≡ relay_told c.args.general c.args.round context =
-    c.in_ok-new.ensures.relay
-    ∙ ap oral (c.shape_told-shape.ensures ∙ ap (λ (l : List ℕ). shape_told c.args.general c.args.round l) c.as_slice.ensures.value) in
-    let begun = c.in_ok-running.ensures ∙ ap (λ (s : Relay). started c.args.patience (arc_value c.args.program) context s) relay in
-    let start = started c.args.patience (arc_value c.args.program) context (relay_told c.args.general c.args.round context) in
-    let served = g.S.Server.served c.args.server.now in
-    subst (λ (a : Activation). IsWayServed c.args.general c.args.round start a served c.new-transcript.result.items served) (sym begun)
-    (served_first c.args.general c.args.round start c.new-transcript.result.items served c.new-transcript.ensures.items)
+pub live_in-requires-clause-shape : goal.live_in-requires-clause-shape
+live_in-requires-clause-shape g c =
+    ap (λ (r : Relay). r.shape) c.in_ok-outbox.ensures.relay
+    ∙ (c.shape_told-shape.ensures ∙ ap (λ (l : List ℕ). shape_told c.args.general c.args.round l) c.as_slice.ensures.value)
 
-pub loop-running-preserved : goal.loop-running-preserved
-loop-running-preserved g c = c.in_ok-go_on.ensures.way _ _ c.loop-running.invariant
+pub live_in-requires-clause-kind : goal.live_in-requires-clause-kind
+live_in-requires-clause-kind g c = λ spoken. ap (λ (r : Relay). r.kind) c.in_ok-outbox.ensures.relay
 
-pub loop-running-smaller : goal.loop-running-smaller
-loop-running-smaller g c =
-    let later = c.in_ok-go_on.ensures.later in
-    let few = c.in_ok-go_on.ensures.few in
-    omega arith
-
-pub into_letter-requires : goal.into_letter-requires
-into_letter-requires g c =
-    let way = c.loop-running.invariant.way in
-    let s = way.same in
-    letter_of_run c.args.general c.args.round c.loop-running.transcript.items c.loop-running.running c.has_ended.ensures.whole
-    (subst (λ (l : List ℕ). IsToldTo c.args.general c.args.round l) (sym s.context) c.requires.own)
-    (s.relay ∙ ap (λ (l : List ℕ). relay_told c.args.general c.args.round l) (sym s.context))
-    way.fitting
-    (own_run c.args.general c.args.round (arc_value c.args.program) c.args.context.items c.args.patience (relay_told c.args.general c.args.round c.args.context.items) c.loop-running.transcript.items c.loop-running.running way)
+pub live_in-requires-clause-empty : goal.live_in-requires-clause-empty
+live_in-requires-clause-empty g c = c.in_ok-outbox.ensures.empty ∙ ap empty_outbox (sym c.in_ok-outbox.ensures.relay)
 
 pub returns-clause-lived : goal.returns-clause-lived
 returns-clause-lived g c =
-    lived c.args.general c.args.round (arc_value c.args.program) c.args.context.items c.args.patience (relay_told c.args.general c.args.round c.args.context.items) c.loop-running.transcript.items c.loop-running.running c.into_letter.result
-    refl c.has_ended.ensures.within c.loop-running.invariant.way (sym c.has_ended.ensures.ended ∙ c.loop-running-test.false) c.into_letter.ensures
+    let relay = c.in_ok-outbox.ensures.relay
+    ∙ ap oral (c.shape_told-shape.ensures ∙ ap (λ (l : List ℕ). shape_told c.args.general c.args.round l) c.as_slice.ensures.value) in
+    subst (λ (r : Relay). IfOk c.live_in.result (IsLivedIn c.args.general c.args.round (arc_value c.args.program) c.args.context.items r c.args.patience)) relay c.live_in.ensures.lived
 
-pub returns-clause-served : goal.returns-clause-served
-returns-clause-served g c = c.loop-running.invariant.whole ∙ ap (λ (l : Letter). g.S.Server.served c.args.server.now ++ l.transcript) (sym c.into_letter.ensures)
+pub returns-clause-given_up : goal.returns-clause-given_up
+returns-clause-given_up g c =
+    let relay = c.in_ok-outbox.ensures.relay
+    ∙ ap oral (c.shape_told-shape.ensures ∙ ap (λ (l : List ℕ). shape_told c.args.general c.args.round l) c.as_slice.ensures.value) in
+    subst (λ (r : Relay). OnErr c.live_in.result (IsGivenUpIn c.args.general c.args.round (arc_value c.args.program) c.args.context.items r c.args.patience (g.S.Server.served c.args.server.now) (g.S.Server.served c.live_in.new.server)))
+    relay c.live_in.ensures.given_up
 
-pub returns-in_err-new-clause-given_up : goal.returns-in_err-new-clause-given_up
-returns-in_err-new-clause-given_up g c =
+pub returns-in_err-outbox-clause-given_up : goal.returns-in_err-outbox-clause-given_up
+returns-in_err-outbox-clause-given_up g c =
     let start = started c.args.patience (arc_value c.args.program) c.args.context.items (relay_told c.args.general c.args.round c.args.context.items) in
     any_error c.from_residual.result _ (start, [], served_first c.args.general c.args.round start [] (g.S.Server.served c.args.server.now) refl)
-
-pub returns-in_err-running-clause-given_up : goal.returns-in_err-running-clause-given_up
-returns-in_err-running-clause-given_up g c =
-    let start = started c.args.patience (arc_value c.args.program) c.args.context.items (relay_told c.args.general c.args.round c.args.context.items) in
-    any_error c.from_residual-in_err-running.result _ (start, [], served_first c.args.general c.args.round start [] (g.S.Server.served c.args.server.now) refl)

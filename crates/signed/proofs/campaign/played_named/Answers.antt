@@ -6,7 +6,7 @@ use Rattle.world.proofs.Listed.{replayed_is, replayed_finished}
 use Rattle.signed.proofs.campaign.played_named.Goals as goal
 
 pub returns-clause-replayed : goal.returns-clause-replayed
-returns-clause-replayed c = replayed_is signed_kind c.args.scenario (lists_in c.args.names.now) c.in_ok-world.world c.play_named.new.world c.in_ok-world.ensures c.in_ok-play_named.ensures
+returns-clause-replayed c = replayed_is signed_kind c.args.scenario (lists_in c.args.names.now) c.in_ok-opened.opened c.in_ok-world.world c.in_ok-opened.ensures c.in_ok-world.ensures
 
 pub returns-clause-finished : goal.returns-clause-finished
-returns-clause-finished c = replayed_finished signed_kind signed_campaigns c.args.scenario (lists_in c.args.names.now) c.play_named.new.world c.recall.ensures (returns-clause-replayed c)
+returns-clause-finished c = replayed_finished signed_kind signed_campaigns c.args.scenario (lists_in c.args.names.now) c.in_ok-world.world c.recall.ensures (returns-clause-replayed c)

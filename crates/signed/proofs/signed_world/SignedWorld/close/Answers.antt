@@ -10,7 +10,7 @@ use Rattle.world.specs.Kind.{World, happen}
 use Rattle.signed.specs.Kind.{signed_kind}
 use Rattle.signed.specs.Sending.{beginnings_behind, drafts_behind}
 use Rattle.signed.specs.Sent.{Sent, round_sent}
-use Rattle.signed.proofs.Closed.{all_drafted, closed_is, closed_kept, closed_now, closing_sent, drafts_of, drafts_same, round_pushed, row_now, row_written, sendings_same, sent_long}
+use Rattle.signed.proofs.Closed.{all_drafted, closed_is, closed_kept, closed_now, closing_sent, drafts_of, drafts_same, is_sent, round_pushed, row_now, row_written, sendings_same, sent_long}
 use Rattle.signed.proofs.signed_world.SignedWorld.close.Goals as goal
 
 pub drafts-requires-clause-left : goal.drafts-requires-clause-left
@@ -19,6 +19,18 @@ drafts-requires-clause-left c =
     let le : length s.closed.items ≤ s.scenario.bound = subst (λ (w : World). length w.closed ≤ w.scenario.bound) (sym c.self.view_is) c.requires in
     let long : length c.as_slice-sent.result.now ≡ length s.closed.items = ap length c.as_slice-sent.ensures.value ∙ sent_long s.scenario s.closed.items s.board s.opened s.parts.items s.full s.sent.items s.signers.items c.self.invariant in
     omega arith
+
+pub drafts-requires-clause-sent : goal.drafts-requires-clause-sent
+drafts-requires-clause-sent c =
+    let s = c.self.inside in
+    let h = is_sent s.scenario s.closed.items s.board s.opened s.parts.items s.full s.sent.items s.signers.items c.recall.ensures c.self.invariant in
+    (h.0, h.1, c.as_slice-sent.ensures.value ∙ h.2)
+
+pub sendings-requires-clause-sent : goal.sendings-requires-clause-sent
+sendings-requires-clause-sent c =
+    let s = c.self.inside in
+    let h = is_sent s.scenario s.closed.items s.board s.opened s.parts.items s.full s.sent.items s.signers.items c.recall.ensures c.self.invariant in
+    (h.0, h.1, c.as_slice-sent.ensures.value ∙ h.2)
 
 pub beginnings-requires : goal.beginnings-requires
 beginnings-requires c =
@@ -31,7 +43,7 @@ beginnings-requires c =
     (sendings_same s.scenario s.sent.items c.as_slice-sent.result.now c.in_ok-drafts.drafts.items c.as_slice-3.result.now s.parts.items c.as_slice-4.result.now c.in_ok-sendings.sendings
     c.in_ok-sendings.ensures c.as_slice-sent.ensures.value c.as_slice-3.ensures.value c.as_slice-4.ensures.value) c.in_ok-push.ensures.items in
     let there = closing_sent s.scenario s.closed.items s.board s.opened s.parts.items s.full s.sent.items s.signers.items c.self.invariant c.push.new.self.items c.recall.ensures le now in
-    record { sent = (there.0, c.as_slice-5.ensures.value ∙ there.1) }
+    record { sent = (there.0, there.1, c.as_slice-5.ensures.value ∙ there.2) }
 
 pub letters-letters-requires-clause-count : goal.letters-letters-requires-clause-count
 letters-letters-requires-clause-count c =

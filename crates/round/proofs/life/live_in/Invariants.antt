@@ -1,13 +1,12 @@
 use Rattle.std.proofs.Common.{◌-◌}
 use Rattle.std.specs.Arc.{arc_value}
 use Rattle.round.specs.Activation.{started}
-use Rattle.round.specs.Contexts.{relay_told}
 use Rattle.round.specs.Running.{IsWayServed}
-use Rattle.round.proofs.life.live.Given as goal
+use Rattle.round.proofs.life.live_in.Given as goal
 
 abbrev pub invariant-loop-running : goal.invariant-loop-running
 invariant-loop-running g l =
-    IsWayServed l.general l.round (started l.fn.patience (arc_value l.fn.program) l.fn.context.items (relay_told l.general l.round l.fn.context.items)) l.running (g.S.Server.served l.fn.server) l.transcript.items
+    IsWayServed l.general l.round (started l.fn.patience (arc_value l.fn.program) l.fn.context.items l.fn.outbox.relay) l.running (g.S.Server.served l.fn.server) l.transcript.items
     (g.S.Server.served l.server)
 
 abbrev pub decreases-loop-running : goal.decreases-loop-running

@@ -1,0 +1,3 @@
+pub mod Briefings
+pub mod Concluded
+pub mod Outsets
