@@ -36,7 +36,7 @@ use Rattle.core.specs.Ptr.{if_non_null}
 use Rattle.std.proofs.raw_atomic.Walks.{proved_at}
 use Rattle.std.specs.Prelude.{if◌then◌else◌}
 use Rattle.capi.specs.FaultPlaces.{fault_after}
-use Rattle.capi.specs.declared.before.NumberedFault.{NumberedFault}
+use Rattle.capi.specs.declared.fault.NumberedFault.{NumberedFault}
 use Rattle.capi.specs.contracts.fault.NumberedFault as fault
 use Rattle.capi.proofs.fault.NumberedFault.TheLaws as laws
 use Rattle.capi.specs.contracts.fault_place.FaultPlace as place
