@@ -3,7 +3,7 @@ use Rattle.std.proofs.Common.{◌≡◌, T, ℕ, ◌<◌, ◌^◌, Bool, true, f
 use seplogic.Ra.Ura.{Ura}
 use base.Fraction.{full_share}
 use base.Logic.{SProp, ent, sep, emp, id⊢}
-use base.Fml.{Fml, ftrue, fsep, fex, fat}
+use base.Fml.{Fml, ftrue, fsep, fat}
 use mir.Raw.{raw as bare}
 use mir.Val.{Val, vint, vbool, vstruct, vcons, vnil, of_list, has_ty, WT}
 use prog.Memory.{Memory}
@@ -24,17 +24,15 @@ use denote.Plain.{uint_Tells, bool_Tells}
 use denote.Param.{layout}
 use denote.RawPtr.{Ptr, block_ptr, null_ptr, ptr_val, lies_at, Testable, tests_null}
 use denote.Shadow.{makes_shadow}
-use denote.Signature.{Slot, type_at, plain}
+use denote.Signature.{Slot, plain}
 use denote.Steps.{nothing}
 use denote.Struct.Members.{Member}
 use denote.Struct.Owning.{shape}
 use denote.Struct.Struct.{Struct}
-use denote.Triple.Clauses.{Clauses}
 use denote.Triple.Walked.{Stays, stay_dropped, walk_of, says, ends_at, Goes-dropped}
 use Rattle.core.proofs.cell.Inside.{one, spread, gather}
 use Rattle.core.specs.Ptr.{if_non_null}
 use Rattle.std.proofs.raw_atomic.Walks.{proved_at}
-use Rattle.std.specs.Prelude.{if◌then◌else◌}
 use Rattle.capi.specs.FaultPlaces.{fault_after}
 use Rattle.capi.specs.declared.fault.NumberedFault.{NumberedFault}
 use Rattle.capi.specs.contracts.fault.NumberedFault as fault
