@@ -10,13 +10,14 @@
  *
  * The caller must ensure the following, which nothing checks:
  *
- * - Each pointer points to memory of the given size, is aligned for its type, and is not NULL. Only a pointer with a size
- *   next to it may be NULL, and only if this size is 0. It then has the effect that is described for the function, and
- *   nothing else is read or written at it (this is tested, and not proved).
- * - So NULL for board, fault, outcome, needed or loaded is undefined, at every status. It most likely ends the process.
- * - The memory that a function writes (fault, outcome, outcomes, board, text, needed, loaded) does not overlap any
- *   other argument, and no other thread reads or writes it during the call. No other thread writes the memory that a
- *   function only reads (program, context, contexts) during the call.
+ * - Each pointer points to memory of the given size, is aligned for its type, and is not NULL, with two exceptions. The
+ *   fault may always be NULL: it is then not written (this is proved). And a pointer with a size next to it may be NULL if
+ *   this size is 0. It then has the effect that is described for the function, and nothing else is read or written at it
+ *   (this is tested, and not proved).
+ * - So NULL for board, outcome, needed or loaded is undefined, at every status. It most likely ends the process.
+ * - The memory that a function writes (fault, outcome, outcomes, board, text, needed, loaded, and byzlab_object's
+ *   program) does not overlap any other argument, and no other thread reads or writes it during the call. No other thread
+ *   writes the memory that a function only reads (program, context, contexts, object, entry) during the call.
  * - A struct byzlab_program is all zeros before the first call, and only the functions below write it afterwards. It is
  *   not copied.
  * - malloc, realloc and free come from one allocator. malloc and realloc align a block to each power of two up to 16
@@ -45,8 +46,10 @@ enum byzlab_status {
     BYZLAB_LENGTH = 4,   /* the context is not 4,096 bytes long, or the contexts not 4,096 for each outcome; in
                           * byzlab_run_loaded, the context is longer */
     BYZLAB_UNLOADED = 5, /* no program is loaded */
-    BYZLAB_FORBIDDEN = 6 /* the program is accepted, and calls a helper that is not allowed; the fault has the helper's
-                          * number and the unit of the first such call */
+    BYZLAB_FORBIDDEN = 6, /* the program is accepted, and calls a helper that is not allowed; the fault has the helper's
+                           * number and the unit of the first such call */
+    BYZLAB_OBJECT_FAULT = 7, /* the object has no program for this entry; the fault has a number from 201 to 209 */
+    BYZLAB_ROOM = 8          /* the object's program is longer than the buffer */
 };
 
 /* The numbers of the faults. Each comes with the unit in which the faulty instruction begins. Units have 8
@@ -74,7 +77,19 @@ enum byzlab_number {
     BYZLAB_V10_CONTEXT_WRITE = 110, /* the context is written */
     BYZLAB_V11_HELPER = 111,        /* a helper is called that does not exist */
     BYZLAB_V12_ARGUMENT = 112,      /* a helper is called with an argument that it does not accept */
-    BYZLAB_V13_EXIT_POINTER = 113   /* the program ends with a pointer in r0 */
+    BYZLAB_V13_EXIT_POINTER = 113,  /* the program ends with a pointer in r0 */
+
+    BYZLAB_O1_NO_OBJECT = 201,   /* this is not a relocatable ELF object for BPF of 64 bits, little-endian; the unit is 0 */
+    BYZLAB_O2_SECTIONS = 202,    /* the header is cut off, or the section headers are not within the file; the unit is 0 */
+    BYZLAB_O3_NO_FUNCTION = 203, /* there is no function with this name, or no global function; the unit is 0 */
+    BYZLAB_O4_SEVERAL = 204,     /* there are several functions with this name, or several global ones; the unit is 0 */
+    BYZLAB_O5_NAMES = 205,       /* this unit of the program uses data, or a function that is not in the object */
+    BYZLAB_O6_LEAVES = 206,      /* this unit of the program calls or uses another function of the object */
+    BYZLAB_O2_SECTION = 207,     /* a section is not within the file; the unit is the section's index */
+    BYZLAB_O2_SYMBOL = 208,      /* a function's name is not among the strings, or its code is not within its section; the
+                                  * unit is the symbol's index */
+    BYZLAB_O2_RELOCATIONS = 209  /* relocations use another symbol table, or a symbol that does not exist; the unit is the
+                                  * index of their section */
 };
 
 #define BYZLAB_VERSION 10000      /* the version of this header; byzlab_version returns the library's */
@@ -89,8 +104,8 @@ enum byzlab_number {
 #define BYZLAB_ALL_HELPERS UINT64_C(0xffe)
 
 /*
- * Why bytes are not accepted (at the statuses 1 and 2), or which helper is not allowed and where it is called (at 6). At
- * other statuses it is unchanged.
+ * Why bytes are not accepted (at the statuses 1 and 2), which helper is not allowed and where it is called (at 6), or why
+ * an object has no program (at 7). At other statuses it is unchanged. A caller that does not ask passes NULL.
  */
 struct byzlab_fault {
     uint32_t number;
@@ -185,8 +200,20 @@ uint32_t byzlab_disassemble(const uint8_t *program, size_t length, char *text, s
                             struct byzlab_fault *fault);
 
 /*
- * Writes in the same way a sentence that describes the status or, at 1 and 2, the fault with this number. It is empty if
- * there is no such status or fault. NULL: text, if room is 0. The call then asks for the length.
+ * Reads an ELF object, which clang makes of C for BPF. Its program is the function with the name `entry` or, if
+ * entry_length is 0, the only global function. Returns 0, 7 or 8. At 0 it writes the program and, into needed, how many
+ * bytes it has. At 8 these are more than capacity, and only needed is written. At 7 only the fault is. The bytes may spell
+ * no program, or one that is not accepted: byzlab_load tells.
+ *
+ * NULL: the object, if length is 0. The status is then 7, and the number BYZLAB_O1_NO_OBJECT. The entry, if entry_length
+ * is 0. And the program, if capacity is 0. The call then asks for the length.
+ */
+uint32_t byzlab_object(const uint8_t *object, size_t length, const char *entry, size_t entry_length, uint8_t *program,
+                       size_t capacity, size_t *needed, struct byzlab_fault *fault);
+
+/*
+ * Writes, as byzlab_explain does its text, a sentence that describes the status or, at 1, 2 and 7, the fault with this
+ * number. It is empty if there is no such status or fault. NULL: text, if room is 0. The call then asks for the length.
  */
 void byzlab_message(uint32_t status, uint32_t number, char *text, size_t room, size_t *needed);
 

@@ -1,5 +1,5 @@
 /* Each function and each status once, with the values that are wanted, and what is not to be written; by as many
- * threads at once as the first word says. */
+ * threads at once as the first word says. The second word is the path of crates/rows/data/several.o. */
 #include <byzlab_sandbox.h>
 #include <pthread.h>
 #include <stdatomic.h>
@@ -316,13 +316,92 @@ static void messages(void) {
     message(BYZLAB_MISSPELT, BYZLAB_C8_COUNT, "a program has 1 to 4,096 units");
     message(BYZLAB_REFUSED, BYZLAB_V1_BACK_JUMP, "a jump leads to its own unit or backward");
     message(BYZLAB_REFUSED, BYZLAB_V13_EXIT_POINTER, "the program ends with a pointer in r0");
-    message(7, 0, "");
+    message(BYZLAB_OBJECT_FAULT, BYZLAB_O3_NO_FUNCTION, "there is no function with this name, or no global function");
+    message(BYZLAB_OBJECT_FAULT, BYZLAB_O2_RELOCATIONS,
+            "the relocations of this section name a symbol that does not exist");
+    message(BYZLAB_ROOM, 0, "the buffer is too short for the program");
+    message(BYZLAB_OBJECT_FAULT, 0, "");
+    message(BYZLAB_OBJECT_FAULT, 200, "");
+    message(BYZLAB_OBJECT_FAULT, 210, "");
+    message(9, 0, "");
     message(UINT32_MAX, UINT32_MAX, "");
     message(BYZLAB_MISSPELT, 0, "");
     message(BYZLAB_MISSPELT, 9, "");
     message(BYZLAB_REFUSED, 99, "");
     message(BYZLAB_REFUSED, 114, "");
     message(BYZLAB_REFUSED, UINT32_MAX, "");
+}
+
+/* The object's functions by name: status, and number and unit of the fault or the program's length. */
+static const struct {
+    const char *entry;
+    uint32_t status, number;
+    size_t unit;
+} entries[] = {
+    {"plain", BYZLAB_DONE, 0, 16},
+    {"tells", BYZLAB_DONE, 0, 48},
+    {"thrice", BYZLAB_DONE, 0, 40},
+    {"none", BYZLAB_OBJECT_FAULT, BYZLAB_O3_NO_FUNCTION, 0},
+    {"plai", BYZLAB_OBJECT_FAULT, BYZLAB_O3_NO_FUNCTION, 0},
+    {"", BYZLAB_OBJECT_FAULT, BYZLAB_O4_SEVERAL, 0},
+    {"reads", BYZLAB_OBJECT_FAULT, BYZLAB_O5_NAMES, 3},
+    {"calls", BYZLAB_OBJECT_FAULT, BYZLAB_O6_LEAVES, 1},
+};
+
+/* The bytes of the object, which the second word names. */
+static uint8_t object[4096];
+static size_t object_length;
+
+static void read_object(const char *path) {
+    FILE *file = fopen(path, "rb");
+    if (!file) exit(2);
+    object_length = fread(object, 1, sizeof object, file);
+    fclose(file);
+}
+
+/* Reads an entry into a buffer of its own, behind which nothing may be written. */
+static void entered(size_t which, size_t capacity) {
+    struct byzlab_fault fault = {777, 888};
+    uint8_t before[64], *program, *lent = copied(object, object_length);
+    char *entry = copied(entries[which].entry, strlen(entries[which].entry));
+    size_t needed = 55, length = strlen(entries[which].entry);
+    memset(before, '#', sizeof before);
+    program = copied(before, capacity);
+    uint32_t status = byzlab_object(lent, object_length, entry, length, program, capacity, &needed, &fault);
+    if (entries[which].status == BYZLAB_DONE) {
+        WANT(status == (entries[which].unit > capacity ? BYZLAB_ROOM : BYZLAB_DONE) && needed == entries[which].unit);
+        WANT(fault.number == 777 && fault.unit == 888);
+        size_t filled = status == BYZLAB_DONE ? needed : 0;
+        WANT(!memcmp(program + filled, before, capacity - filled));
+        if (filled) WANT(!memcmp(program + filled - 8, (const uint8_t[]){EXIT}, 8));
+    } else {
+        WANT(status == BYZLAB_OBJECT_FAULT && needed == 55 && !memcmp(program, before, capacity));
+        WANT(fault.number == entries[which].number && fault.unit == entries[which].unit);
+    }
+    free(lent);
+    free(entry);
+    free(program);
+}
+
+static void objects(void) {
+    uint8_t program[64];
+    struct byzlab_fault fault = {777, 888};
+    struct byzlab_program loaded = {0};
+    size_t needed = 55;
+    for (size_t which = 0; which < sizeof entries / sizeof *entries; which++)
+        for (size_t capacity = 0; capacity <= 64; capacity += 8) entered(which, capacity);
+    for (size_t length = 0; length <= object_length; length++) {
+        uint8_t *part = copied(object, length);
+        uint32_t status = byzlab_object(part, length, "plain", 5, program, sizeof program, &needed, &fault);
+        WANT(status == (length < object_length ? BYZLAB_OBJECT_FAULT : BYZLAB_DONE));
+        free(part);
+    }
+    WANT(needed == 16 && byzlab_load(program, needed, BYZLAB_NO_HELPERS, &loaded, &fault) == BYZLAB_DONE);
+    byzlab_unload(&loaded);
+    WANT(byzlab_object(answer, 16, NULL, 0, program, 64, &needed, &fault) == BYZLAB_OBJECT_FAULT);
+    WANT(fault.number == BYZLAB_O1_NO_OBJECT && fault.unit == 0);
+    WANT(byzlab_object(object, object_length - 1, NULL, 0, program, 64, &needed, &fault) == BYZLAB_OBJECT_FAULT);
+    WANT(fault.number == BYZLAB_O2_SECTIONS && fault.unit == 0 && needed == 16);
 }
 
 /* No bytes spell no program. The fault is set back for the next call. */
@@ -369,10 +448,41 @@ static void without(void) {
     WANT(byzlab_explain(answer, 16, NULL, 0, &needed, &fault) == BYZLAB_DONE && needed > 10);
     WANT(byzlab_explain(unset, 16, NULL, 0, &needed, &fault) == BYZLAB_REFUSED && needed > 10 && fault.unit == 0);
     WANT(byzlab_disassemble(answer, 16, NULL, 0, &needed, &fault) == BYZLAB_DONE && needed == 16);
+    fault = (struct byzlab_fault){777, 888};
+    WANT(byzlab_object(NULL, 0, NULL, 0, NULL, 0, &needed, &fault) == BYZLAB_OBJECT_FAULT && needed == 16);
+    WANT(fault.number == BYZLAB_O1_NO_OBJECT && fault.unit == 0);
+    WANT(byzlab_object(object, object_length, "tells", 5, NULL, 0, &needed, &fault) == BYZLAB_ROOM && needed == 48);
     byzlab_message(BYZLAB_DONE, 0, NULL, 0, &needed);
     WANT(needed == 26);
-    byzlab_message(7, 0, NULL, 0, &needed);
+    byzlab_message(9, 0, NULL, 0, &needed);
     WANT(needed == 0);
+}
+
+/* NULL for the fault: all is as with a fault, which is not written. */
+static void without_fault(void) {
+    static const uint8_t context[BYZLAB_CONTEXT_BYTES];
+    uint64_t board[BYZLAB_BOARD_WORDS] = {0};
+    struct byzlab_outcome outcome = {111, 222};
+    struct byzlab_program loaded = {0};
+    uint8_t program[64];
+    size_t needed = 0;
+    WANT(byzlab_verify(answer, 16, NULL) == BYZLAB_DONE && byzlab_verify(unset, 16, NULL) == BYZLAB_REFUSED);
+    WANT(byzlab_verify(answer, 15, NULL) == BYZLAB_MISSPELT && byzlab_verify(NULL, 0, NULL) == BYZLAB_MISSPELT);
+    WANT(byzlab_run(answer, 16, context, sizeof context, board, NULL, &outcome) == BYZLAB_DONE && outcome.r0 == 42);
+    WANT(byzlab_run(answer, 16, context, 1, board, NULL, &outcome) == BYZLAB_LENGTH);
+    WANT(byzlab_run(unset, 16, context, sizeof context, board, NULL, &outcome) == BYZLAB_REFUSED);
+    WANT(byzlab_run_many(answer, 16, context, sizeof context, NULL, &outcome, 1) == BYZLAB_DONE && outcome.steps == 2);
+    WANT(byzlab_run_many(unset, 16, NULL, 0, NULL, NULL, 0) == BYZLAB_REFUSED);
+    WANT(byzlab_load(adds, 56, BYZLAB_NO_HELPERS, &loaded, NULL) == BYZLAB_FORBIDDEN && !loaded.full);
+    WANT(byzlab_load(adds, 55, BYZLAB_NO_HELPERS, &loaded, NULL) == BYZLAB_MISSPELT && !loaded.full);
+    WANT(byzlab_load(adds, 56, BYZLAB_ALL_HELPERS, &loaded, NULL) == BYZLAB_DONE && loaded.full);
+    byzlab_unload(&loaded);
+    WANT(byzlab_explain(unset, 16, NULL, 0, &needed, NULL) == BYZLAB_REFUSED && needed > 10);
+    WANT(byzlab_explain(unset, 15, NULL, 0, &needed, NULL) == BYZLAB_MISSPELT);
+    WANT(byzlab_disassemble(unset, 16, NULL, 0, &needed, NULL) == BYZLAB_DONE && needed == 16);
+    WANT(byzlab_disassemble(unset, 15, NULL, 0, &needed, NULL) == BYZLAB_MISSPELT && needed == 16);
+    WANT(byzlab_object(object, object_length, "plain", 5, program, 64, &needed, NULL) == BYZLAB_DONE && needed == 16);
+    WANT(byzlab_object(object, object_length, "none", 4, program, 64, &needed, NULL) == BYZLAB_OBJECT_FAULT);
 }
 
 static void *all(void *none) {
@@ -386,8 +496,10 @@ static void *all(void *none) {
     alike();
     texts();
     messages();
+    objects();
     without_program();
     without();
+    without_fault();
     WANT(byzlab_version() == BYZLAB_VERSION);
     return none;
 }
@@ -395,8 +507,9 @@ static void *all(void *none) {
 int main(int count, char **words) {
     enum { MOST = 64 };
     pthread_t threads[MOST];
-    int further = count > 1 ? atoi(words[1]) - 1 : 0;
+    int further = count > 2 ? atoi(words[1]) - 1 : -1;
     if (further < 0 || further > MOST) return 2;
+    read_object(words[2]);
     for (int i = 0; i < further; i++)
         if (pthread_create(threads + i, NULL, all, NULL)) return 2;
     all(NULL);

@@ -7,7 +7,7 @@ import shutil
 from checkout import TOP, Failure, call, product, read, toolchain, version
 
 EXPORTS = ["byzlab_verify", "byzlab_run", "byzlab_run_many", "byzlab_load", "byzlab_run_loaded", "byzlab_unload",
-           "byzlab_explain", "byzlab_disassemble", "byzlab_message", "byzlab_version"]
+           "byzlab_explain", "byzlab_disassemble", "byzlab_object", "byzlab_message", "byzlab_version"]
 TOOLS = {"cc": "gcc", "ld": "binutils", "objcopy": "binutils", "ar": "binutils"}
 # The files for pkg-config. The second has the name under which 1.0.0 is found.
 CONFIGS = {

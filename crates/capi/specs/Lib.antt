@@ -9,3 +9,5 @@ pub mod Owned
 pub mod Loads
 pub mod Helpers
 pub mod Messages
+pub mod Objects
+pub mod FaultPlaces

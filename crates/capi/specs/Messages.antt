@@ -1,5 +1,6 @@
 -- Defines the sentences that describe statuses and faults for C.
 use Rattle.std.specs.Prelude.{ℕ, ◌-◌, ◌==◌, if◌then◌else◌, List, [], ◌∷◌, codes, slice_index_or}
+use Rattle.capi.specs.Objects.{object_message}
 
 -- The sentences for the statuses, from 0 on.
 abbrev pub statuses : List (List ℕ)
@@ -11,6 +12,8 @@ statuses =
     ∷ codes "the context has the wrong length"
     ∷ codes "no program is loaded"
     ∷ codes "a helper is called that is not allowed"
+    ∷ codes "the object has no program for this entry"
+    ∷ codes "the buffer is too short for the program"
     ∷ []
 
 -- The sentences for the faults of bytecode, by their numbers. No fault has number 0.
@@ -47,9 +50,11 @@ rejections =
     ∷ codes "the program ends with a pointer in r0"
     ∷ []
 
--- Returns the sentence that describes a status. For status 1 and 2, a rejected program, it describes instead the fault
--- with this number. The sentence is empty if there is no such status or fault.
+-- Returns the sentence that describes a status. For status 1 and 2, a rejected program, and 7, an object without the
+-- program, it describes instead the fault with this number. The sentence is empty if there is no such status or fault.
 abbrev pub message : ℕ → ℕ → List ℕ
 message status number =
     if status == 1 then slice_index_or misspellings number []
-    else (if status == 2 then slice_index_or rejections (number - 100) [] else slice_index_or statuses status [])
+    else if status == 2 then slice_index_or rejections (number - 100) []
+    else if status == 7 then object_message number
+    else slice_index_or statuses status []

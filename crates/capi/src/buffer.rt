@@ -1,5 +1,5 @@
-//! Writes a text into a buffer of the caller, and cuts the text if the buffer is too short.
-ghost use Rattle.std.specs.Prelude.{◌≡◌, length};
+//! Writes bytes to the beginning of a buffer.
+ghost use Rattle.std.specs.Prelude.{◌≡◌, ◌≤◌, ◌++◌, length, drop};
 ghost use Rattle.capi.specs.Texts.{overwritten};
 
 /// Copies `text` into `buffer`, or as many of its first bytes as there is room for. Stores the length of the whole
@@ -14,4 +14,12 @@ pub fn put_text(text: &[u8], buffer: &mut [u8], needed: &mut usize)
     } else {
         buffer.copy_from_slice(&text[..buffer.len()]);
     }
+}
+
+/// Copies `start` to the beginning of `room`. Later bytes are unchanged.
+pub fn put_start(room: &mut [u8], start: &[u8])
+    requires { length start.now ≤ length room.old }
+    ensures { room.new ≡ start.now ++ drop (length start.now) room.old }
+{
+    room[..start.len()].copy_from_slice(start);
 }

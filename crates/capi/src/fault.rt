@@ -4,6 +4,8 @@ ghost use Rattle.capi.specs.Numbers.{fault_number, reason_number};
 ghost use Rattle.capi.specs.Bytes.{IsProgram, IsMisspelt, IsRefused};
 ghost use Rattle.capi.specs.Refusals.{Refuses, status_of};
 
+use crate::answer::Answer;
+use crate::fault_place::FaultPlace;
 use crate::refusal::BytecodeRefusal;
 use crate::status::{MEMORY, MISSPELT, REFUSED};
 use codec::CodecFault as Misspelling;
@@ -11,7 +13,8 @@ use verify::Reason;
 
 /// Why a program is rejected, for C: the number of the fault, and the number of the unit (8 bytes) at which it is.
 /// Faults 1 to 8 are faults of the bytecode, C1 to C8. Faults 101 to 113 are the verifier's reasons, V1 to V13. If a
-/// call of a helper is not allowed, which is status 6, the number is that of the helper.
+/// call of a helper is not allowed, which is status 6, the number is that of the helper. Faults 201 to 209 are faults of an
+/// object, and the unit may be the index of a section or symbol.
 #[repr(C)]
 #[derive(Clone, Copy, Drop)]
 pub struct NumberedFault {
@@ -56,31 +59,41 @@ pub fn reason_number(reason: Reason) -> u32
     }
 }
 
+/// Returns the status of a refusal for C, 1 to 3.
+pub fn status_of(refusal: BytecodeRefusal) -> u32
+    ensures { result ≡ status_of refusal }
+{
+    match refusal {
+        BytecodeRefusal::Misspelt(_, _) => MISSPELT,
+        BytecodeRefusal::Refused(_, _) => REFUSED,
+        BytecodeRefusal::Memory => MEMORY,
+    }
+}
+
 /// Stores the number and the unit of a refusal in `fault`, and returns the status of the refusal for C, 1 to 3. For
-/// `Memory`, which has no number, `fault` is unchanged.
-pub fn tell(refusal: BytecodeRefusal, fault: &mut NumberedFault) -> u32
-    ensures status { result ≡ status_of refusal }
-    ensures least { 1 ≤ result }
-    ensures most { result ≤ 3 }
-    ensures misspelt { (bytes : List ℕ) → Refuses bytes refusal → result ≡ 1 →
-        IsMisspelt bytes fault.new.number fault.new.unit }
-    ensures refused { (bytes : List ℕ) → Refuses bytes refusal → result ≡ 2 →
-        IsRefused bytes fault.new.number fault.new.unit }
-    ensures memory { refusal ≡ BytecodeRefusal.Memory → result ≡ 3 }
-    ensures spelt { (bytes : List ℕ) → Refuses bytes refusal → result ≡ 3 → IsProgram bytes }
-    ensures untold { result ≡ 3 → fault.new ≡ fault.old }
+/// `Memory`, which has no number, the fault is unchanged.
+pub fn tell(refusal: BytecodeRefusal, fault: FaultPlace) -> Answer
+    ensures status { result.status ≡ status_of refusal }
+    ensures least { 1 ≤ result.status }
+    ensures most { result.status ≤ 3 }
+    ensures misspelt { (bytes : List ℕ) → Refuses bytes refusal → result.status ≡ 1 →
+        IsMisspelt bytes result.fault.number result.fault.unit }
+    ensures refused { (bytes : List ℕ) → Refuses bytes refusal → result.status ≡ 2 →
+        IsRefused bytes result.fault.number result.fault.unit }
+    ensures memory { refusal ≡ BytecodeRefusal.Memory → result.status ≡ 3 }
+    ensures spelt { (bytes : List ℕ) → Refuses bytes refusal → result.status ≡ 3 → IsProgram bytes }
+    ensures untold { result.status ≡ 3 → result.fault ≡ fault.before }
+    ensures returned { result.place ≡ fault.at }
 {
     match refusal {
         BytecodeRefusal::Misspelt(found, unit) => {
-            fault.number = fault_number(found);
-            fault.unit = unit;
-            MISSPELT
+            let number = fault_number(found);
+            fault.put(NumberedFault { number, unit }, MISSPELT)
         }
         BytecodeRefusal::Refused(reason, unit) => {
-            fault.number = reason_number(reason);
-            fault.unit = unit;
-            REFUSED
+            let number = reason_number(reason);
+            fault.put(NumberedFault { number, unit }, REFUSED)
         }
-        BytecodeRefusal::Memory => MEMORY,
+        BytecodeRefusal::Memory => fault.keep(MEMORY),
     }
 }

@@ -3,15 +3,19 @@
 //! calls promise.
 #![tactic(auto)]
 
+mod answer;
 mod buffer;
 mod decoder;
 mod fault;
+mod fault_place;
 mod helpers;
 mod host;
 mod kept;
 mod loaded;
 mod loads;
 mod messages;
+mod object_exports;
+mod object_fault;
 mod outcome;
 mod padded;
 mod parts;

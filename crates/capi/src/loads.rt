@@ -6,8 +6,10 @@ ghost use Rattle.capi.specs.Loads.{IsLoaded};
 ghost use Rattle.capi.specs.Padding.{padded};
 ghost use Rattle.capi.specs.Runs.{IsRun};
 
+use crate::answer::Answer;
 use crate::decoder::accepted;
 use crate::fault::{NumberedFault, tell};
+use crate::fault_place::FaultPlace;
 use crate::helpers::first_forbidden;
 use crate::kept::Kept;
 use crate::loaded::Loaded;
@@ -25,50 +27,52 @@ pub extern "C" fn byzlab_load(
     program: &[u8],
     helpers: u64,
     loaded: &mut Loaded,
-    fault: &mut NumberedFault,
-) -> u32
-    ensures known { (result ≤ 3) ⊎ (result ≡ 6) }
+    fault: FaultPlace,
+) -> Answer
+    ensures known { (result.status ≤ 3) ⊎ (result.status ≡ 6) }
 
     // The status is 0 only if the program is accepted and calls only allowed helpers, and it is then loaded. If the
     // program is accepted, the status is 0, 3 or 6.
-    ensures accepted { result ≡ 0 → IsAccepted program.now }
-    ensures only { IsAccepted program.now → (result ≡ 0) ⊎ (result ≡ 3) ⊎ (result ≡ 6) }
-    ensures allowed { result ≡ 0 → IsAllowed program.now helpers }
-    ensures kept { result ≡ 0 → IsLoaded program.now loaded.new.place.program }
+    ensures accepted { result.status ≡ 0 → IsAccepted program.now }
+    ensures only { IsAccepted program.now → (result.status ≡ 0) ⊎ (result.status ≡ 3) ⊎ (result.status ≡ 6) }
+    ensures allowed { result.status ≡ 0 → IsAllowed program.now helpers }
+    ensures kept { result.status ≡ 0 → IsLoaded program.now loaded.new.place.program }
 
     // At status 6 the program is accepted, and `fault` has the number of the first helper that is not allowed, and the
     // unit of its call.
-    ensures forbidden { result ≡ 6 → IsForbidden program.now helpers fault.new.number fault.new.unit }
+    ensures forbidden { result.status ≡ 6 → IsForbidden program.now helpers result.fault.number result.fault.unit }
 
     // At status 1 or 2, `fault` has the number of the fault and its unit.
-    ensures misspelt { result ≡ 1 → IsMisspelt program.now fault.new.number fault.new.unit }
-    ensures refused { result ≡ 2 → IsRefused program.now fault.new.number fault.new.unit }
+    ensures misspelt { result.status ≡ 1 → IsMisspelt program.now result.fault.number result.fault.unit }
+    ensures refused { result.status ≡ 2 → IsRefused program.now result.fault.number result.fault.unit }
 
     // The status is 3 only if the bytes are the bytecode of a program.
-    ensures spelt { result ≡ 3 → IsProgram program.now }
+    ensures spelt { result.status ≡ 3 → IsProgram program.now }
 
     // `fault` changes only at status 1, 2 and 6, and `loaded` only at status 0.
-    ensures untold { (result ≡ 1) ⊎ (result ≡ 2) ⊎ (result ≡ 6) ⊎ (fault.new ≡ fault.old) }
-    ensures unwritten { (result ≡ 0) ⊎ (loaded.new ≡ loaded.old) }
+    ensures untold { (result.status ≡ 1) ⊎ (result.status ≡ 2) ⊎ (result.status ≡ 6) ⊎ (result.fault ≡ fault.before) }
+    ensures unwritten { (result.status ≡ 0) ⊎ (loaded.new ≡ loaded.old) }
+
+    // C has the memory of the fault again.
+    ensures returned { result.place ≡ fault.at }
 {
     let verified = match accepted(alloc, program) {
         Ok(verified) => verified,
         Err(refusal) => return tell(refusal, fault),
     };
     if let Some((number, unit)) = first_forbidden(&verified, helpers) {
-        *fault = NumberedFault { number, unit };
-        return FORBIDDEN;
+        return fault.put(NumberedFault { number, unit }, FORBIDDEN);
     }
     let kept = match Kept::new(alloc, verified) {
         Ok(kept) => kept,
-        Err(_) => return MEMORY,
+        Err(_) => return fault.keep(MEMORY),
     };
     match Box::new(alloc, kept) {
         Ok(boxed) => {
             loaded.put(alloc, boxed);
-            DONE
+            fault.keep(DONE)
         }
-        Err(_) => MEMORY,
+        Err(_) => fault.keep(MEMORY),
     }
 }
 

@@ -4,7 +4,8 @@ ghost use Rattle.capi.specs.Messages.{message, misspellings, rejections, statuse
 ghost use Rattle.capi.specs.Texts.{overwritten};
 
 use crate::buffer::put_text;
-use crate::status::{MISSPELT, REFUSED};
+use crate::object_fault::object_message;
+use crate::status::{MISSPELT, OBJECT_FAULT, REFUSED};
 
 /// The sentence for each status, by its number.
 const STATUSES: &[&str] = &[
@@ -15,6 +16,8 @@ const STATUSES: &[&str] = &[
     "the context has the wrong length",
     "no program is loaded",
     "a helper is called that is not allowed",
+    "the object has no program for this entry",
+    "the buffer is too short for the program",
 ];
 
 /// The sentence for each fault of bytecode, by its number.
@@ -83,8 +86,8 @@ fn sentence_at(sentences: &'static [&'static str], index: usize) -> &'static str
     }
 }
 
-/// Returns the sentence that describes a status. For status 1 and 2, a rejected program, it describes instead the fault
-/// with this number. Returns an empty text if there is no such status or fault.
+/// Returns the sentence that describes a status. For status 1 and 2, a rejected program, and 7, an object without the
+/// program, it describes instead the fault with this number. Returns an empty text if there is no such status or fault.
 fn message(status: u32, number: u32) -> &'static str
     ensures { result.now ≡ message status number }
 {
@@ -94,12 +97,15 @@ fn message(status: u32, number: u32) -> &'static str
     if status == REFUSED {
         return sentence_at(rejections(), number.saturating_sub(100) as usize);
     }
+    if status == OBJECT_FAULT {
+        return object_message(number);
+    }
     sentence_at(statuses(), status as usize)
 }
 
-/// Writes the sentence that describes a status into `text`. For status 1 and 2, a rejected program, it describes
-/// instead the fault with this number. The sentence is cut if `text` is too short. `needed` receives its whole length
-/// in bytes, which is 0 if there is no such status or fault.
+/// Writes the sentence that describes a status into `text`. For status 1 and 2, a rejected program, and 7, an object
+/// without the program, it describes instead the fault with this number. The sentence is cut if `text` is too short.
+/// `needed` receives its whole length in bytes, which is 0 if there is no such status or fault.
 #[unsafe(no_mangle)]
 pub extern "C" fn byzlab_message(status: u32, number: u32, text: &mut [u8], needed: &mut usize)
     ensures text { text.new ≡ overwritten (message status number) text.old }

@@ -3,6 +3,7 @@ ghost use Rattle.std.specs.Prelude.{◌≡◌, ◌≤◌, ◌-◌, ◌++◌, len
 ghost use Rattle.semantics.specs.Run.{IsContext};
 ghost use Rattle.capi.specs.Padding.{padded};
 
+use crate::buffer::put_start;
 use mem::Context;
 use std::marker::Model;
 
@@ -74,14 +75,6 @@ fn overlay(room: &mut [u8], start: &[u8], filled: usize)
         return;
     }
     clear(room, count, filled);
-}
-
-/// Copies `start` to the beginning of `room`. Later bytes are unchanged.
-fn put_start(room: &mut [u8], start: &[u8])
-    requires { length start.now ≤ length room.old }
-    ensures { room.new ≡ start.now ++ drop (length start.now) room.old }
-{
-    room[..start.len()].copy_from_slice(start);
 }
 
 /// Sets the bytes of `room` from index `from` to index `to - 1` to 0.

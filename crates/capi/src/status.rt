@@ -20,3 +20,9 @@ pub const UNLOADED: u32 = 5;
 
 /// The program calls a helper that the caller does not allow.
 pub const FORBIDDEN: u32 = 6;
+
+/// The object has no program for this entry.
+pub const OBJECT_FAULT: u32 = 7;
+
+/// The object's program is longer than the buffer.
+pub const ROOM: u32 = 8;

@@ -3,11 +3,12 @@ ghost use Rattle.std.specs.Prelude.{◌≡◌, ◌≢◌, ◌≤◌, ◌⊎◌};
 ghost use Rattle.capi.specs.Bytes.{IsProgram, IsAccepted, IsMisspelt, IsRefused};
 ghost use Rattle.capi.specs.Texts.{GivesExplanation, GivesAssembly};
 
+use crate::answer::Answer;
 use crate::buffer::put_text;
-use crate::decoder::{assembly, explained};
-use crate::fault::{NumberedFault, tell};
+use crate::decoder::{accepted, assembly, explained};
+use crate::fault::{status_of, tell};
+use crate::fault_place::FaultPlace;
 use crate::status::{DONE, REFUSED};
-use crate::verdict::byzlab_verify;
 use std::alloc::Global;
 
 /// Verifies a program and explains it in `text`: what the verifier knows at each unit and, if it rejects the program,
@@ -19,37 +20,47 @@ pub extern "C" fn byzlab_explain(
     program: &[u8],
     text: &mut [u8],
     needed: &mut usize,
-    fault: &mut NumberedFault,
-) -> u32
-    ensures known { result ≤ 3 }
+    fault: FaultPlace,
+) -> Answer
+    ensures known { result.status ≤ 3 }
 
     // The status is 0 only if the program is accepted. If it is accepted, the status is 0 or 3.
-    ensures accepted { result ≡ 0 → IsAccepted program.now }
-    ensures only { IsAccepted program.now → (result ≡ 0) ⊎ (result ≡ 3) }
+    ensures accepted { result.status ≡ 0 → IsAccepted program.now }
+    ensures only { IsAccepted program.now → (result.status ≡ 0) ⊎ (result.status ≡ 3) }
 
     // At status 0 or 2, the explanation of the program is written.
-    ensures text { (result ≡ 0) ⊎ (result ≡ 2) → GivesExplanation program.now text.old text.new needed.new }
+    ensures text { (result.status ≡ 0) ⊎ (result.status ≡ 2) → GivesExplanation program.now text.old text.new needed.new }
 
     // At status 1 or 2, `fault` has the number of the fault and its unit.
-    ensures misspelt { result ≡ 1 → IsMisspelt program.now fault.new.number fault.new.unit }
-    ensures refused { result ≡ 2 → IsRefused program.now fault.new.number fault.new.unit }
+    ensures misspelt { result.status ≡ 1 → IsMisspelt program.now result.fault.number result.fault.unit }
+    ensures refused { result.status ≡ 2 → IsRefused program.now result.fault.number result.fault.unit }
 
     // The status is 3 only if the bytes are the bytecode of a program.
-    ensures spelt { result ≡ 3 → IsProgram program.now }
+    ensures spelt { result.status ≡ 3 → IsProgram program.now }
 
     // `fault` changes only at status 1 and 2, and `text` and `needed` only at status 0 and 2.
-    ensures untold { (result ≡ 0) ⊎ (result ≡ 3) → fault.new ≡ fault.old }
-    ensures unwritten { (result ≡ 1) ⊎ (result ≡ 3) → (text.new ≡ text.old) × (needed.new ≡ needed.old) }
+    ensures untold { (result.status ≡ 0) ⊎ (result.status ≡ 3) → result.fault ≡ fault.before }
+    ensures unwritten { (result.status ≡ 1) ⊎ (result.status ≡ 3) → (text.new ≡ text.old) × (needed.new ≡ needed.old) }
+
+    // C has the memory of the fault again.
+    ensures returned { result.place ≡ fault.at }
 {
     let whole = match explained(alloc, program) {
         Ok(whole) => whole,
         Err(refusal) => return tell(refusal, fault),
     };
-    let status = byzlab_verify(alloc, program, fault);
-    if status == DONE || status == REFUSED {
-        put_text(whole.as_bytes(), text, needed);
+    let refusal = match accepted(alloc, program) {
+        Ok(_) => {
+            put_text(whole.as_bytes(), text, needed);
+            return fault.keep(DONE);
+        }
+        Err(refusal) => refusal,
+    };
+    if status_of(refusal) != REFUSED {
+        return tell(refusal, fault);
     }
-    status
+    put_text(whole.as_bytes(), text, needed);
+    tell(refusal, fault)
 }
 
 /// Disassembles a program into `text`, whether or not the verifier accepts it. The assembly is cut if `text` is too
@@ -61,30 +72,33 @@ pub extern "C" fn byzlab_disassemble(
     program: &[u8],
     text: &mut [u8],
     needed: &mut usize,
-    fault: &mut NumberedFault,
-) -> u32
-    ensures known { result ≤ 3 }
-    ensures unrefused { result ≢ 2 }
+    fault: FaultPlace,
+) -> Answer
+    ensures known { result.status ≤ 3 }
+    ensures unrefused { result.status ≢ 2 }
 
     // The status is 0 only if the assembly text of the program is written. If the bytes are the bytecode of a program,
     // the status is 0 or 3.
-    ensures text { result ≡ 0 → GivesAssembly program.now text.old text.new needed.new }
-    ensures only { IsProgram program.now → (result ≡ 0) ⊎ (result ≡ 3) }
+    ensures text { result.status ≡ 0 → GivesAssembly program.now text.old text.new needed.new }
+    ensures only { IsProgram program.now → (result.status ≡ 0) ⊎ (result.status ≡ 3) }
 
     // At status 1, `fault` has the number of the fault and its unit.
-    ensures misspelt { result ≡ 1 → IsMisspelt program.now fault.new.number fault.new.unit }
+    ensures misspelt { result.status ≡ 1 → IsMisspelt program.now result.fault.number result.fault.unit }
 
     // The status is 3 only if the bytes are the bytecode of a program.
-    ensures spelt { result ≡ 3 → IsProgram program.now }
+    ensures spelt { result.status ≡ 3 → IsProgram program.now }
 
     // `fault` changes only at status 1, and `text` and `needed` only at status 0.
-    ensures untold { (result ≡ 0) ⊎ (result ≡ 3) → fault.new ≡ fault.old }
-    ensures unwritten { (result ≡ 1) ⊎ (result ≡ 3) → (text.new ≡ text.old) × (needed.new ≡ needed.old) }
+    ensures untold { (result.status ≡ 0) ⊎ (result.status ≡ 3) → result.fault ≡ fault.before }
+    ensures unwritten { (result.status ≡ 1) ⊎ (result.status ≡ 3) → (text.new ≡ text.old) × (needed.new ≡ needed.old) }
+
+    // C has the memory of the fault again.
+    ensures returned { result.place ≡ fault.at }
 {
     let whole = match assembly(alloc, program) {
         Ok(whole) => whole,
         Err(refusal) => return tell(refusal, fault),
     };
     put_text(whole.as_bytes(), text, needed);
-    DONE
+    fault.keep(DONE)
 }

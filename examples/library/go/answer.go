@@ -1,7 +1,9 @@
-// Verifies and runs a program from Go. CGO_CFLAGS and CGO_LDFLAGS say where the library is.
+// Verifies and runs a program from Go, and the function whose object and name are the words, if there are words.
+// CGO_CFLAGS and CGO_LDFLAGS say where the library is.
 package main
 
 // #include <byzlab_sandbox.h>
+// #include <stdlib.h>
 // #cgo LDFLAGS: -lbyzlab
 import "C"
 
@@ -9,6 +11,7 @@ import (
 	"errors"
 	"fmt"
 	"os"
+	"unsafe"
 )
 
 // Run verifies a program and runs it once, with a board of zeros.
@@ -30,6 +33,24 @@ func Run(program []byte, context []byte) (uint64, error) {
 	return 0, fmt.Errorf("status %d number %d unit %d", status, fault.number, fault.unit)
 }
 
+// Program returns the bytecode of a function of an ELF object, or of its only global function if the name is empty.
+func Program(object []byte, entry string) ([]byte, error) {
+	var fault C.struct_byzlab_fault
+	var needed C.size_t
+	program := make([]byte, C.BYZLAB_MOST_BYTES)
+	if len(object) == 0 {
+		return nil, errors.New("no object")
+	}
+	name := C.CString(entry)
+	defer C.free(unsafe.Pointer(name))
+	status := C.byzlab_object((*C.uint8_t)(&object[0]), C.size_t(len(object)), name, C.size_t(len(entry)),
+		(*C.uint8_t)(&program[0]), C.size_t(len(program)), &needed, &fault)
+	if status != C.BYZLAB_DONE {
+		return nil, fmt.Errorf("status %d number %d unit %d", status, fault.number, fault.unit)
+	}
+	return program[:needed], nil
+}
+
 func main() {
 	context := make([]byte, C.BYZLAB_CONTEXT_BYTES)
 	r0, err := Run([]byte{0xb7, 0, 0, 0, 42, 0, 0, 0, 0x95, 0, 0, 0, 0, 0, 0, 0}, context)
@@ -40,4 +61,12 @@ func main() {
 	fmt.Println("r0", r0)
 	_, err = Run([]byte{0x95, 0, 0, 0, 0, 0, 0, 0}, context)
 	fmt.Println(err)
+	if len(os.Args) > 2 {
+		object, _ := os.ReadFile(os.Args[1])
+		program, err := Program(object, os.Args[2])
+		if err == nil {
+			r0, err = Run(program, context)
+		}
+		fmt.Println(os.Args[2], r0, err)
+	}
 }

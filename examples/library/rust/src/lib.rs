@@ -21,6 +21,10 @@ pub enum Error {
     Length,
     /// The program calls this helper, which is not allowed, at this unit.
     Forbidden { number: u32, unit: usize },
+    /// The object has no such program: 201 to 209, and the unit, or the index of a section or symbol.
+    Object { number: u32, unit: usize },
+    /// The program is longer than 4,096 units.
+    Room,
 }
 
 impl fmt::Display for Error {
@@ -31,6 +35,8 @@ impl fmt::Display for Error {
             Error::Memory => f.write_str("out of memory"),
             Error::Length => f.write_str("the context is too long"),
             Error::Forbidden { number, unit } => write!(f, "helper {number} unit {unit}"),
+            Error::Object { number, unit } => write!(f, "object fault {number} at {unit}"),
+            Error::Room => f.write_str("the program is too long"),
         }
     }
 }
@@ -61,6 +67,8 @@ impl Fault {
             2 => Err(Error::Refused { number, unit }),
             4 => Err(Error::Length),
             6 => Err(Error::Forbidden { number, unit }),
+            7 => Err(Error::Object { number, unit }),
+            8 => Err(Error::Room),
             _ => Err(Error::Memory),
         }
     }
@@ -173,6 +181,16 @@ extern "C" {
         needed: *mut usize,
         fault: *mut Fault,
     ) -> u32;
+    fn byzlab_object(
+        object: *const u8,
+        length: usize,
+        entry: *const u8,
+        entry_length: usize,
+        program: *mut u8,
+        capacity: usize,
+        needed: *mut usize,
+        fault: *mut Fault,
+    ) -> u32;
     fn byzlab_version() -> u32;
 }
 
@@ -260,6 +278,26 @@ pub fn explain(program: &[u8]) -> (String, Result<(), Error>) {
 pub fn disassemble(program: &[u8]) -> Result<String, Error> {
     let (text, verdict) = told(byzlab_disassemble, program);
     verdict.map(|()| text)
+}
+
+/// Returns the bytecode of a function of an ELF object, or of its only global function if the name is empty.
+pub fn object(object: &[u8], entry: &str) -> Result<Vec<u8>, Error> {
+    let (mut program, mut needed, mut fault) = (vec![0; 32_768], 0, Fault::default());
+    let status = unsafe {
+        byzlab_object(
+            object.as_ptr(),
+            object.len(),
+            entry.as_ptr(),
+            entry.len(),
+            program.as_mut_ptr(),
+            program.len(),
+            &mut needed,
+            &mut fault,
+        )
+    };
+    fault.result(status, ())?;
+    program.truncate(needed);
+    Ok(program)
 }
 
 /// Returns 10,000 * major + 100 * minor + patch.

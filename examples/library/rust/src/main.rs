@@ -1,6 +1,7 @@
-//! Verifies a program, runs it once and many times, loads it, and explains a program that is rejected.
+//! Verifies a program, runs it once and many times, loads it, and explains a program that is rejected. Disassembles the
+//! function whose object and name are the words, if there are words.
 use byzlab_sandbox::{
-    disassemble, explain, run, run_many, verify, version, Error, Loaded, CONTEXT_BYTES,
+    disassemble, explain, object, run, run_many, verify, version, Error, Loaded, CONTEXT_BYTES,
 };
 
 const ANSWER: [u8; 16] = [0xb7, 0, 0, 0, 42, 0, 0, 0, 0x95, 0, 0, 0, 0, 0, 0, 0];
@@ -33,5 +34,10 @@ fn main() -> Result<(), Error> {
     }
     print!("{}", disassemble(&UNSET)?);
     println!("{:?}", verify(&ANSWER[..15]));
+    let words: Vec<String> = std::env::args().collect();
+    if let [_, path, entry] = &words[..] {
+        let bytes = std::fs::read(path).unwrap_or_default();
+        println!("{entry}: {:?}", object(&bytes, entry).and_then(|code| disassemble(&code)));
+    }
     Ok(())
 }
