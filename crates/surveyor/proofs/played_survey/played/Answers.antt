@@ -20,10 +20,10 @@ loop-next-preserved g c =
     let i = c.requires.asked.inside in
     let low : c.loop-next.next ≤ c.min-until.result = omega arith in
     let high : c.min-until.result ≤ s.last + 1 = omega arith in
-    goes s c.args.family.now (g.O.Output.contents c.args.out.now) now later (g.K.Keeper.files c.args.keeper.now) (g.K.Keeper.files c.loop-next.keeper) (g.K.Keeper.files c.keep_all.new.keeper) c.loop-next.next c.min-until.result c.loop-next.counts c.in-Ok.found.items c.add.new.counts
+    goes s c.args.family.now (g.O.Output.contents c.args.out.now) now later (g.K.Keeper.files c.args.keeper.now) (g.K.Keeper.files c.loop-next.keeper) (g.K.Keeper.files c.keep_all.new.keeper) c.loop-next.next c.min-until.result c.loop-next.counts c.in-Ok.found.items c.add.new.self
     c.loop-next.invariant low high c.requires.asked.inside c.in-Ok.ensures.found
     (subst (λ (l : List Finding). Appends now later (lines_in s.shape l)) c.as_slice.ensures.value c.in_ok-put_lines.ensures.written)
-    (subst (λ (l : List Finding). (before : List Finding) → c.loop-next.counts ≡ counts_of before → length before + length l < 2 ^ 64 → c.add.new.counts ≡ counts_of (before ++ l)) c.as_slice-in-loop-next-3.ensures.value c.in_ok-add.ensures.added)
+    (subst (λ (l : List Finding). (before : List Finding) → c.loop-next.counts ≡ counts_of before → length before + length l < 2 ^ 64 → c.add.new.self ≡ counts_of (before ++ l)) c.as_slice-in-loop-next-3.ensures.value c.in_ok-add.ensures.added)
     (subst (λ (l : List ℕ). Gains (g.K.Keeper.files c.loop-next.keeper) (g.K.Keeper.files c.keep_all.new.keeper) (campaign_files s.keep c.args.family.now l))
     (c.as_slice-in-loop-next-2.ensures.value ∙ (c.in_ok-seeds.ensures ∙ ap (kept_seeds s.keeps_all) c.as_slice-in-loop-next.ensures.value)) c.in_ok-keep_all.ensures.kept)
 
