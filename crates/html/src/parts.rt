@@ -66,12 +66,7 @@ pub fn put_fold_end(out: &mut String) -> Result<(), AllocError>
 
 /// Appends a picture, which is SVG and is not changed, with a name for screen readers. If the picture is wider than the
 /// window, it can be scrolled by keyboard. It is printed on this sheet.
-pub fn put_picture(
-    out: &mut String,
-    sheet: Sheet,
-    name: &str,
-    svg: &str,
-) -> Result<(), AllocError>
+pub fn put_picture(out: &mut String, sheet: Sheet, name: &str, svg: &str) -> Result<(), AllocError>
     ensures { OnOk result (string_bytes out.new ≡ string_bytes out.old ++ picture sheet name.now svg.now) }
 {
     put_picture_start(out, sheet, name)?;

@@ -12,8 +12,8 @@ use show_diagram::Stroke;
 use show_diagram::bands::{put_accesses, put_lives, put_round_text};
 use show_diagram::layout::{column, fan_top, height, path_of, row_top, rows_top, top_of};
 use show_diagram::shapes::{
-    put_bent_start, put_group_end, put_group_start, put_line, put_mark, put_stroke_end, put_text_end,
-    put_text_start, put_title_end, put_title_start,
+    put_bent_start, put_group_end, put_group_start, put_line, put_mark, put_stroke_end,
+    put_text_end, put_text_start, put_title_end, put_title_start,
 };
 use show_diagram::words::{kind, outline};
 use std::alloc::AllocError;

@@ -11,11 +11,13 @@ use crate::layout::{
     access_top, accesses_before, board, column, fan_top, height, path_of, row_top, rows_top, top_of,
 };
 use crate::shapes::{
-    put_bent_start, put_group_end, put_group_start, put_line, put_mark, put_stroke_end, put_text_end,
-    put_text_start, put_title_end, put_title_start,
+    put_bent_start, put_group_end, put_group_start, put_line, put_mark, put_stroke_end,
+    put_text_end, put_text_start, put_title_end, put_title_start,
 };
 use crate::stroke::Stroke;
-use crate::words::{access_outline, kind, outline, put_access_words, put_row_words, put_shown, put_stroke_words};
+use crate::words::{
+    access_outline, kind, outline, put_access_words, put_row_words, put_shown, put_stroke_words,
+};
 use board::Access;
 use std::alloc::AllocError;
 
