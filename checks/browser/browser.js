@@ -70,11 +70,28 @@ globalThis.questions = () => {
 
     // ---- lines through texts
 
+    // The boxes of a shape. A line with two bends has one for each of its parts, since one for all would be near many texts.
+    const BENT = /^M(\d+) (\d+)L(\d+) (\d+)V(\d+)H(\d+)$/;
+
+    function boxesOf(shape) {
+        const bent = shape.getAttribute("d")?.match(BENT);
+        if (!bent) return [shape.getBoundingClientRect()];
+        const [x, y, u, v, w, z] = bent.slice(1).map(Number);
+        const matrix = shape.getScreenCTM();
+        const ends = [[x, y], [u, v], [u, w], [z, w]].map(([x, y]) => new DOMPoint(x, y).matrixTransform(matrix));
+        return ends.slice(1).map((end, place) => ({
+            left: Math.min(end.x, ends[place].x),
+            right: Math.max(end.x, ends[place].x),
+            top: Math.min(end.y, ends[place].y),
+            bottom: Math.max(end.y, ends[place].y),
+        }));
+    }
+
     // What is drawn in a picture but texts, with where it stands and how a point of the window is told to it.
     const drawn = once((svg) =>
         [...svg.querySelectorAll("path, line, polyline, rect, circle, ellipse, polygon")].map((shape) => ({
             shape,
-            box: shape.getBoundingClientRect(),
+            boxes: boxesOf(shape),
             back: shape.getScreenCTM().inverse(),
             isStroked: getComputedStyle(shape).stroke !== "none",
             isFilled: getComputedStyle(shape).fill !== "none",
@@ -105,7 +122,7 @@ globalThis.questions = () => {
         const wrong = [];
         for (const node of texts().filter((node) => node.parentElement instanceof SVGElement && isShown(node))) {
             for (const box of boxes(node)) {
-                const by = drawn(node.parentElement.ownerSVGElement).find((one) => isNear(box, one.box) && isStruck(box, one));
+                const by = drawn(node.parentElement.ownerSVGElement).find((one) => one.boxes.some((part) => isNear(box, part)) && isStruck(box, one));
                 if (by) wrong.push(`a ${by.shape.getAttribute("class") ?? by.shape.localName} goes through ${short(node.data)} at ${at(box)}`);
             }
         }

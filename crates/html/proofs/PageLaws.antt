@@ -8,6 +8,8 @@ use Rattle.html.specs.Grammar.{IsContent, IsElement, IsTag, IsText, alone, attri
 use Rattle.html.specs.Tags.{attribute, element, empty}
 use Rattle.html.specs.Laws.{PagesAreElements, PartsAreContent}
 use Rattle.html.specs.Page.{begun_lines, cell, fold, head, head_start, heading, item, lines, list, look, page, paragraph, picture, picture_tag, preamble, row, shown, table, text_item}
+use Rattle.html.specs.declared.sheet.Sheet.{Sheet}
+use Rattle.html.specs.declared.sheet.Sheet.TheVariants.{Large, Several, Small}
 use Rattle.html.proofs.EncodedLaws.{shown_text}
 
 -- The character is allowed in XML, and is neither markup nor a double quotation mark.
@@ -97,44 +99,60 @@ picture_parts : (f p0 k q p1 name g feed svg close : List ℕ)
     ≡ ((f ++ ((p0 ++ k ++ q) ++ ((p1 ++ name ++ q) ++ [])) ++ g) ++ (feed ++ svg) ++ close) ++ feed
 picture_parts f p0 k q p1 name g feed svg close = simp (append_assoc, append-nil)
 
-narrow_content : (name svg : List ℕ) → IsContent svg → IsContent (picture false name svg)
+small_content : (name svg : List ℕ) → IsContent svg → IsContent (picture Small name svg)
 unfolding picture_tag
-narrow_content name svg c =
+small_content name svg c =
     let attributes : List ℕ = attribute (codes "tabindex") (codes "0") ++ (attribute (codes "aria-label") (shown name) ++ []) in
     subst IsContent (sym (picture_parts (codes "<figure") (codes " tabindex=\"") (codes "0") (codes "\"") (codes " aria-label=\"") (shown name) (codes ">") (codes "\n") svg (codes "</figure>")))
     (fed (element (codes "figure") attributes (codes "\n" ++ svg))
     (nested (codes "figure") attributes (codes "\n" ++ svg)
     (two_tag (codes "figure") (codes "tabindex") (codes "0") (codes "aria-label") (shown name) refl refl (bare (codes "0") refl) refl (shown_text name) refl) (led svg c)))
 
-wide_parts : (f pc v q p0 k p1 name g feed svg close : List ℕ)
+large_parts : (f pc v q p0 k p1 name g feed svg close : List ℕ)
     → ((f ++ pc ++ v ++ q ++ p0 ++ k ++ q ++ p1) ++ name ++ (q ++ g ++ feed)) ++ svg ++ (close ++ feed)
     ≡ ((f ++ ((pc ++ v ++ q) ++ ((p0 ++ k ++ q) ++ ((p1 ++ name ++ q) ++ []))) ++ g) ++ (feed ++ svg) ++ close) ++ feed
-wide_parts f pc v q p0 k p1 name g feed svg close = simp (append_assoc, append-nil)
+large_parts f pc v q p0 k p1 name g feed svg close = simp (append_assoc, append-nil)
 
-wide_tag : (value : List ℕ) → IsText value
-    → IsTag (codes "figure") (attribute (codes "class") (codes "wide") ++ (attribute (codes "tabindex") (codes "0") ++ (attribute (codes "aria-label") value ++ [])))
+large_tag : (class value : List ℕ) → IsText class → IsText value
+    → IsTag (codes "figure") (attribute (codes "class") class ++ (attribute (codes "tabindex") (codes "0") ++ (attribute (codes "aria-label") value ++ [])))
 unfolding two_tag
-wide_tag value v =
+large_tag class value t v =
     let rest = two_tag (codes "figure") (codes "tabindex") (codes "0") (codes "aria-label") value refl refl (bare (codes "0") refl) refl v refl in
     record {
       named = refl;
       names = codes "class" ∷ rest.names;
       attributed_so =
-          attributed (codes "class") (codes "wide") (attribute (codes "tabindex") (codes "0") ++ (attribute (codes "aria-label") value ++ [])) rest.names refl
-          (bare (codes "wide") refl) refl rest.attributed_so;
+          attributed (codes "class") class (attribute (codes "tabindex") (codes "0") ++ (attribute (codes "aria-label") value ++ [])) rest.names refl
+          t refl rest.attributed_so;
     }
 
-wide_content : (name svg : List ℕ) → IsContent svg → IsContent (picture true name svg)
-unfolding picture_tag
-wide_content name svg c =
-    let attributes : List ℕ = attribute (codes "class") (codes "wide") ++ (attribute (codes "tabindex") (codes "0") ++ (attribute (codes "aria-label") (shown name) ++ [])) in
-    subst IsContent
-    (sym (wide_parts (codes "<figure") (codes " class=\"") (codes "wide") (codes "\"") (codes " tabindex=\"") (codes "0") (codes " aria-label=\"") (shown name) (codes ">") (codes "\n") svg (codes "</figure>")))
-    (fed (element (codes "figure") attributes (codes "\n" ++ svg)) (nested (codes "figure") attributes (codes "\n" ++ svg) (wide_tag (shown name) (shown_text name)) (led svg c)))
+abbrev large_attributes : List ℕ → List ℕ → List ℕ
+large_attributes class name = attribute (codes "class") class ++ (attribute (codes "tabindex") (codes "0") ++ (attribute (codes "aria-label") (shown name) ++ []))
 
-picture_content : (is_wide : Bool) (name svg : List ℕ) → IsContent svg → IsContent (picture is_wide name svg)
-picture_content true name svg c = wide_content name svg c
-picture_content false name svg c = narrow_content name svg c
+-- A picture with classes.
+large_inside : (class name svg : List ℕ) → IsText class → IsContent svg → IsContent (element (codes "figure") (large_attributes class name) (codes "\n" ++ svg) ++ codes "\n")
+large_inside class name svg t c =
+    fed (element (codes "figure") (large_attributes class name) (codes "\n" ++ svg))
+    (nested (codes "figure") (large_attributes class name) (codes "\n" ++ svg) (large_tag class (shown name) t (shown_text name)) (led svg c))
+
+large_content : (name svg : List ℕ) → IsContent svg → IsContent (picture Large name svg)
+unfolding picture_tag
+large_content name svg c =
+    subst IsContent
+    (sym (large_parts (codes "<figure") (codes " class=\"") (codes "large") (codes "\"") (codes " tabindex=\"") (codes "0") (codes " aria-label=\"") (shown name) (codes ">") (codes "\n") svg (codes "</figure>")))
+    (large_inside (codes "large") name svg (bare (codes "large") refl) c)
+
+several_content : (name svg : List ℕ) → IsContent svg → IsContent (picture Several name svg)
+unfolding picture_tag
+several_content name svg c =
+    subst IsContent
+    (sym (large_parts (codes "<figure") (codes " class=\"") (codes "large several") (codes "\"") (codes " tabindex=\"") (codes "0") (codes " aria-label=\"") (shown name) (codes ">") (codes "\n") svg (codes "</figure>")))
+    (large_inside (codes "large several") name svg (bare (codes "large several") refl) c)
+
+picture_content : (sheet : Sheet) (name svg : List ℕ) → IsContent svg → IsContent (picture sheet name svg)
+picture_content Small name svg c = small_content name svg c
+picture_content Large name svg c = large_content name svg c
+picture_content Several name svg c = several_content name svg c
 
 text_item_content : (words : List ℕ) → IsContent (text_item words)
 text_item_content words =

@@ -5,6 +5,7 @@ use Rattle.html.specs.Grammar.{IsContent, IsElement, IsText}
 use Rattle.html.specs.Page.{begun_lines, cell, fold, head, heading, item, lines, list, page, paragraph, picture, row, shown, table, text_item}
 use Rattle.html.specs.Sections.{Section, all_sections, bytes_of, heading_bytes, rooms, sections_in, standing_in, told_bytes}
 use Rattle.html.specs.Visible.{is_hidden, visible}
+use Rattle.html.specs.declared.sheet.Sheet.{Sheet}
 
 -- States that text which a page shows contains no `<`, `>` or `"`, and no `&` except at the start of a reference.
 abbrev pub TextsAreText : Type 0
@@ -31,7 +32,7 @@ pub record PartsAreContent : Type 0 where
   pub row : (cells : List ℕ) → IsContent cells → IsContent (row cells)
   pub head : (text : List ℕ) → IsContent (head text)
   pub cell : (text : List ℕ) → IsContent (cell text)
-  pub picture : (is_wide : Bool) (name svg : List ℕ) → IsContent svg → IsContent (picture is_wide name svg)
+  pub picture : (sheet : Sheet) (name svg : List ℕ) → IsContent svg → IsContent (picture sheet name svg)
 
 -- States that a page whose parts are well-formed consists of the document type line, one XML element and a line feed.
 abbrev pub PagesAreElements : Type 0

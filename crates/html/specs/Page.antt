@@ -1,9 +1,11 @@
 -- Defines an HTML page byte by byte (HTML Living Standard, section 13.1). Apart from its first line the page is also
 -- one XML element. Untrusted text in it is made visible and escaped.
-use Rattle.std.specs.Prelude.{ℕ, Bool, true, false, List, ◌++◌, codes}
+use Rattle.std.specs.Prelude.{ℕ, List, ◌++◌, codes}
 use Rattle.std.specs.Str.{chars, encode_utf8_all}
 use Rattle.html.specs.Escaped.{escaped}
 use Rattle.html.specs.Visible.{visible}
+use Rattle.html.specs.declared.sheet.Sheet.{Sheet}
+use Rattle.html.specs.declared.sheet.Sheet.TheVariants.{Large, Several, Small}
 
 -- Returns untrusted text as a page shows it: first hidden characters are made visible, then markup is escaped.
 abbrev pub shown : List ℕ → List ℕ
@@ -17,26 +19,27 @@ preamble =
     ++ codes "<meta http-equiv=\"Content-Security-Policy\" content=\"default-src 'none'; style-src 'unsafe-inline'; "
     ++ codes "img-src data:\"/>\n<meta name=\"viewport\" content=\"width=device-width, initial-scale=1\"/>\n<style>"
 
--- The style sheet of a page.
+-- The style sheet of a page. A picture may be as wide as the window. On paper it and its legend are on one sheet, unless
+-- it has the class `several`.
 unfoldable pub look : List ℕ
 look =
     codes ":root{color-scheme:light dark}body{margin:0;background:#fff;color:#111;font:16px/1.5 sans-serif}"
-    ++ codes "main{max-width:70rem;margin:auto;padding:1rem}h1{font-size:1.4rem}h2{font-size:1.15rem;margin-top:2rem}"
+    ++ codes "main{padding:1rem}h1{font-size:1.4rem}h2{font-size:1.15rem;margin-top:2rem}"
     ++ codes "pre{margin:.5rem 0;padding-left:.6rem;border-left:3px solid #8a8a8a;font:13px/1.45 monospace;"
-    ++ codes "white-space:pre-wrap;overflow-wrap:anywhere}"
-    ++ codes "ul{list-style:none;margin:.2rem 0 .2rem .3rem;padding-left:.8rem;border-left:1px solid #8a8a8a}"
-    ++ codes "table{border-collapse:collapse;table-layout:fixed;width:100%}th:nth-child(-n+2){width:4.5rem}"
-    ++ codes "th,td{border:1px solid #8a8a8a;padding:.2rem .3rem;text-align:left;vertical-align:top;"
-    ++ codes "overflow-wrap:anywhere}summary{padding:.4rem 0;font-weight:bold;cursor:pointer}"
-    ++ codes "li summary{padding:.1rem 0;font-weight:normal}figure{margin:0;overflow-x:auto}"
+    ++ codes "white-space:pre-wrap;overflow-wrap:anywhere}ul{list-style:none;margin:.2rem 0 .2rem .3rem;"
+    ++ codes "padding-left:.8rem;border-left:1px solid #8a8a8a}table{border-collapse:collapse;table-layout:fixed;"
+    ++ codes "width:100%}th:nth-child(-n+2){width:4.5rem}th,td{border:1px solid #8a8a8a;padding:.2rem .3rem;"
+    ++ codes "text-align:left;vertical-align:top;overflow-wrap:anywhere}summary{padding:.4rem 0;font-weight:bold;"
+    ++ codes "cursor:pointer}li summary{padding:.1rem 0;font-weight:normal}h1,h2,p,pre,table,details{max-width:68rem;"
+    ++ codes "margin-left:auto;margin-right:auto}figure{max-width:max-content;margin:auto;overflow-x:auto}"
     ++ codes "summary:focus-visible,figure:focus-visible{outline:3px solid #0b5fa5;outline-offset:2px}"
     ++ codes "@media(prefers-color-scheme:dark){body{background:#111;color:#eee}"
     ++ codes "summary:focus-visible,figure:focus-visible{outline-color:#6cb8f5}}"
-    ++ codes "@page wide{size:A3 landscape;margin:5mm}@media print{body{background:#fff;color:#000}"
-    ++ codes "main{max-width:none;padding:0}figure{overflow:visible;break-inside:avoid}.wide{page:wide}"
-    ++ codes ".wide::after{content:'';display:block;break-after:page}h2,summary{break-after:avoid}"
-    ++ codes "summary{list-style:none}svg{max-width:100%;height:auto}"
-    ++ codes "details::details-content{content-visibility:visible;block-size:auto}}"
+    ++ codes "@page large{size:A3 landscape;margin:5mm}@media print{body{background:#fff;color:#000}main{padding:0}"
+    ++ codes "h1,h2,p,pre,table,details,figure{max-width:none}figure{overflow:visible;break-inside:avoid}"
+    ++ codes ".large{page:large}.large::after{content:'';display:block;break-after:page}h2,summary{break-after:avoid}"
+    ++ codes "summary{list-style:none}svg{height:auto;max-width:100%;max-height:calc(100vh - 6rem)}"
+    ++ codes ".several svg{max-height:none}details::details-content{content-visibility:visible;block-size:auto}}"
 
 abbrev pub look_end : List ℕ
 look_end = codes "</style>\n<title>"
@@ -83,20 +86,21 @@ fold_end = codes "</details>\n"
 abbrev pub fold : List ℕ → List ℕ → List ℕ
 fold summary parts = fold_start summary ++ parts ++ fold_end
 
--- A picture, which is not changed, with a name for screen readers. It can be scrolled by keyboard. A wide picture is
--- printed on a sheet of its own.
-unfoldable pub picture_tag : Bool → List ℕ
-picture_tag true = codes "<figure class=\"wide\" tabindex=\"0\" aria-label=\""
-picture_tag false = codes "<figure tabindex=\"0\" aria-label=\""
+-- A picture, which is not changed, with a name for screen readers. It can be scrolled by keyboard. Its classes say on
+-- which sheet it is printed.
+unfoldable pub picture_tag : Sheet → List ℕ
+picture_tag Small = codes "<figure tabindex=\"0\" aria-label=\""
+picture_tag Large = codes "<figure class=\"large\" tabindex=\"0\" aria-label=\""
+picture_tag Several = codes "<figure class=\"large several\" tabindex=\"0\" aria-label=\""
 
-abbrev pub picture_start : Bool → List ℕ → List ℕ
-picture_start is_wide name = picture_tag is_wide ++ shown name ++ codes "\">\n"
+abbrev pub picture_start : Sheet → List ℕ → List ℕ
+picture_start sheet name = picture_tag sheet ++ shown name ++ codes "\">\n"
 
 abbrev pub picture_end : List ℕ
 picture_end = codes "</figure>\n"
 
-abbrev pub picture : Bool → List ℕ → List ℕ → List ℕ
-picture is_wide name svg = picture_start is_wide name ++ svg ++ picture_end
+abbrev pub picture : Sheet → List ℕ → List ℕ → List ℕ
+picture sheet name svg = picture_start sheet name ++ svg ++ picture_end
 
 -- An HTML list. Each item is a text or contains other parts, such as a fold.
 abbrev pub list_start : List ℕ

@@ -9,6 +9,7 @@ mod page;
 mod parts;
 mod section;
 mod sections;
+mod sheet;
 mod visible_text;
 
 pub use escapes::put_character;
@@ -24,3 +25,4 @@ pub use parts::{
 };
 pub use section::Section;
 pub use sections::put_sections;
+pub use sheet::Sheet;

@@ -44,28 +44,30 @@ fn preamble() -> &'static str
      <meta name=\"viewport\" content=\"width=device-width, initial-scale=1\"/>\n<style>"
 }
 
-/// Returns the style sheet of a page. It adapts the page to dark backgrounds and narrow screens. On paper it shows all
-/// folded content.
+/// Returns the style sheet of a page. It adapts the page to dark backgrounds and narrow screens. A picture may be as wide
+/// as the window. On paper all folded content is shown.
 #[tactic(auto, unfolding(crate::specs::Page::look))]
 fn look() -> &'static str
     ensures { result.now ≡ look }
 {
     ":root{color-scheme:light dark}body{margin:0;background:#fff;color:#111;font:16px/1.5 sans-serif}\
-     main{max-width:70rem;margin:auto;padding:1rem}h1{font-size:1.4rem}h2{font-size:1.15rem;margin-top:2rem}\
+     main{padding:1rem}h1{font-size:1.4rem}h2{font-size:1.15rem;margin-top:2rem}\
      pre{margin:.5rem 0;padding-left:.6rem;border-left:3px solid #8a8a8a;font:13px/1.45 \
      monospace;white-space:pre-wrap;overflow-wrap:anywhere}\
      ul{list-style:none;margin:.2rem 0 .2rem .3rem;padding-left:.8rem;border-left:1px solid #8a8a8a}\
      table{border-collapse:collapse;table-layout:fixed;width:100%}th:nth-child(-n+2){width:4.5rem}\
      th,td{border:1px solid #8a8a8a;padding:.2rem .3rem;text-align:left;vertical-align:top;overflow-wrap:anywhere}\
      summary{padding:.4rem 0;font-weight:bold;cursor:pointer}li summary{padding:.1rem 0;font-weight:normal}\
-     figure{margin:0;overflow-x:auto}\
+     h1,h2,p,pre,table,details{max-width:68rem;margin-left:auto;margin-right:auto}\
+     figure{max-width:max-content;margin:auto;overflow-x:auto}\
      summary:focus-visible,figure:focus-visible{outline:3px solid #0b5fa5;outline-offset:2px}\
      @media(prefers-color-scheme:dark){body{background:#111;color:#eee}\
-     summary:focus-visible,figure:focus-visible{outline-color:#6cb8f5}}@page wide{size:A3 landscape;margin:5mm}\
-     @media print{body{background:#fff;color:#000}main{max-width:none;padding:0}\
-     figure{overflow:visible;break-inside:avoid}.wide{page:wide}\
-     .wide::after{content:'';display:block;break-after:page}\
-     h2,summary{break-after:avoid}summary{list-style:none}svg{max-width:100%;height:auto}\
+     summary:focus-visible,figure:focus-visible{outline-color:#6cb8f5}}@page large{size:A3 landscape;margin:5mm}\
+     @media print{body{background:#fff;color:#000}main{padding:0}\
+     h1,h2,p,pre,table,details,figure{max-width:none}figure{overflow:visible;break-inside:avoid}.large{page:large}\
+     .large::after{content:'';display:block;break-after:page}\
+     h2,summary{break-after:avoid}summary{list-style:none}\
+     svg{height:auto;max-width:100%;max-height:calc(100vh - 6rem)}.several svg{max-height:none}\
      details::details-content{content-visibility:visible;block-size:auto}}"
 }
 

@@ -3,6 +3,7 @@
 ghost use Rattle.std.specs.Prelude.{◌≡◌, ◌++◌, string_bytes, OnOk};
 ghost use Rattle.html.specs.Page.{begun_lines, cell, fold_end, fold_start, head, head_start, heading, item_end, item_start, lines, list_end, list_start, paragraph, picture, picture_end, picture_start, picture_tag, row_end, row_start, table_end, table_start, text_item};
 
+use crate::sheet::Sheet;
 use crate::visible_text::put_shown;
 use std::alloc::AllocError;
 
@@ -64,33 +65,33 @@ pub fn put_fold_end(out: &mut String) -> Result<(), AllocError>
 }
 
 /// Appends a picture, which is SVG and is not changed, with a name for screen readers. If the picture is wider than the
-/// window, it can be scrolled by keyboard. If `is_wide` is set, it is printed on a sheet of its own.
-pub fn put_picture(out: &mut String, is_wide: bool, name: &str, svg: &str) -> Result<(), AllocError>
-    ensures { OnOk result (string_bytes out.new ≡ string_bytes out.old ++ picture is_wide name.now svg.now) }
+/// window, it can be scrolled by keyboard. It is printed on this sheet.
+pub fn put_picture(out: &mut String, sheet: Sheet, name: &str, svg: &str) -> Result<(), AllocError>
+    ensures { OnOk result (string_bytes out.new ≡ string_bytes out.old ++ picture sheet name.now svg.now) }
 {
-    put_picture_start(out, is_wide, name)?;
+    put_picture_start(out, sheet, name)?;
     out.push_str(svg)?;
     put_picture_end(out)
 }
 
 /// Appends the start of a picture, with its name for screen readers.
-fn put_picture_start(out: &mut String, is_wide: bool, name: &str) -> Result<(), AllocError>
-    ensures { OnOk result (string_bytes out.new ≡ string_bytes out.old ++ picture_start is_wide name.now) }
+fn put_picture_start(out: &mut String, sheet: Sheet, name: &str) -> Result<(), AllocError>
+    ensures { OnOk result (string_bytes out.new ≡ string_bytes out.old ++ picture_start sheet name.now) }
 {
-    out.push_str(picture_tag(is_wide))?;
+    out.push_str(picture_tag(sheet))?;
     put_shown(out, name)?;
     out.push_str("\">\n")
 }
 
-/// Returns the start tag of a picture up to its name. A wide picture is printed on a sheet of its own.
+/// Returns the start tag of a picture up to its name. The style sheet chooses the paper by the classes.
 #[tactic(auto, unfolding(crate::specs::Page::picture_tag))]
-fn picture_tag(is_wide: bool) -> &'static str
-    ensures { result.now ≡ picture_tag is_wide }
+fn picture_tag(sheet: Sheet) -> &'static str
+    ensures { result.now ≡ picture_tag sheet }
 {
-    if is_wide {
-        "<figure class=\"wide\" tabindex=\"0\" aria-label=\""
-    } else {
-        "<figure tabindex=\"0\" aria-label=\""
+    match sheet {
+        Sheet::Small => "<figure tabindex=\"0\" aria-label=\"",
+        Sheet::Large => "<figure class=\"large\" tabindex=\"0\" aria-label=\"",
+        Sheet::Several => "<figure class=\"large several\" tabindex=\"0\" aria-label=\"",
     }
 }
 

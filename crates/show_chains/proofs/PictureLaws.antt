@@ -16,13 +16,13 @@ use Rattle.show_diagram.specs.declared.mark.DiagramMarks.{DiagramMarks}
 use Rattle.show_diagram.specs.declared.stroke.Stroke.{Stroke}
 use Rattle.show_diagram.specs.Bands.{accesses_from, lives, round_words}
 use Rattle.show_diagram.specs.Foot.{alike_words, decided_all, obeyed_words}
-use Rattle.show_diagram.specs.Layout.{column, fan_top, height, rows_top, top_of, width}
+use Rattle.show_diagram.specs.Layout.{column, fan_top, height, path_of, row_top, rows_top, top_of, width}
 use Rattle.show_diagram.specs.Left.{cut_words, is_cut, mores}
 use Rattle.show_diagram.specs.Legend.{foot_height, marks_of, shape_key}
 use Rattle.show_diagram.specs.Shapes.{line, mark, said_if, text_at, title}
 use Rattle.show_diagram.specs.Svg.{campaign_words, heads, key_end, look}
 use Rattle.show_diagram.specs.Words.{copied_words, in_full, kind, outline}
-use Rattle.show_diagram.proofs.SvgLaws.{accesses_content, alike_text, all, attributes, campaign_text, copied_text, cut_text, decisions_content, described_content, feed, full_text, group_content, heads_content, kind_text, legend_of_content, line_content, lives_content, look_content, many, mark_content, mores_content, name, numbered, obeyed_text, outline_text, picture_is, round_text, said_text, shape_key_text, small, stroke_content, svg_tag, text_content, three_texts, title_content}
+use Rattle.show_diagram.proofs.SvgLaws.{accesses_content, alike_text, all, attributes, bent_content, campaign_text, copied_text, cut_text, decisions_content, described_content, feed, full_text, group_content, heads_content, kind_text, legend_of_content, line_content, lives_content, look_content, many, mark_content, mores_content, name, numbered, obeyed_text, outline_text, picture_is, round_text, said_text, shape_key_text, small, svg_tag, text_content, three_texts, title_content}
 use Rattle.signed.specs.Chains.{Chain}
 use Rattle.show_chains.specs.Bands.{band, bands, drawn, inside, row, stroke_line}
 use Rattle.show_chains.specs.Foot.{bound_words, foot, verdict_lines}
@@ -116,10 +116,10 @@ drawn_content n accesses round x =
     let t : List ℕ = title (stroke_words x) in
     let m : List ℕ = mark (kind st) (outline st) in
     let w : List ℕ = text_at (codes "small") 12 4 (row_words x) in
-    cond_both (st.round == round) (stroke_line n top x ++ row below x) [] IsContent
-    (λ _. joined (stroke_line n top x) (row below x)
-    (stroke_content (kind st) (min st.labels 5) (column st.teller) top (column st.receiver) (top + 16 + 16 * n + 6 * min st.row 8) (stroke_words x) (kind_text st.differs st.told) (stroke_text x))
-    (group_content (column st.receiver) (below + 12 + 18 * st.row) (t ++ m ++ w)
+    cond_both (st.round == round) (stroke_line n top below x ++ row below x) [] IsContent
+    (λ _. joined (stroke_line n top below x) (row below x)
+    (bent_content (kind st) (min st.labels 5) (path_of n top below st) (stroke_words x) (kind_text st.differs st.told) (stroke_text x))
+    (group_content (column st.receiver) (row_top below st.row) (t ++ m ++ w)
     (joined (t ++ m) w (joined t m (title_content (stroke_words x) (stroke_text x)) (mark_content (kind st) (outline st) (kind_text st.differs st.told) (outline_text st.differs st.told)))
     (text_content (codes "small") 12 4 (row_words x) small (row_text x)))))
     (λ _. text [] no_text)

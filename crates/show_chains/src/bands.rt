@@ -10,9 +10,9 @@ use crate::words::{put_row_words, put_stroke_words};
 use board::Access;
 use show_diagram::Stroke;
 use show_diagram::bands::{put_accesses, put_lives, put_round_text};
-use show_diagram::layout::{column, fan_top, height, rows_top, top_of};
+use show_diagram::layout::{column, fan_top, height, path_of, row_top, rows_top, top_of};
 use show_diagram::shapes::{
-    put_group_end, put_group_start, put_line, put_mark, put_stroke_end, put_stroke_start,
+    put_bent_start, put_group_end, put_group_start, put_line, put_mark, put_stroke_end,
     put_text_end, put_text_start, put_title_end, put_title_start,
 };
 use show_diagram::words::{kind, outline};
@@ -119,30 +119,29 @@ fn put_drawn(
     if stroke.stroke().round != round as usize {
         return Ok(());
     }
-    put_stroke(out, generals, top, stroke)?;
+    put_stroke(out, generals, top, below, stroke)?;
     put_row(out, below, stroke)
 }
 
-/// Appends a stroke's line, which begins at height `top` and is as wide as the stroke has chains, but at most 5. Fails
-/// with `AllocError` if memory runs out.
+/// Appends a stroke's line. It begins at height `top`, leads to its row in the receiver's list, which begins at height
+/// `below`, and is as wide as the stroke has chains, but at most 5. Fails with `AllocError` if memory runs out.
 fn put_stroke(
     out: &mut String,
     generals: u8,
     top: u128,
+    below: u128,
     stroke: &ChainStroke,
 ) -> Result<(), AllocError>
-    requires { top < 2 ^ 100 }
-    ensures { OnOk result (string_bytes out.new ≡ string_bytes out.old ++ stroke_line generals top stroke.now) }
+    requires top { top < 2 ^ 100 }
+    requires below { below < 2 ^ 100 }
+    ensures { OnOk result (string_bytes out.new ≡ string_bytes out.old ++ stroke_line generals top below stroke.now) }
 {
     let plain = stroke.stroke();
-    put_stroke_start(
+    put_bent_start(
         out,
         kind(plain),
         plain.labels.min(5) as u128,
-        column(u32::from(plain.teller)),
-        top,
-        column(u32::from(plain.receiver)),
-        top + 16 + 16 * u128::from(generals) + 6 * plain.row.min(8) as u128,
+        path_of(generals, top, below, plain),
     )?;
     put_stroke_title(out, stroke)?;
     put_stroke_end(out)
@@ -180,7 +179,7 @@ fn put_row(out: &mut String, top: u128, stroke: &ChainStroke) -> Result<(), Allo
     put_group_start(
         out,
         column(u32::from(plain.receiver)),
-        top + 12 + 18 * plain.row as u128,
+        row_top(top, plain.row),
     )?;
     put_stroke_title(out, stroke)?;
     put_mark(out, kind(plain), outline(plain))?;

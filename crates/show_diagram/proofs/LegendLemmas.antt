@@ -3,7 +3,7 @@ use Rattle.std.proofs.Common.{ℕ, ◌+◌, ◌*◌, ◌≡◌, Bool, true, fals
 use Rattle.show_diagram.specs.declared.mark.DiagramMarks.{DiagramMarks}
 use Rattle.show_diagram.specs.Legend.{legend_of, meaning_if, one_if, rows, shape_if, shape_meanings, stroke_meanings, stroke_rows}
 use Rattle.show_diagram.specs.Shapes.{shape_of, text_at}
-use Rattle.show_diagram.specs.Words.{outline_of}
+use Rattle.show_diagram.specs.Words.{access_outline, outline_of}
 
 regrouped : (s a b c : List ℕ) → ((s ++ a) ++ b) ++ c ≡ s ++ ((a ++ b) ++ c)
 regrouped s a b c = simp append_assoc
@@ -24,7 +24,7 @@ three_strokes marks told differs missing circle diamond cross a b start one two 
     (meaning_if marks.cross (one_if marks.circle + one_if marks.diamond) (codes "none key") (outline_of true None) missing))
 
 pub three_shapes : (marks : DiagramMarks) (place : ℕ) (square circle point : List ℕ) (a b : ℕ) (start one two three : List ℕ) → a ≡ one_if marks.square → b ≡ one_if marks.loyal
-    → square ≡ shape_of true → circle ≡ shape_of false → point ≡ outline_of false None
+    → square ≡ shape_of true → circle ≡ shape_of false → point ≡ access_outline
     → one ≡ start ++ shape_if marks.square place (codes "traitor key") square (codes "a traitor")
     → two ≡ one ++ shape_if marks.loyal (place + a) (codes "loyal key") circle (codes "a loyal general")
     → three ≡ two ++ shape_if marks.point (place + a + b) (codes "point key") point (codes "an access to the board")
@@ -33,7 +33,7 @@ three_shapes marks place square circle point a b start one two three ea eb es ec
     rw (e3, e2, e1, es, ec, ep, eb, ea)
     (regrouped start (shape_if marks.square place (codes "traitor key") (shape_of true) (codes "a traitor"))
     (shape_if marks.loyal (place + one_if marks.square) (codes "loyal key") (shape_of false) (codes "a loyal general"))
-    (shape_if marks.point (place + one_if marks.square + one_if marks.loyal) (codes "point key") (outline_of false None) (codes "an access to the board")))
+    (shape_if marks.point (place + one_if marks.square + one_if marks.loyal) (codes "point key") access_outline (codes "an access to the board")))
 
 pub whole_legend : (marks : DiagramMarks) (told differs missing wide : List ℕ) (place high : ℕ) (start one two three : List ℕ) → place ≡ stroke_rows marks → high ≡ rows marks
     → one ≡ start ++ stroke_meanings marks told differs missing → two ≡ one ++ shape_meanings marks place → three ≡ two ++ text_at (codes "small") 120 (136 + 20 * high) wide

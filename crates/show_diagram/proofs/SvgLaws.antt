@@ -16,18 +16,19 @@ use Rattle.world.specs.Chronicle.{Chronicle}
 use Rattle.world.specs.declared.verdict.Verdict.{Verdict}
 use Rattle.show_diagram.specs.declared.mark.DiagramMarks.{DiagramMarks}
 use Rattle.show_diagram.specs.declared.stroke.Stroke.{Stroke}
+use Rattle.show_diagram.specs.declared.stroke.StrokePath.{StrokePath}
 use Rattle.show_diagram.specs.Bands.{access_at, accesses_from, band, bands, board_line, drawn, general_life, inside, life, lives, point, round_words, row, stroke_line}
 use Rattle.show_diagram.specs.Facts.{strokes_of}
 use Rattle.show_diagram.specs.Foot.{alike_words, bound_words, decided, decided_all, decided_if, decides_words, foot, obeyed_words, place_of, verdict_lines}
 use Rattle.show_diagram.specs.Laws.{DiagramsAreElements}
 use Rattle.show_diagram.specs.Legend.{differs_meaning, foot_height, legend, legend_of, marks_of, meaning_at, meaning_if, missing_meaning, one_if, rows, shape_if, shape_key, shape_meanings, stroke_meanings, stroke_rows, told_meaning, wide_meaning}
-use Rattle.show_diagram.specs.Layout.{access_top, board, column, fan_top, height, rows_top, top_of, width}
+use Rattle.show_diagram.specs.Layout.{access_top, board, column, fan_top, height, path_of, row_top, rows_top, top_of, width}
 use Rattle.show_diagram.specs.Left.{cut_words, is_cut, is_left, is_left_lie, left_in_full, left_words, more_at, more_of, more_told, more_top, mores, mores_in}
 use Rattle.show_diagram.specs.Lists.{with_rows}
 use Rattle.show_diagram.specs.Order.{most_rows}
-use Rattle.show_diagram.specs.Shapes.{group_at, group_start, line, mark, said_if, shape_of, sort_of, stroke_at, stroke_open, stroke_way, text_at, text_start, title}
+use Rattle.show_diagram.specs.Shapes.{bent_at, bent_way, group_at, group_start, line, mark, said_if, shape_of, sort_of, stroke_at, stroke_open, stroke_way, text_at, text_start, title}
 use Rattle.show_diagram.specs.Svg.{board_head, box_words, campaign_words, description, general_head, head, head_of, heads, key_end, key_start, look, picture, start, stroke_key, svg_text}
-use Rattle.show_diagram.specs.Words.{access_words, answer_words, asked_words, copied_words, differs_words, from_words, general_words, in_full, is_copy, kind, kind_of, labels_words, order_words, outline, outline_of, piece_words, role_words, row_words, shown_words, stroke_words, tells_words, word_words}
+use Rattle.show_diagram.specs.Words.{access_outline, access_words, answer_words, asked_words, copied_words, differs_words, from_words, general_words, in_full, is_copy, kind, kind_of, labels_words, order_words, outline, outline_of, piece_words, role_words, row_words, shown_words, stroke_words, tells_words, word_words}
 
 -- ---- words
 
@@ -75,9 +76,12 @@ kind_text true (Some order) = bare_text (codes "lie") refl
 kind_text true None = bare_text (codes "none") refl
 
 pub outline_text : (differs : Bool) (told : Option ℕ) → IsText (outline_of differs told)
-outline_text false told = bare_text (codes "M0-4a4 4 0 0 1 0 8a4 4 0 0 1 0-8z") refl
-outline_text true (Some order) = bare_text (codes "M0-6l6 6l-6 6l-6-6z") refl
+outline_text false told = bare_text (codes "M-12-4L-7 0M-12 4L-7 0M0-4a4 4 0 0 1 0 8a4 4 0 0 1 0-8z") refl
+outline_text true (Some order) = bare_text (codes "M-12-4L-7 0M-12 4L-7 0M0-6l6 6l-6 6l-6-6z") refl
 outline_text true None = bare_text (codes "M-5-5L5 5M5-5L-5 5") refl
+
+access_outline_text : IsText access_outline
+access_outline_text = bare_text access_outline refl
 
 -- a number behind words
 pub numbered : (words : List ℕ) (n : ℕ) → IsText words → IsText (words ++ decimal n)
@@ -300,6 +304,45 @@ stroke_content kind width x y u v words k t =
     (nested (codes "path") (stroke_attributes class (decimal width) way) (title words)
     (stroke_tag class (decimal width) way (many (codes "stroke ") kind (bare_text (codes "stroke ") refl) k) (decimal_text width) (way_text x y u v)) (title_content words t)))
 
+abbrev bent_of : List ℕ → List ℕ → List ℕ → List ℕ → List ℕ → List ℕ → List ℕ
+bent_of x y u v w z = codes "M" ++ (x ++ (codes " " ++ (y ++ (codes "L" ++ (u ++ (codes " " ++ (v ++ (codes "V" ++ (w ++ (codes "H" ++ z))))))))))
+
+bent_text : (x y u v w z : ℕ) → IsText (bent_of (decimal x) (decimal y) (decimal u) (decimal v) (decimal w) (decimal z))
+bent_text x y u v w z =
+    let last : List ℕ = codes "V" ++ (decimal w ++ (codes "H" ++ decimal z)) in
+    let ends : IsText last =
+    many (codes "V") (decimal w ++ (codes "H" ++ decimal z)) (bare_text (codes "V") refl)
+    (many (decimal w) (codes "H" ++ decimal z) (decimal_text w) (numbered (codes "H") z (bare_text (codes "H") refl))) in
+    many (codes "M") (decimal x ++ (codes " " ++ (decimal y ++ (codes "L" ++ (decimal u ++ (codes " " ++ (decimal v ++ last))))))) (bare_text (codes "M") refl)
+    (many (decimal x) (codes " " ++ (decimal y ++ (codes "L" ++ (decimal u ++ (codes " " ++ (decimal v ++ last)))))) (decimal_text x)
+    (many (codes " ") (decimal y ++ (codes "L" ++ (decimal u ++ (codes " " ++ (decimal v ++ last))))) (bare_text (codes " ") refl)
+    (many (decimal y) (codes "L" ++ (decimal u ++ (codes " " ++ (decimal v ++ last)))) (decimal_text y)
+    (many (codes "L") (decimal u ++ (codes " " ++ (decimal v ++ last))) (bare_text (codes "L") refl)
+    (many (decimal u) (codes " " ++ (decimal v ++ last)) (decimal_text u)
+    (many (codes " ") (decimal v ++ last) (bare_text (codes " ") refl) (many (decimal v) last (decimal_text v) ends)))))))
+
+bent_parts : (s p1 k sort q p2 wide p3 m x b y l u v f w h z g inside close feed : List ℕ)
+    → ((s ++ p1 ++ k) ++ (sort ++ ((q ++ p2) ++ (wide ++ (q ++ p3)))) ++ (m ++ (x ++ (b ++ (y ++ (l ++ (u ++ (b ++ (v ++ (f ++ (w ++ (h ++ (z ++ (q ++ g)))))))))))))) ++ inside ++ (close ++ feed)
+    ≡ ((s ++ ((p1 ++ (k ++ sort) ++ q) ++ ((p2 ++ wide ++ q) ++ ((p3 ++ (m ++ (x ++ (b ++ (y ++ (l ++ (u ++ (b ++ (v ++ (f ++ (w ++ (h ++ z))))))))))) ++ q) ++ []))) ++ g) ++ inside ++ close) ++ feed
+bent_parts s p1 k sort q p2 wide p3 m x b y l u v f w h z g inside close feed = simp (append_assoc, append-nil)
+
+bent_whole : (sort wide x y u v w z inside : List ℕ)
+    → (codes "<path class=\"stroke " ++ (sort ++ (codes "\" stroke-width=\"" ++ (wide ++ codes "\" d=\"")))
+    ++ (codes "M" ++ (x ++ (codes " " ++ (y ++ (codes "L" ++ (u ++ (codes " " ++ (v ++ (codes "V" ++ (w ++ (codes "H" ++ (z ++ codes "\">"))))))))))))) ++ inside ++ codes "</path>\n"
+    ≡ element (codes "path") (stroke_attributes (codes "stroke " ++ sort) wide (bent_of x y u v w z)) inside ++ codes "\n"
+bent_whole sort wide x y u v w z inside =
+    bent_parts (codes "<path") (codes " class=\"") (codes "stroke ") sort (codes "\"") (codes " stroke-width=\"") wide (codes " d=\"") (codes "M") x (codes " ") y (codes "L") u v (codes "V") w (codes "H") z (codes ">") inside (codes "</path>") (codes "\n")
+
+pub bent_content : (kind : List ℕ) (width : ℕ) (path : StrokePath) (words : List ℕ) → IsText kind → IsText words → IsContent (bent_at kind width path words)
+unfolding stroke_open bent_way
+bent_content kind width p words k t =
+    let way : List ℕ = bent_of (decimal p.left) (decimal p.top) (decimal p.lane) (decimal p.turn) (decimal p.row) (decimal p.tip) in
+    let class : List ℕ = codes "stroke " ++ kind in
+    subst IsContent (sym (bent_whole kind (decimal width) (decimal p.left) (decimal p.top) (decimal p.lane) (decimal p.turn) (decimal p.row) (decimal p.tip) (title words)))
+    (fed (element (codes "path") (stroke_attributes class (decimal width) way) (title words))
+    (nested (codes "path") (stroke_attributes class (decimal width) way) (title words)
+    (stroke_tag class (decimal width) way (many (codes "stroke ") kind (bare_text (codes "stroke ") refl) k) (decimal_text width) (bent_text p.left p.top p.lane p.turn p.row p.tip)) (title_content words t)))
+
 abbrev place_words : List ℕ → List ℕ → List ℕ
 place_words x y = codes "translate(" ++ (x ++ (codes " " ++ (y ++ codes ")")))
 
@@ -347,11 +390,11 @@ point_content : (far : ℕ) (a : Access) → IsContent (point far a)
 point_content far a =
     let t : List ℕ = title (access_words a) in
     let l : List ℕ = line (codes "access") 0 0 far 0 in
-    let m : List ℕ = mark (codes "point") (codes "M0-4a4 4 0 0 1 0 8a4 4 0 0 1 0-8z") in
+    let m : List ℕ = mark (codes "point") access_outline in
     joined (t ++ l ++ m) (text_at (codes "small") (far + 12) 4 (shown_words a))
     (joined (t ++ l) m
     (joined t l (title_content (access_words a) (access_text a)) (line_content (codes "access") 0 0 far 0 (bare_text (codes "access") refl)))
-    (mark_content (codes "point") (codes "M0-4a4 4 0 0 1 0 8a4 4 0 0 1 0-8z") (bare_text (codes "point") refl) (bare_text (codes "M0-4a4 4 0 0 1 0 8a4 4 0 0 1 0-8z") refl)))
+    (mark_content (codes "point") access_outline (bare_text (codes "point") refl) access_outline_text))
     (text_content (codes "small") (far + 12) 4 (shown_words a) small (shown_text a))
 
 access_content : (n top round : ℕ) (a : Access) → IsContent (access_at n top round a)
@@ -373,10 +416,10 @@ drawn_content n accesses round st =
     let t : List ℕ = title (stroke_words st) in
     let m : List ℕ = mark (kind st) (outline st) in
     let w : List ℕ = text_at (codes "small") 12 4 (row_words st) in
-    cond_both (st.round == round) (stroke_line n top st ++ row below st) [] IsContent
-    (λ _. joined (stroke_line n top st) (row below st)
-    (stroke_content (kind st) (min st.labels 5) (column st.teller) top (column st.receiver) (top + 16 + 16 * n + 6 * min st.row 8) (stroke_words st) (kind_text st.differs st.told) (stroke_text st))
-    (group_content (column st.receiver) (below + 12 + 18 * st.row) (t ++ m ++ w)
+    cond_both (st.round == round) (stroke_line n top below st ++ row below st) [] IsContent
+    (λ _. joined (stroke_line n top below st) (row below st)
+    (bent_content (kind st) (min st.labels 5) (path_of n top below st) (stroke_words st) (kind_text st.differs st.told) (stroke_text st))
+    (group_content (column st.receiver) (row_top below st.row) (t ++ m ++ w)
     (joined (t ++ m) w (joined t m (title_content (stroke_words st) (stroke_text st)) (mark_content (kind st) (outline st) (kind_text st.differs st.told) (outline_text st.differs st.told)))
     (text_content (codes "small") 12 4 (row_words st) small (row_text st)))))
     (λ _. text [] no_text)
@@ -473,9 +516,9 @@ meaning_content : (y : ℕ) (kind outline words : List ℕ) → IsText kind → 
 meaning_content y kind outline words k o w =
     let m : List ℕ = mark kind outline in
     let t : List ℕ = text_at (codes "small") 12 4 words in
-    let st : List ℕ = stroke_at kind 2 0 0 36 0 words in
+    let st : List ℕ = stroke_at kind 2 0 0 45 0 words in
     group_content 120 y (st ++ group_at 52 0 (m ++ t))
-    (joined st (group_at 52 0 (m ++ t)) (stroke_content kind 2 0 0 36 0 words k w)
+    (joined st (group_at 52 0 (m ++ t)) (stroke_content kind 2 0 0 45 0 words k w)
     (group_content 52 0 (m ++ t) (joined m t (mark_content kind outline k o) (text_content (codes "small") 12 4 words small w))))
 
 meaning_if_content : (stands : Bool) (place : ℕ) (kind outline words : List ℕ) → IsText kind → IsText outline → IsText words → IsContent (meaning_if stands place kind outline words)
@@ -505,10 +548,10 @@ shapes_content marks place =
     let third : ℕ = place + one_if marks.square + one_if marks.loyal in
     let one : List ℕ = shape_if marks.square place (codes "traitor key") (shape_of true) (codes "a traitor") in
     let two : List ℕ = shape_if marks.loyal second (codes "loyal key") (shape_of false) (codes "a loyal general") in
-    joined (one ++ two) (shape_if marks.point third (codes "point key") (outline_of false None) (codes "an access to the board"))
+    joined (one ++ two) (shape_if marks.point third (codes "point key") access_outline (codes "an access to the board"))
     (joined one two (shape_if_content marks.square place (codes "traitor key") (shape_of true) (codes "a traitor") (bare_text (codes "traitor key") refl) (shape_text true) (bare_text (codes "a traitor") refl))
     (shape_if_content marks.loyal second (codes "loyal key") (shape_of false) (codes "a loyal general") (bare_text (codes "loyal key") refl) (shape_text false) (bare_text (codes "a loyal general") refl)))
-    (shape_if_content marks.point third (codes "point key") (outline_of false None) (codes "an access to the board") (bare_text (codes "point key") refl) (outline_text false None) (bare_text (codes "an access to the board") refl))
+    (shape_if_content marks.point third (codes "point key") access_outline (codes "an access to the board") (bare_text (codes "point key") refl) access_outline_text (bare_text (codes "an access to the board") refl))
 
 pub legend_of_content : (marks : DiagramMarks) (told differs missing wide : List ℕ) → IsText told → IsText differs → IsText missing → IsText wide → IsContent (legend_of marks told differs missing wide)
 legend_of_content marks told differs missing wide a b c d =
@@ -609,7 +652,7 @@ description_content accesses marks cut =
 abbrev look_words : List ℕ
 look_words =
     codes "svg{background:#fff}text{fill:#111;font:13px sans-serif}.head{font:bold 16px sans-serif}"
-    ++ codes ".round{font-weight:bold}.small{font-size:11px}.life{stroke:#8a8a8a}"
+    ++ codes ".round{font-weight:bold}.small{font-size:12px}.life{stroke:#8a8a8a}"
     ++ codes ".rule{stroke:#8a8a8a;stroke-dasharray:2 4}.access{stroke:#0b5fa5}"
     ++ codes ".stroke{fill:none;stroke:#111;stroke-opacity:.45}"
     ++ codes ".stroke.lie{stroke:#b00020;stroke-opacity:1;stroke-dasharray:9 4}"

@@ -5,9 +5,9 @@ use Rattle.std.specs.Fmt.{decimal}
 use Rattle.std.specs.List.{range_with_len}
 use Rattle.board.specs.Board.{Access}
 use Rattle.show_diagram.specs.declared.stroke.Stroke.{Stroke}
-use Rattle.show_diagram.specs.Layout.{access_top, board, column, fan_top, height, rows_top, top_of}
-use Rattle.show_diagram.specs.Shapes.{group_at, line, mark, stroke_at, text_at, title}
-use Rattle.show_diagram.specs.Words.{access_words, kind, outline, row_words, shown_words, stroke_words}
+use Rattle.show_diagram.specs.Layout.{access_top, board, column, fan_top, height, path_of, row_top, rows_top, top_of}
+use Rattle.show_diagram.specs.Shapes.{bent_at, group_at, line, mark, text_at, title}
+use Rattle.show_diagram.specs.Words.{access_words, access_outline, kind, outline, row_words, shown_words, stroke_words}
 
 -- Writes the heading of a round, such as `round 2`.
 unfoldable pub round_words : ℕ → List ℕ
@@ -35,7 +35,7 @@ lives n accesses height = board_line n accesses height ++ flat_map (general_life
 abbrev pub point : ℕ → Access → List ℕ
 point far a =
     title (access_words a) ++ line (codes "access") 0 0 far 0
-    ++ mark (codes "point") (codes "M0-4a4 4 0 0 1 0 8a4 4 0 0 1 0-8z")
+    ++ mark (codes "point") access_outline
     ++ text_at (codes "small") (far + 12) 4 (shown_words a)
 
 -- Writes an access at the y coordinate `top` of its band, or nothing if it belongs to another round.
@@ -50,23 +50,21 @@ accesses_from n all round place [] = []
 accesses_from n all round place (a ∷ rest) =
     access_at n (access_top all round place) round a ++ accesses_from n all round (place + 1) rest
 
--- Writes the line of a stroke from the sender's column, at the y coordinate `top`, to the receiver's. Its width is
--- the number of labels, but at most 5.
-abbrev pub stroke_line : ℕ → ℕ → Stroke → List ℕ
-stroke_line n top st =
-    stroke_at (kind st) (min st.labels 5) (column st.teller) top (column st.receiver)
-    (top + 16 + 16 * n + 6 * min st.row 8) (stroke_words st)
+-- Writes the line of a stroke from the sender's column, at the y coordinate `top`, to its row in the receiver's list,
+-- which begins at `below`. Its width is the number of labels, but at most 5.
+abbrev pub stroke_line : ℕ → ℕ → ℕ → Stroke → List ℕ
+stroke_line n top below st = bent_at (kind st) (min st.labels 5) (path_of n top below st) (stroke_words st)
 
 -- Writes the row of a stroke in its receiver's list, which begins at the y coordinate `top`.
 abbrev pub row : ℕ → Stroke → List ℕ
 row top st =
-    group_at (column st.receiver) (top + 12 + 18 * st.row)
+    group_at (column st.receiver) (row_top top st.row)
     (title (stroke_words st) ++ mark (kind st) (outline st) ++ text_at (codes "small") 12 4 (row_words st))
 
 -- Writes the line of a stroke and its row in the receiver's list, or nothing if it belongs to another round. The
 -- strokes begin at the y coordinate `top`, and the lists at `below`.
 abbrev pub drawn_at : ℕ → ℕ → ℕ → ℕ → Stroke → List ℕ
-drawn_at n top below round st = if st.round == round then stroke_line n top st ++ row below st else []
+drawn_at n top below round st = if st.round == round then stroke_line n top below st ++ row below st else []
 
 -- Writes the line of a stroke and its row in the receiver's list, or nothing if it belongs to another round.
 abbrev pub drawn : ℕ → List Access → ℕ → Stroke → List ℕ

@@ -1,21 +1,22 @@
 -- The positions of a diagram's parts in SVG units. There is a column for each general and for the board, and a band
 -- for each round.
-use Rattle.std.specs.Prelude.{ℕ, zero, suc, ◌+◌, ◌-◌, ◌*◌, ◌==◌, nat_lt, Bool, max, if◌then◌else◌, List, [], ◌∷◌, length, count_by}
+use Rattle.std.specs.Prelude.{ℕ, zero, suc, ◌+◌, ◌-◌, ◌*◌, ◌==◌, nat_lt, Bool, max, min, if◌then◌else◌, List, [], ◌∷◌, length, count_by}
 use Rattle.board.specs.Board.{Access}
 use Rattle.show_diagram.specs.declared.stroke.Stroke.{Stroke}
+use Rattle.show_diagram.specs.declared.stroke.StrokePath.{StrokePath}
 use Rattle.show_diagram.specs.Words.{shown_words}
 
 -- Returns the x coordinate of the column of general g.
 abbrev pub column : ℕ → ℕ
-column g = 120 + 208 * g
+column g = 120 + 248 * g
 
 -- Returns the x coordinate of the board's column, to the right of the columns of n generals.
 abbrev pub board : ℕ → ℕ
-board n = 120 + 208 * n
+board n = 120 + 248 * n
 
--- Returns the room that the words of an access need, to the right of the board: 28 SVG units, and 7 for each byte.
+-- Returns the room that the words of an access need, to the right of the board: 28 SVG units, and 8 for each byte.
 abbrev pub room : Access → ℕ
-room a = 28 + 7 * length (shown_words a)
+room a = 28 + 8 * length (shown_words a)
 
 -- Returns the room that the longest words of these accesses need, or 0 without accesses.
 abbrev pub widest : List Access → ℕ
@@ -45,6 +46,27 @@ fan_top accesses round = 24 + 20 * count_by (is_in round) accesses
 -- Returns the y coordinate within a round's band at which the lists of what each lieutenant received begin.
 abbrev pub rows_top : ℕ → List Access → ℕ → ℕ
 rows_top n accesses round = fan_top accesses round + 72 + 16 * n
+
+-- Returns the y coordinate of row `row` in a list that begins at the y coordinate `below`.
+abbrev pub row_top : ℕ → ℕ → ℕ
+row_top below row = below + 12 + 18 * row
+
+-- Returns the x coordinate, to the left of the column of general p, at which the stroke of row `row` leads down to its
+-- row. The first three rows each have a lane of their own.
+abbrev pub lane : ℕ → ℕ → ℕ
+lane p row = column p - (15 + 3 * min row 3)
+
+-- Returns the path of a stroke: from the column of its sender, at the y coordinate `top`, to the lane of its row, down
+-- to this row of the receiver's list, and to the row's mark. The list begins at the y coordinate `below`.
+abbrev pub path_of : ℕ → ℕ → ℕ → Stroke → StrokePath
+path_of n top below st = record {
+  left = column st.teller;
+  top = top;
+  lane = lane st.receiver st.row;
+  turn = top + 16 + 16 * n + 6 * min st.row 8;
+  row = row_top below st.row;
+  tip = column st.receiver - 7;
+}
 
 -- Returns how many rows a list needs to show this stroke, or 0 if it belongs to another round.
 abbrev pub reach : ℕ → Stroke → ℕ

@@ -7,7 +7,7 @@ use Rattle.round.specs.Scenario.{Scenario, is_traitor}
 use Rattle.show_diagram.specs.declared.mark.DiagramMarks.{DiagramMarks}
 use Rattle.show_diagram.specs.declared.stroke.Stroke.{Stroke}
 use Rattle.show_diagram.specs.Shapes.{group_at, mark, said_if, shape_of, stroke_at, text_at}
-use Rattle.show_diagram.specs.Words.{outline_of}
+use Rattle.show_diagram.specs.Words.{access_outline, outline_of}
 
 -- Returns whether a stroke is marked with a circle: a faithful general would send the same.
 abbrev pub has_circle : Stroke → Bool
@@ -56,7 +56,7 @@ foot_height marks = 152 + 20 * rows marks
 abbrev pub meaning_at : ℕ → List ℕ → List ℕ → List ℕ → List ℕ
 meaning_at y kind outline words =
     group_at 120 y
-    (stroke_at kind 2 0 0 36 0 words ++ group_at 52 0 (mark kind outline ++ text_at (codes "small") 12 4 words))
+    (stroke_at kind 2 0 0 45 0 words ++ group_at 52 0 (mark kind outline ++ text_at (codes "small") 12 4 words))
 
 -- Writes a row of the legend at the y coordinate `y`: a mark without a stroke, and the meaning.
 abbrev pub shape_at : ℕ → List ℕ → List ℕ → List ℕ → List ℕ
@@ -85,7 +85,7 @@ shape_meanings marks place =
     ++ shape_if marks.loyal (place + one_if marks.square) (codes "loyal key") (shape_of false)
     (codes "a loyal general")
     ++ shape_if marks.point (place + one_if marks.square + one_if marks.loyal) (codes "point key")
-    (outline_of false None) (codes "an access to the board")
+    access_outline (codes "an access to the board")
 
 -- Writes a legend: the meaning of each mark that occurs, and the meaning `wide` of a line's width.
 abbrev pub legend_of : DiagramMarks → List ℕ → List ℕ → List ℕ → List ℕ → List ℕ
@@ -115,7 +115,7 @@ missing_meaning = codes "nothing sent, but an order should be sent"
 
 -- The legend's words for the width of a line in a diagram for oral messages.
 unfoldable pub wide_meaning : List ℕ
-wide_meaning = codes "A line leads down to the receiver. Its width is its number of labels, up to 5."
+wide_meaning = codes "A line leads down to its row. Its width is its number of labels, up to 5."
 
 -- Writes the legend of a diagram for oral messages.
 abbrev pub legend : DiagramMarks → List ℕ

@@ -1,6 +1,7 @@
 -- The SVG elements of a diagram.
 use Rattle.std.specs.Prelude.{ℕ, Bool, true, false, if◌then◌else◌, List, [], ◌++◌, codes}
 use Rattle.std.specs.Fmt.{decimal}
+use Rattle.show_diagram.specs.declared.stroke.StrokePath.{StrokePath}
 
 -- Writes the start tag of a text at the point (x, y).
 unfoldable pub text_start : List ℕ → ℕ → ℕ → List ℕ
@@ -56,6 +57,21 @@ title words = title_start ++ words ++ title_end
 -- Writes a stroke from (x, y) to (u, v) with the given class and width, and with `words` as its title.
 abbrev pub stroke_at : List ℕ → ℕ → ℕ → ℕ → ℕ → ℕ → List ℕ → List ℕ
 stroke_at kind width x y u v words = stroke_start kind width x y u v ++ title words ++ stroke_end
+
+-- Writes the path of a stroke in its opening tag, and the tag's end.
+unfoldable pub bent_way : StrokePath → List ℕ
+bent_way p = codes "M"
+    ++ (decimal p.left ++ (codes " "
+    ++ (decimal p.top ++ (codes "L" ++ (decimal p.lane ++ (codes " "
+    ++ (decimal p.turn ++ (codes "V" ++ (decimal p.row ++ (codes "H" ++ (decimal p.tip ++ codes "\">")))))))))))
+
+-- Writes the opening tag of a stroke with this class, width and path.
+abbrev pub bent_start : List ℕ → ℕ → StrokePath → List ℕ
+bent_start kind width path = stroke_open kind width ++ bent_way path
+
+-- Writes a stroke with this class, width and path, and with `words` as its title.
+abbrev pub bent_at : List ℕ → ℕ → StrokePath → List ℕ → List ℕ
+bent_at kind width path words = bent_start kind width path ++ title words ++ stroke_end
 
 -- Writes the start of a group. The point (x, y) is the origin of the coordinates within it.
 unfoldable pub group_start : ℕ → ℕ → List ℕ

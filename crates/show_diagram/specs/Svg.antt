@@ -63,7 +63,7 @@ description accesses marks cut =
 unfoldable pub look : List ℕ
 look =
     codes "<style>svg{background:#fff}text{fill:#111;font:13px sans-serif}.head{font:bold 16px sans-serif}"
-    ++ codes ".round{font-weight:bold}.small{font-size:11px}.life{stroke:#8a8a8a}"
+    ++ codes ".round{font-weight:bold}.small{font-size:12px}.life{stroke:#8a8a8a}"
     ++ codes ".rule{stroke:#8a8a8a;stroke-dasharray:2 4}.access{stroke:#0b5fa5}"
     ++ codes ".stroke{fill:none;stroke:#111;stroke-opacity:.45}"
     ++ codes ".stroke.lie{stroke:#b00020;stroke-opacity:1;stroke-dasharray:9 4}"

@@ -49,12 +49,16 @@ kind_of true None = codes "none"
 abbrev pub kind : Stroke → List ℕ
 kind stroke = kind_of stroke.differs stroke.told
 
--- Returns the path data of a stroke's mark: a circle if a faithful general would send the same, else a diamond if an
--- order was sent, and a cross if none was sent.
+-- Returns the path data of a stroke's mark: an arrowhead and a circle if a faithful general would send the same, else
+-- an arrowhead and a diamond if an order was sent, and a cross if none was sent.
 abbrev pub outline_of : Bool → Option ℕ → List ℕ
-outline_of false told = codes "M0-4a4 4 0 0 1 0 8a4 4 0 0 1 0-8z"
-outline_of true (Some order) = codes "M0-6l6 6l-6 6l-6-6z"
+outline_of false told = codes "M-12-4L-7 0M-12 4L-7 0M0-4a4 4 0 0 1 0 8a4 4 0 0 1 0-8z"
+outline_of true (Some order) = codes "M-12-4L-7 0M-12 4L-7 0M0-6l6 6l-6 6l-6-6z"
 outline_of true None = codes "M-5-5L5 5M5-5L-5 5"
+
+-- Returns the path data of the mark of an access, a circle.
+abbrev pub access_outline : List ℕ
+access_outline = codes "M0-4a4 4 0 0 1 0 8a4 4 0 0 1 0-8z"
 
 -- Returns the path data of a stroke's mark: a circle, a diamond or a cross.
 abbrev pub outline : Stroke → List ℕ

@@ -8,14 +8,16 @@ ghost use Rattle.show_diagram.specs.Words.{access_words, row_words, shown_words,
 ghost use Rattle.show_diagram.specs.Bands.{access_at, accesses_from, band, bands, board_line, drawn, drawn_at, general_life, inside, life, lives, point, round_words, row, stroke_line};
 
 use crate::layout::{
-    access_top, accesses_before, board, column, fan_top, height, rows_top, top_of,
+    access_top, accesses_before, board, column, fan_top, height, path_of, row_top, rows_top, top_of,
 };
 use crate::shapes::{
-    put_group_end, put_group_start, put_line, put_mark, put_stroke_end, put_stroke_start,
+    put_bent_start, put_group_end, put_group_start, put_line, put_mark, put_stroke_end,
     put_text_end, put_text_start, put_title_end, put_title_start,
 };
 use crate::stroke::Stroke;
-use crate::words::{kind, outline, put_access_words, put_row_words, put_shown, put_stroke_words};
+use crate::words::{
+    access_outline, kind, outline, put_access_words, put_row_words, put_shown, put_stroke_words,
+};
 use board::Access;
 use std::alloc::AllocError;
 
@@ -208,7 +210,7 @@ fn put_point(out: &mut String, far: u128, access: &Access) -> Result<(), AllocEr
 {
     put_access_title(out, access)?;
     put_line(out, "access", 0, 0, far, 0)?;
-    put_mark(out, "point", "M0-4a4 4 0 0 1 0 8a4 4 0 0 1 0-8z")?;
+    put_mark(out, "point", access_outline())?;
     put_access_text(out, far + 12, access)
 }
 
@@ -268,24 +270,28 @@ fn put_drawn(
     if stroke.round != round as usize {
         return Ok(());
     }
-    put_stroke(out, generals, top, stroke)?;
+    put_stroke(out, generals, top, below, stroke)?;
     put_row(out, below, stroke)
 }
 
-/// Appends the line of a stroke from the sender's column, at the y coordinate `top`, to the receiver's. Its width is
-/// the number of labels, but at most 5.
-fn put_stroke(out: &mut String, generals: u8, top: u128, stroke: &Stroke) -> Result<(), AllocError>
-    requires { top < 2 ^ 100 }
-    ensures { OnOk result (string_bytes out.new ≡ string_bytes out.old ++ stroke_line generals top stroke.now) }
+/// Appends the line of a stroke from the sender's column, at the y coordinate `top`, to its row in the receiver's list,
+/// which begins at `below`. Its width is the number of labels, but at most 5.
+fn put_stroke(
+    out: &mut String,
+    generals: u8,
+    top: u128,
+    below: u128,
+    stroke: &Stroke,
+) -> Result<(), AllocError>
+    requires top { top < 2 ^ 100 }
+    requires below { below < 2 ^ 100 }
+    ensures { OnOk result (string_bytes out.new ≡ string_bytes out.old ++ stroke_line generals top below stroke.now) }
 {
-    put_stroke_start(
+    put_bent_start(
         out,
         kind(stroke),
         stroke.labels.min(5) as u128,
-        column(u32::from(stroke.teller)),
-        top,
-        column(u32::from(stroke.receiver)),
-        top + 16 + 16 * u128::from(generals) + 6 * stroke.row.min(8) as u128,
+        path_of(generals, top, below, stroke),
     )?;
     put_stroke_title(out, stroke)?;
     put_stroke_end(out)
@@ -319,7 +325,7 @@ fn put_row(out: &mut String, top: u128, stroke: &Stroke) -> Result<(), AllocErro
     put_group_start(
         out,
         column(u32::from(stroke.receiver)),
-        top + 12 + 18 * stroke.row as u128,
+        row_top(top, stroke.row),
     )?;
     put_stroke_title(out, stroke)?;
     put_mark(out, kind(stroke), outline(stroke))?;

@@ -1,8 +1,8 @@
 //! Computes where a diagram's columns, bands, accesses, strokes and lists are, in SVG units.
 ghost use Rattle.std.specs.Prelude.{◌≡◌, ◌<◌, ◌+◌, ◌-◌, ◌*◌, ◌^◌, count_by, IfOk};
-ghost use Rattle.show_diagram.specs.Layout.{board, column, fan_top, height, is_earlier, is_in, most, reach, rows_top, room, top_of, widest, width};
+ghost use Rattle.show_diagram.specs.Layout.{board, column, fan_top, height, is_earlier, is_in, lane, most, path_of, reach, row_top, rows_top, room, top_of, widest, width};
 
-use crate::stroke::Stroke;
+use crate::stroke::{Stroke, StrokePath};
 use crate::words::put_shown;
 use board::Access;
 use std::alloc::{AllocError, Global};
@@ -10,19 +10,19 @@ use std::alloc::{AllocError, Global};
 /// The least width of a diagram in SVG units, which leaves room for the headline and the legend.
 const LEAST: u128 = 760;
 
-/// Returns the x coordinate of a general's column in SVG units. Columns are 208 units apart, which is room for a
+/// Returns the x coordinate of a general's column in SVG units. Columns are 248 units apart, which is room for a
 /// list's longest row.
 pub fn column(general: u32) -> u128
     ensures { result ≡ column general }
 {
-    120 + 208 * u128::from(general)
+    120 + 248 * u128::from(general)
 }
 
 /// Returns the x coordinate of the board's column in SVG units, to the right of the columns of `generals` generals.
 pub(crate) fn board(generals: u8) -> u128
     ensures { result ≡ board generals }
 {
-    120 + 208 * u128::from(generals)
+    120 + 248 * u128::from(generals)
 }
 
 /// Returns the width of a diagram in SVG units. It leaves room for the words of the accesses, to the right of the
@@ -50,14 +50,14 @@ fn widest(alloc: Global, accesses: &[Access]) -> Result<u128, AllocError>
     Ok(widest)
 }
 
-/// Returns the room that the words of an access need: 28 SVG units, and 7 for each byte.
+/// Returns the room that the words of an access need: 28 SVG units, and 8 for each byte.
 fn room(alloc: Global, access: &Access) -> Result<u128, AllocError>
     ensures value { IfOk result (λ width. width ≡ room access.now) }
     ensures small { IfOk result (λ width. width < 2 ^ 100) }
 {
     let mut text = String::new(alloc);
     put_shown(&mut text, access)?;
-    Ok(28 + 7 * text.len() as u128)
+    Ok(28 + 8 * text.len() as u128)
 }
 
 /// Returns the number of accesses in round `round`.
@@ -97,6 +97,39 @@ pub fn rows_top(generals: u8, accesses: &[Access], round: u32) -> u128
     ensures small { result < 2 ^ 81 }
 {
     fan_top(accesses, round) + 72 + 16 * u128::from(generals)
+}
+
+/// Returns the y coordinate of row `row` in a list that begins at the y coordinate `below`.
+pub fn row_top(below: u128, row: usize) -> u128
+    requires { below < 2 ^ 100 }
+    ensures { result ≡ row_top below row }
+{
+    below + 12 + 18 * row as u128
+}
+
+/// Returns the x coordinate, to the left of a general's column, at which the stroke of row `row` leads down to its row.
+/// The first three rows each have a lane of their own.
+fn lane(general: u8, row: usize) -> u128
+    ensures { result ≡ lane general row }
+{
+    column(u32::from(general)) - (15 + 3 * row.min(3) as u128)
+}
+
+/// Returns the path of a stroke: from the column of its sender, at the y coordinate `top`, to the lane of its row, down
+/// to this row of the receiver's list, and to the row's mark. The list begins at the y coordinate `below`.
+pub fn path_of(generals: u8, top: u128, below: u128, stroke: &Stroke) -> StrokePath
+    requires top { top < 2 ^ 100 }
+    requires below { below < 2 ^ 100 }
+    ensures { result ≡ path_of generals top below stroke.now }
+{
+    StrokePath {
+        left: column(u32::from(stroke.teller)),
+        top,
+        lane: lane(stroke.receiver, stroke.row),
+        turn: top + 16 + 16 * u128::from(generals) + 6 * stroke.row.min(8) as u128,
+        row: row_top(below, stroke.row),
+        tip: column(u32::from(stroke.receiver)) - 7,
+    }
 }
 
 /// Returns the number of rows in the longest list of round `round`. A list shows what one lieutenant received.

@@ -11,7 +11,7 @@ use crate::shapes::{
     put_title_end, put_title_start, put_words, shape_of,
 };
 use crate::stroke::Stroke;
-use crate::words::outline_of;
+use crate::words::{access_outline, outline_of};
 use board::Access;
 use round::Scenario;
 use std::alloc::AllocError;
@@ -165,7 +165,7 @@ fn put_shape_meanings(out: &mut String, marks: DiagramMarks, place: u128) -> Res
     let third = second + one_if(marks.loyal);
     let square = shape_of(true);
     let circle = shape_of(false);
-    let point = outline_of(false, None);
+    let point = access_outline();
     put_shape_if(out, marks.square, place, "traitor key", square, "a traitor")?;
     put_shape_if(
         out,
@@ -264,9 +264,9 @@ fn put_shape(
 
 /// Appends a short horizontal sample stroke, with `words` as its title.
 fn put_sample(out: &mut String, kind: &str, words: &str) -> Result<(), AllocError>
-    ensures { OnOk result (string_bytes out.new ≡ string_bytes out.old ++ stroke_at kind.now 2 0 0 36 0 words.now) }
+    ensures { OnOk result (string_bytes out.new ≡ string_bytes out.old ++ stroke_at kind.now 2 0 0 45 0 words.now) }
 {
-    put_stroke_start(out, kind, 2, 0, 0, 36, 0)?;
+    put_stroke_start(out, kind, 2, 0, 0, 45, 0)?;
     put_title_start(out)?;
     out.push_str(words)?;
     put_title_end(out)?;
@@ -330,5 +330,5 @@ fn missing_meaning() -> &'static str
 fn wide_meaning() -> &'static str
     ensures { result.now ≡ wide_meaning }
 {
-    "A line leads down to the receiver. Its width is its number of labels, up to 5."
+    "A line leads down to its row. Its width is its number of labels, up to 5."
 }

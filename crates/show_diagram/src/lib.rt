@@ -22,6 +22,6 @@ pub mod words;
 pub use facts::strokes;
 pub use laws::{diagrams_are_elements, only_traitors_differ, rows_are_exact, strokes_are_exact};
 pub use mark::DiagramMarks;
-pub use stroke::Stroke;
+pub use stroke::{Stroke, StrokePath};
 pub use svg::campaign_svg;
 pub use words::put_access_words;

@@ -1,8 +1,9 @@
 //! Writes the SVG elements of a diagram: texts, lines, strokes, groups, marks and titles. Coordinates are in SVG
 //! units. Functions that return a `Result` fail only if memory runs out.
 ghost use Rattle.std.specs.Prelude.{◌≡◌, ◌++◌, string_bytes, OnOk};
-ghost use Rattle.show_diagram.specs.Shapes.{group_end, group_start, line, mark, said_if, shape_of, sort_of, stroke_end, stroke_open, stroke_start, stroke_way, text_at, text_end, text_start, title_end, title_start};
+ghost use Rattle.show_diagram.specs.Shapes.{bent_start, bent_way, group_end, group_start, line, mark, said_if, shape_of, sort_of, stroke_end, stroke_open, stroke_start, stroke_way, text_at, text_end, text_start, title_end, title_start};
 
+use crate::stroke::StrokePath;
 use std::alloc::AllocError;
 
 /// Appends the start of a text at the point (`x`, `y`).
@@ -88,6 +89,35 @@ fn put_way(out: &mut String, x: u128, y: u128, u: u128, v: u128) -> Result<(), A
     ensures { OnOk result (string_bytes out.new ≡ string_bytes out.old ++ stroke_way x y u v) }
 {
     write!(out, "M{x} {y}L{u} {v}\">")
+}
+
+/// Appends the start of a stroke that is `width` units wide and has this path. Its title and `put_stroke_end` follow.
+pub fn put_bent_start(
+    out: &mut String,
+    kind: &str,
+    width: u128,
+    path: StrokePath,
+) -> Result<(), AllocError>
+    ensures { OnOk result (string_bytes out.new ≡ string_bytes out.old ++ bent_start kind.now width path) }
+{
+    put_stroke_open(out, kind, width)?;
+    put_bent_way(out, path)
+}
+
+/// Appends the path of a stroke to its opening tag, and ends the tag.
+#[tactic(auto, unfolding(crate::specs::Shapes::bent_way))]
+fn put_bent_way(out: &mut String, path: StrokePath) -> Result<(), AllocError>
+    ensures { OnOk result (string_bytes out.new ≡ string_bytes out.old ++ bent_way path) }
+{
+    let StrokePath {
+        left,
+        top,
+        lane,
+        turn,
+        row,
+        tip,
+    } = path;
+    write!(out, "M{left} {top}L{lane} {turn}V{row}H{tip}\">")
 }
 
 /// Appends the end tag of a stroke.

@@ -1,4 +1,4 @@
-//! Defines the strokes of a diagram, which show what one general sent another in a round.
+//! Defines the strokes of a diagram, which show what one general sent another in a round, and their paths.
 
 /// A stroke, drawn as a line: the equal messages from one general to another in one round. All have the same order, or
 /// none of them was sent, and all have the same `differs`.
@@ -18,4 +18,22 @@ pub struct Stroke {
     pub labels: usize,
     /// The index of the stroke in the list of its round and receiver, counted from 0.
     pub row: usize,
+}
+
+/// The path of a stroke in SVG units. It leads from the point (`left`, `top`) to the point (`lane`, `turn`), then down
+/// to the y coordinate `row`, and from there to the x coordinate `tip`.
+#[derive(Clone, Copy, Drop)]
+pub struct StrokePath {
+    /// The x coordinate of the sender's column.
+    pub left: u128,
+    /// The y coordinate at which the stroke begins.
+    pub top: u128,
+    /// The x coordinate at which the stroke leads down, to the left of the receiver's column.
+    pub lane: u128,
+    /// The y coordinate from which the stroke leads down.
+    pub turn: u128,
+    /// The y coordinate of the stroke's row in the receiver's list.
+    pub row: u128,
+    /// The x coordinate at which the stroke ends, beside the mark of its row.
+    pub tip: u128,
 }

@@ -227,7 +227,7 @@ pub fn look() -> &'static str
     ensures { result.now ≡ look }
 {
     "<style>svg{background:#fff}text{fill:#111;font:13px sans-serif}.head{font:bold 16px sans-serif}\
-     .round{font-weight:bold}.small{font-size:11px}.life{stroke:#8a8a8a}\
+     .round{font-weight:bold}.small{font-size:12px}.life{stroke:#8a8a8a}\
      .rule{stroke:#8a8a8a;stroke-dasharray:2 4}.access{stroke:#0b5fa5}\
      .stroke{fill:none;stroke:#111;stroke-opacity:.45}\
      .stroke.lie{stroke:#b00020;stroke-opacity:1;stroke-dasharray:9 4}\

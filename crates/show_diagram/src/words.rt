@@ -1,7 +1,7 @@
 //! Writes the words of a diagram: for strokes, for accesses to the board, and for the roles of generals.
 ghost use Rattle.std.specs.Prelude.{◌≡◌, ◌++◌, decimal, flat_map, map, slice_index_or, string_bytes, OnOk};
 ghost use Rattle.semantics.specs.Replies.{words_in};
-ghost use Rattle.show_diagram.specs.Words.{answer_words, answered_words, access_words, asked_words, copied_words, differs_words, kind, labels_words, order_words, outline, from_words, general_words, is_copy, kind_of, outline_of, piece_words, role_words, row_words, shown_words, stroke_words, tells_words, word_words};
+ghost use Rattle.show_diagram.specs.Words.{access_outline, answer_words, answered_words, access_words, asked_words, copied_words, differs_words, kind, labels_words, order_words, outline, from_words, general_words, is_copy, kind_of, outline_of, piece_words, role_words, row_words, shown_words, stroke_words, tells_words, word_words};
 
 use crate::stroke::Stroke;
 use board::{Access, numbers, worded};
@@ -96,24 +96,31 @@ fn kind_of(differs: bool, told: Option<u32>) -> &'static str
     }
 }
 
-/// Returns the path data of a stroke's mark: a circle if a faithful general would send the same. Otherwise it is a
-/// diamond if an order was sent, and a cross if none was sent.
+/// Returns the path data of a stroke's mark: an arrowhead and a circle if a faithful general would send the same.
+/// Otherwise it is an arrowhead and a diamond if an order was sent, and a cross if none was sent.
 pub fn outline(stroke: &Stroke) -> &'static str
     ensures { result.now ≡ outline stroke.now }
 {
     outline_of(stroke.differs, stroke.told)
 }
 
-/// Returns the path data of a stroke's mark: a circle if `differs` is false, else a diamond for an order and a cross
-/// for no order.
+/// Returns the path data of a stroke's mark: an arrowhead and a circle if `differs` is false, else an arrowhead and a
+/// diamond for an order, and a cross for no order.
 pub(crate) fn outline_of(differs: bool, told: Option<u32>) -> &'static str
     ensures { result.now ≡ outline_of differs told }
 {
     match (differs, told) {
-        (false, _) => "M0-4a4 4 0 0 1 0 8a4 4 0 0 1 0-8z",
-        (true, Some(_)) => "M0-6l6 6l-6 6l-6-6z",
+        (false, _) => "M-12-4L-7 0M-12 4L-7 0M0-4a4 4 0 0 1 0 8a4 4 0 0 1 0-8z",
+        (true, Some(_)) => "M-12-4L-7 0M-12 4L-7 0M0-6l6 6l-6 6l-6-6z",
         (true, None) => "M-5-5L5 5M5-5L-5 5",
     }
+}
+
+/// Returns the path data of the mark of an access, a circle.
+pub(crate) fn access_outline() -> &'static str
+    ensures { result.now ≡ access_outline }
+{
+    "M0-4a4 4 0 0 1 0 8a4 4 0 0 1 0-8z"
 }
 
 /// Appends a request to the board as a sentence, such as `copies 2 words from word 0`.

@@ -8,8 +8,9 @@ use Rattle.std.proofs.lemmas.List.Elements.{All-from_recursion}
 use Rattle.html.specs.Grammar.{IsContent, IsElement, joined, no_text, text}
 use Rattle.html.proofs.TagLaws.{proved_elements_are_elements}
 use Rattle.html.proofs.TextLemmas.{bare_text}
-use Rattle.html.specs.Page.{begun_lines, cell, fold, heading, item, lines, list, paragraph, picture, table, text_item}
+use Rattle.html.specs.Page.{begun_lines, cell, fold, item, lines, list, paragraph, picture, table, text_item}
 use Rattle.html.specs.Laws.{IsFilled}
+use Rattle.html.specs.declared.sheet.Sheet.{Sheet}
 use Rattle.html.specs.Sections.{Section, sections_in}
 use Rattle.html.proofs.PageLaws.{proved_pages_are_elements, proved_parts_are_content}
 use Rattle.html.proofs.SectionLaws.{proved_sections_are_fitted}
@@ -17,7 +18,7 @@ use Rattle.board.specs.Board.{Access}
 use Rattle.book.specs.Decisions.{decision_of}
 use Rattle.book.specs.Explained.{explained_one}
 use Rattle.book.specs.Table.{MessageTable}
-use Rattle.show_diagram.specs.Foot.{alike_words, bound_words, obeyed_words}
+use Rattle.show_diagram.specs.Foot.{bound_words}
 use Rattle.show_diagram.specs.Svg.{svg_text}
 use Rattle.show_diagram.proofs.SvgLaws.{proved_diagrams_are_elements}
 use Rattle.show_diagram.specs.Words.{answered_words, asked_words}
@@ -36,7 +37,7 @@ use Rattle.trace.specs.Text.{chronicle_text}
 use Rattle.world.specs.Chronicle.{Chronicle}
 use Rattle.world.specs.declared.schedule.Repeat.{Repeat}
 use Rattle.world.specs.declared.verdict.Verdict.{Verdict}
-use Rattle.show_page.specs.Account.{access_heads, access_row, accesses_heading, accesses_section, accesses_told, behind_words, bound_told, chronicle_heading, chronicle_section, course_told, diagram_section, each_lieutenant, each_program, elsewhere_words, explained_told, general_name, hinted, is_wide, lieutenant_part, lieutenant_told, lieutenant_words, lieutenants_heading, lieutenants_roomed, no_programs, parts, picture_heading, picture_hint, picture_name, picture_section, program_if, program_part, programs_section, programs_told, recorded_words, scenario_instead, scenario_section, schedule_heading, schedule_section, sections, story_told, title, unscheduled_words, verdict_heading, verdict_part, verdict_told, view_of, why_part}
+use Rattle.show_page.specs.Account.{access_heads, access_row, accesses_heading, accesses_section, accesses_told, behind_words, bound_told, chronicle_heading, chronicle_section, course_told, diagram_section, each_lieutenant, each_program, elsewhere_words, explained_told, general_name, hinted, lieutenant_part, lieutenant_told, lieutenant_words, lieutenants_heading, lieutenants_roomed, no_programs, outcome_words, parts, picture_heading, picture_hint, picture_name, picture_section, program_if, program_part, programs_section, programs_told, recorded_words, scenario_instead, scenario_section, schedule_heading, schedule_section, sections, sheet_of, story_told, title, unscheduled_words, verdict_part, verdict_told, view_of, why_part}
 use Rattle.show_page.specs.Calls.{named_calls}
 use Rattle.show_page.specs.Printers.{accesses_printer, chronicle_printer, lieutenants_printer, picture_printer, programs_printer, scenario_printer, schedule_printer}
 use Rattle.show_page.specs.Room.{fitted, lines_told, over, over_words, room_for_accesses, room_for_chronicle, room_for_lieutenants, room_for_picture, room_for_programs, room_for_scenario, room_for_schedule, room_for_sections, room_for_story, room_for_units, roomed, share, units_words}
@@ -47,10 +48,6 @@ use Rattle.show_page.specs.Laws.{CampaignPagesAreElements}
 pub all : (f : ℕ → List ℕ) (xs : List ℕ) → ((x : ℕ) → IsContent (f x)) → IsContent (flat_map f xs)
 all f [] h = text [] no_text
 all f (x ∷ xs) h = joined (f x) (flat_map f xs) (h x) (all f xs h)
-
--- A heading and the content below it.
-pub below : (words parts : List ℕ) → IsContent parts → IsContent (heading words ++ parts)
-below words parts c = joined (heading words) parts (proved_parts_are_content.heading words) c
 
 -- The paragraph that replaces a section for which there is no room.
 over_content : (room : ℕ) (who : List ℕ) → IsContent (over room who)
@@ -122,15 +119,15 @@ programs_filled s =
     )
 
 -- A diagram, which is an XML element and a line feed.
-pub picture_filled : (wide : Bool) (svg element : List ℕ) → IsElement element → svg ≡ element ++ codes "\n" → IsFilled (picture_section wide svg)
-picture_filled wide svg element is e =
+pub picture_filled : (sheet : Sheet) (svg element : List ℕ) → IsElement element → svg ≡ element ++ codes "\n" → IsFilled (picture_section sheet svg)
+picture_filled sheet svg element is e =
     let drawn : IsContent svg =
     subst IsContent (sym e) (joined element (codes "\n") (proved_elements_are_elements.content element is) (text (codes "\n") (bare_text (codes "\n") refl))) in
-    filled picture_heading room_for_picture picture_printer (hinted wide svg)
-    (joined (paragraph picture_hint) (picture wide picture_name svg) (proved_parts_are_content.paragraph picture_hint) (proved_parts_are_content.picture wide picture_name svg drawn))
+    filled picture_heading room_for_picture picture_printer (hinted sheet svg)
+    (joined (picture sheet picture_name svg) (paragraph picture_hint) (proved_parts_are_content.picture sheet picture_name svg drawn) (proved_parts_are_content.paragraph picture_hint))
 
 diagram_filled : (t : MessageTable) (c : Chronicle) → IsFilled (diagram_section t c)
-diagram_filled t c = let drawn = proved_diagrams_are_elements t c in picture_filled (is_wide c.scenario c.accesses) (svg_text t c) drawn.0 drawn.1 drawn.2
+diagram_filled t c = let drawn = proved_diagrams_are_elements t c in picture_filled (sheet_of c.scenario c.accesses) (svg_text t c) drawn.0 drawn.1 drawn.2
 
 why_content : (t : MessageTable) (traitors : List ℕ) (g : ℕ) → IsContent (why_part t traitors g)
 why_content t traitors g =
@@ -209,16 +206,13 @@ chronicle_filled words = filled chronicle_heading room_for_chronicle chronicle_p
 
 pub verdict_content : (v : Verdict) (bound : List ℕ) → IsContent (verdict_told v bound)
 verdict_content v bound =
-    joined (heading verdict_heading ++ paragraph (alike_words v.alike) ++ paragraph (obeyed_words v.obeyed)) (paragraph bound)
-    (joined (heading verdict_heading ++ paragraph (alike_words v.alike)) (paragraph (obeyed_words v.obeyed))
-    (below verdict_heading (paragraph (alike_words v.alike)) (proved_parts_are_content.paragraph (alike_words v.alike)))
-    (proved_parts_are_content.paragraph (obeyed_words v.obeyed)))
-    (proved_parts_are_content.paragraph bound)
+    let outcome : List ℕ = outcome_words v.alike v.obeyed in
+    joined (paragraph outcome) (paragraph bound) (proved_parts_are_content.paragraph outcome) (proved_parts_are_content.paragraph bound)
 
--- Sections with content, and a verdict.
-pub sections_content : (ss : List Section) (verdict : List ℕ) → AllByRecursion IsFilled ss → IsContent verdict → IsContent (sections_in room_for_sections ss ++ verdict)
+-- A verdict, and sections with content.
+pub sections_content : (ss : List Section) (verdict : List ℕ) → AllByRecursion IsFilled ss → IsContent verdict → IsContent (verdict ++ sections_in room_for_sections ss)
 sections_content ss verdict each is =
-    joined (sections_in room_for_sections ss) verdict (proved_sections_are_fitted.content room_for_sections ss (All-from_recursion IsFilled ss each)) is
+    joined verdict (sections_in room_for_sections ss) is (proved_sections_are_fitted.content room_for_sections ss (All-from_recursion IsFilled ss each))
 
 parts_content : (words : List ℕ) (schedule : Option (List (List Repeat))) (t : MessageTable) (c : Chronicle) → IsContent (parts words schedule t c)
 unfolding parts
@@ -226,14 +220,14 @@ parts_content words schedule t c =
     let traitors : List ℕ = traitors_of c.scenario in
     let view : View = view_of c.scenario in
     sections_content (sections words schedule t c) (verdict_part c.verdict) (
-      scenario_filled words,
+      diagram_filled t c,
       (
-        schedule_filled schedule,
+        lieutenants_filled lieutenants_heading (each_lieutenant t traitors view) (lieutenants_content t traitors view),
         (
-          programs_filled c.scenario,
+          scenario_filled words,
           (
-            diagram_filled t c,
-            (lieutenants_filled lieutenants_heading (each_lieutenant t traitors view) (lieutenants_content t traitors view), (accesses_filled c.accesses, (chronicle_filled (chronicle_text c), tt))),
+            programs_filled c.scenario,
+            (schedule_filled schedule, (accesses_filled c.accesses, (chronicle_filled (chronicle_text c), tt))),
           ),
         ),
       ),

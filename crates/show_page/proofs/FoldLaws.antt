@@ -106,10 +106,10 @@ unfolding parts
 lieutenants_stand words schedule t c short =
     let told : List ℕ = each_lieutenant t (traitors_of c.scenario) (view_of c.scenario) in
     let all : List Section = sections words schedule t c in
-    between told (sections_in room_for_sections all ++ verdict_part c.verdict) (page_start (title c.scenario)) page_end
-    (ahead told (sections_in room_for_sections all) (verdict_part c.verdict)
-    (proved_sections_are_fitted.own room_for_sections (scenario_section words ∷ schedule_section schedule ∷ programs_section c.scenario ∷ diagram_section t c ∷ [])
-    (lieutenants_section t c.scenario) (accesses_section c.accesses ∷ chronicle_section (chronicle_text c) ∷ []) short))
+    between told (verdict_part c.verdict ++ sections_in room_for_sections all) (page_start (title c.scenario)) page_end
+    (behind told (sections_in room_for_sections all) (verdict_part c.verdict)
+    (proved_sections_are_fitted.own room_for_sections (diagram_section t c ∷ []) (lieutenants_section t c.scenario)
+    (scenario_section words ∷ programs_section c.scenario ∷ schedule_section schedule ∷ accesses_section c.accesses ∷ chronicle_section (chronicle_text c) ∷ []) short))
 
 lieutenant_stands : (part : List ℕ) (t : MessageTable) (traitors : List ℕ) (view : View) (p : ℕ) → p < t.generals → p ≢ t.commander
     → StandsIn part (tree_told t traitors view p) → StandsIn part (each_lieutenant t traitors view)

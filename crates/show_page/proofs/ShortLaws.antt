@@ -8,11 +8,12 @@ use Rattle.std.proofs.lemmas.Fmt.{length-decimal-le}
 use Rattle.std.proofs.lemmas.List.Elements.{All-from_recursion}
 use Rattle.board.specs.Board.{Access}
 use Rattle.book.specs.Table.{MessageTable}
-use Rattle.show_diagram.specs.Foot.{alike_words, bound_words, obeyed_words}
+use Rattle.show_diagram.specs.Foot.{bound_words}
 use Rattle.show_diagram.specs.Svg.{campaign_words, svg_text}
 use Rattle.insn.specs.declared.insn.Insn.{Insn}
 use Rattle.html.specs.Laws.{IsRoomy}
 use Rattle.html.specs.Page.{fold_end, fold_start, head_end, head_middle, heading, look, look_end, page, page_end, page_start, paragraph, preamble, shown}
+use Rattle.html.specs.declared.sheet.Sheet.{Sheet}
 use Rattle.html.specs.Sections.{Section, heading_bytes, rooms, sections_in}
 use Rattle.html.proofs.SectionLaws.{proved_sections_are_fitted}
 use Rattle.show_table.specs.Retold.{traitors_of}
@@ -21,7 +22,7 @@ use Rattle.trace.specs.Text.{chronicle_text}
 use Rattle.world.specs.Chronicle.{Chronicle}
 use Rattle.world.specs.declared.schedule.Repeat.{Repeat}
 use Rattle.world.specs.declared.verdict.Verdict.{Verdict}
-use Rattle.show_page.specs.Account.{accesses_heading, accesses_section, accesses_told, bound_told, chronicle_heading, chronicle_section, course_told, each_lieutenant, each_program, explained_told, general_name, hinted, is_wide, lieutenants_heading, lieutenants_roomed, parts, picture_heading, picture_section, program_if, program_part, programs_heading, programs_section, programs_told, promise_words, scenario_heading, scenario_section, schedule_heading, schedule_section, sections, story_told, title, verdict_heading, verdict_part, verdict_told, view_of}
+use Rattle.show_page.specs.Account.{accesses_heading, accesses_section, accesses_told, bound_told, chronicle_heading, chronicle_section, course_told, each_lieutenant, each_program, explained_told, general_name, hinted, lieutenants_heading, lieutenants_roomed, outcome_words, parts, picture_heading, picture_section, program_if, program_part, programs_heading, programs_section, programs_told, promise_words, scenario_heading, scenario_section, schedule_heading, schedule_section, sections, sheet_of, story_told, title, verdict_part, verdict_told, view_of}
 use Rattle.show_page.specs.Laws.{CampaignPagesAreShort}
 use Rattle.show_page.specs.Printers.{accesses_printer, chronicle_printer, lieutenants_printer, picture_printer, programs_printer, scenario_printer, schedule_printer}
 use Rattle.show_page.specs.Room.{fitted, lines_told, over, over_words, room_for_sections, roomed, share}
@@ -132,9 +133,9 @@ programs_roomy s is =
     cond_both (nat_lt 150000 (length (programs_told (each_program room_for_sections s)))) (each_program (share s.generals) s) [] (λ xs. length xs ≤ 150000)
     (λ _. shared_short s is) (λ _. omega arith)
 
-pub picture_roomy : (wide : Bool) (svg : List ℕ) → IsRoomy (picture_section wide svg)
+pub picture_roomy : (sheet : Sheet) (svg : List ℕ) → IsRoomy (picture_section sheet svg)
 unfolding picture_printer
-picture_roomy wide svg = roomy picture_heading 600000 picture_printer (hinted wide svg) (omega arith) (omega arith) (known picture_printer 130 refl)
+picture_roomy sheet svg = roomy picture_heading 600000 picture_printer (hinted sheet svg) (omega arith) (omega arith) (known picture_printer 130 refl)
 
 pub lieutenants_roomy : (title told : List ℕ) → IsRoomy (lieutenants_roomed title told)
 unfolding lieutenants_printer
@@ -181,14 +182,14 @@ chronicle_headed = heading_short chronicle_heading 53 (known chronicle_heading 5
 
 -- ---- the verdict
 
-alike_short : (b : Bool) → length (alike_words b) ≤ 60
-alike_short true = known (alike_words true) 60 refl
-alike_short false = known (alike_words false) 60 refl
-
-obeyed_short : (b : Option Bool) → length (obeyed_words b) ≤ 60
-obeyed_short (Some true) = known (obeyed_words (Some true)) 60 refl
-obeyed_short (Some false) = known (obeyed_words (Some false)) 60 refl
-obeyed_short None = known (obeyed_words None) 60 refl
+outcome_short : (b : Bool) (o : Option Bool) → length (outcome_words b o) ≤ 120
+unfolding outcome_words
+outcome_short true (Some true) = known (outcome_words true (Some true)) 120 refl
+outcome_short true (Some false) = known (outcome_words true (Some false)) 120 refl
+outcome_short false (Some true) = known (outcome_words false (Some true)) 120 refl
+outcome_short false (Some false) = known (outcome_words false (Some false)) 120 refl
+outcome_short true None = known (outcome_words true None) 120 refl
+outcome_short false None = known (outcome_words false None) 120 refl
 
 promise_short : length promise_words ≤ 200
 unfolding promise_words
@@ -199,15 +200,11 @@ bound_short true without short = promise_short
 bound_short false without short = short
 
 pub verdict_short : (v : Verdict) (bound : List ℕ) → length bound ≤ 200 → length (verdict_told v bound) ≤ 4000
-unfolding verdict_heading
 verdict_short v bound short =
-    let head = heading_short verdict_heading 53 (known verdict_heading 53 refl) in
-    let one = paragraph_short (alike_words v.alike) 60 (alike_short v.alike) in
-    let two = paragraph_short (obeyed_words v.obeyed) 60 (obeyed_short v.obeyed) in
-    let three = paragraph_short bound 200 short in
-    let first = both (heading verdict_heading) (paragraph (alike_words v.alike)) 490 548 (omega arith) (omega arith) in
-    let second = both (heading verdict_heading ++ paragraph (alike_words v.alike)) (paragraph (obeyed_words v.obeyed)) 1038 548 (omega arith) (omega arith) in
-    let whole = both (heading verdict_heading ++ paragraph (alike_words v.alike) ++ paragraph (obeyed_words v.obeyed)) (paragraph bound) 1586 1808 (omega arith) (omega arith) in
+    let outcome : List ℕ = outcome_words v.alike v.obeyed in
+    let one = paragraph_short outcome 120 (outcome_short v.alike v.obeyed) in
+    let two = paragraph_short bound 200 short in
+    let whole = both (paragraph outcome) (paragraph bound) 1088 1808 (omega arith) (omega arith) in
     omega arith
 
 -- The length of the campaign's description.
@@ -259,11 +256,11 @@ page_short title parts n short few =
     let end : length page_end ≤ 100 = known page_end 100 refl in
     omega (arith, length-append (page_start title ++ parts) page_end, length-append (page_start title) parts)
 
--- The length of the sections and the verdict.
-pub sections_short : (ss : List Section) (verdict : List ℕ) → rooms ss ≤ 1987000 → All IsRoomy ss → heading_bytes ss ≤ 3500 → length verdict ≤ 4000 → length (sections_in 1987000 ss ++ verdict) ≤ 1994500
+-- The length of the verdict and the sections.
+pub sections_short : (ss : List Section) (verdict : List ℕ) → rooms ss ≤ 1987000 → All IsRoomy ss → heading_bytes ss ≤ 3500 → length verdict ≤ 4000 → length (verdict ++ sections_in 1987000 ss) ≤ 1994500
 sections_short ss verdict low each few short =
     let all = proved_sections_are_fitted.short 1987000 ss low each in
-    omega (arith, length-append (sections_in 1987000 ss) verdict)
+    omega (arith, length-append verdict (sections_in 1987000 ss))
 
 parts_short : (words : List ℕ) (schedule : Option (List (List Repeat))) (t : MessageTable) (c : Chronicle) → IsScenario c.scenario → length (parts words schedule t c) ≤ 1994500
 unfolding parts
@@ -271,14 +268,14 @@ parts_short words schedule t c is =
     let ss : List Section = sections words schedule t c in
     let each : All IsRoomy ss =
     All-from_recursion IsRoomy ss (
-      scenario_roomy words,
+      picture_roomy (sheet_of c.scenario c.accesses) (svg_text t c),
       (
-        schedule_roomy schedule,
+        lieutenants_roomy lieutenants_heading (each_lieutenant t (traitors_of c.scenario) (view_of c.scenario)),
         (
-          programs_roomy c.scenario is,
+          scenario_roomy words,
           (
-            picture_roomy (is_wide c.scenario c.accesses) (svg_text t c),
-            (lieutenants_roomy lieutenants_heading (each_lieutenant t (traitors_of c.scenario) (view_of c.scenario)), (accesses_roomy c.accesses, (chronicle_roomy (chronicle_text c), tt))),
+            programs_roomy c.scenario is,
+            (schedule_roomy schedule, (accesses_roomy c.accesses, (chronicle_roomy (chronicle_text c), tt))),
           ),
         ),
       ),
@@ -290,8 +287,8 @@ parts_short words schedule t c is =
     let h5 = lieutenants_headed in
     let h6 = accesses_headed in
     let h7 = chronicle_headed in
-    let headed : length (heading (scenario_heading (story words))) + (length (heading schedule_heading) + (length (heading programs_heading) + (length (heading picture_heading)
-    + (length (heading lieutenants_heading) + (length (heading accesses_heading) + (length (heading chronicle_heading) + 0)))))) ≤ 3500 = omega arith in
+    let headed : length (heading picture_heading) + (length (heading lieutenants_heading) + (length (heading (scenario_heading (story words))) + (length (heading programs_heading)
+    + (length (heading schedule_heading) + (length (heading accesses_heading) + (length (heading chronicle_heading) + 0)))))) ≤ 3500 = omega arith in
     sections_short ss (verdict_part c.verdict) (leb-true (rooms ss) 1987000 refl) each headed
     (verdict_short c.verdict (bound_told c.verdict.bound (bound_words false)) (bound_short c.verdict.bound (bound_words false) (known (bound_words false) 200 refl)))
 

@@ -13,13 +13,13 @@ use Rattle.show_chains.proofs.PictureLaws.{proved_signed_diagrams_are_elements}
 use Rattle.trace.specs.SignedText.{signed_text}
 use Rattle.world.specs.Chronicle.{Chronicle}
 use Rattle.world.specs.declared.schedule.Repeat.{Repeat}
-use Rattle.show_page.specs.Account.{bound_told, is_wide}
+use Rattle.show_page.specs.Account.{bound_told, sheet_of}
 use Rattle.show_page.proofs.AccountLaws.{accesses_filled, all, chronicle_filled, lieutenants_filled, picture_filled, programs_filled, scenario_filled, schedule_filled, sections_content, verdict_content}
 use Rattle.show_page.specs.SignedAccount.{diagram_section, each_lieutenant, lieutenant_heading, lieutenant_part, lieutenant_told, lieutenants_heading, parts, sections, verdict_part}
 use Rattle.show_page.specs.SignedLaws.{SignedPagesAreElements}
 
 diagram_filled : (c : Chronicle) → IsFilled (diagram_section c)
-diagram_filled c = let drawn = proved_signed_diagrams_are_elements c in picture_filled (is_wide c.scenario c.accesses) (signed_svg c) drawn.0 drawn.1 drawn.2
+diagram_filled c = let drawn = proved_signed_diagrams_are_elements c in picture_filled (sheet_of c.scenario c.accesses) (signed_svg c) drawn.0 drawn.1 drawn.2
 
 lieutenant_content : (c : Chronicle) (g : ℕ) → IsContent (lieutenant_part c g)
 lieutenant_content c g =
@@ -33,14 +33,14 @@ parts_content : (words : List ℕ) (schedule : Option (List (List Repeat))) (c :
 unfolding parts
 parts_content words schedule c =
     sections_content (sections words schedule c) (verdict_part c.verdict) (
-      scenario_filled words,
+      diagram_filled c,
       (
-        schedule_filled schedule,
+        lieutenants_filled lieutenants_heading (each_lieutenant c) (lieutenants_content c),
         (
-          programs_filled c.scenario,
+          scenario_filled words,
           (
-            diagram_filled c,
-            (lieutenants_filled lieutenants_heading (each_lieutenant c) (lieutenants_content c), (accesses_filled c.accesses, (chronicle_filled (signed_text c), tt))),
+            programs_filled c.scenario,
+            (schedule_filled schedule, (accesses_filled c.accesses, (chronicle_filled (signed_text c), tt))),
           ),
         ),
       ),

@@ -12,7 +12,7 @@ use Rattle.show_chains.specs.Svg.{signed_svg, signed_words}
 use Rattle.trace.specs.SignedText.{signed_text}
 use Rattle.world.specs.Chronicle.{Chronicle}
 use Rattle.world.specs.declared.schedule.Repeat.{Repeat}
-use Rattle.show_page.specs.Account.{accesses_heading, chronicle_heading, is_wide, picture_heading, programs_heading, scenario_heading, schedule_heading, title, bound_told}
+use Rattle.show_page.specs.Account.{accesses_heading, bound_told, chronicle_heading, picture_heading, programs_heading, scenario_heading, schedule_heading, sheet_of, title}
 use Rattle.show_page.proofs.ShortLemmas.{both, known}
 use Rattle.show_page.proofs.ShortLaws.{accesses_headed, accesses_roomy, chronicle_headed, chronicle_roomy, heading_short, lieutenants_roomy, page_short, picture_headed, picture_roomy, programs_headed, programs_roomy, bound_short, scenario_headed, scenario_roomy, schedule_headed, schedule_roomy, sections_short, title_short, verdict_short}
 use Rattle.show_page.specs.Story.{story}
@@ -35,14 +35,14 @@ parts_short words schedule c is =
     let ss : List Section = sections words schedule c in
     let each : All IsRoomy ss =
     All-from_recursion IsRoomy ss (
-      scenario_roomy words,
+      picture_roomy (sheet_of c.scenario c.accesses) (signed_svg c),
       (
-        schedule_roomy schedule,
+        lieutenants_roomy lieutenants_heading (each_lieutenant c),
         (
-          programs_roomy c.scenario is,
+          scenario_roomy words,
           (
-            picture_roomy (is_wide c.scenario c.accesses) (signed_svg c),
-            (lieutenants_roomy lieutenants_heading (each_lieutenant c), (accesses_roomy c.accesses, (chronicle_roomy (signed_text c), tt))),
+            programs_roomy c.scenario is,
+            (schedule_roomy schedule, (accesses_roomy c.accesses, (chronicle_roomy (signed_text c), tt))),
           ),
         ),
       ),
@@ -54,8 +54,8 @@ parts_short words schedule c is =
     let h5 = lieutenants_headed in
     let h6 = accesses_headed in
     let h7 = chronicle_headed in
-    let headed : length (heading (scenario_heading (story words))) + (length (heading schedule_heading) + (length (heading programs_heading) + (length (heading picture_heading)
-    + (length (heading lieutenants_heading) + (length (heading accesses_heading) + (length (heading chronicle_heading) + 0)))))) ≤ 3500 = omega arith in
+    let headed : length (heading picture_heading) + (length (heading lieutenants_heading) + (length (heading (scenario_heading (story words))) + (length (heading programs_heading)
+    + (length (heading schedule_heading) + (length (heading accesses_heading) + (length (heading chronicle_heading) + 0)))))) ≤ 3500 = omega arith in
     sections_short ss (verdict_part c.verdict) (leb-true (rooms ss) 1987000 refl) each headed
     (verdict_short c.verdict (bound_told c.verdict.bound (bound_words false)) (bound_short c.verdict.bound (bound_words false) (known (bound_words false) 200 refl)))
 

@@ -6,7 +6,7 @@ use Rattle.board.specs.Board.{Access}
 use Rattle.book.specs.Decisions.{decision_of}
 use Rattle.book.specs.Explained.{explained_one}
 use Rattle.book.specs.Table.{MessageTable}
-use Rattle.show_diagram.specs.Foot.{alike_words, bound_words, obeyed_words}
+use Rattle.show_diagram.specs.Foot.{bound_words}
 use Rattle.show_diagram.specs.Layout.{width}
 use Rattle.show_diagram.specs.Svg.{campaign_words, svg_text}
 use Rattle.show_diagram.specs.Words.{answered_words, asked_words}
@@ -16,8 +16,10 @@ use Rattle.campaign_orders.specs.Text.{schedule_text}
 use Rattle.insn.specs.declared.insn.Insn.{Insn}
 use Rattle.insn.specs.Program.{slots_of}
 use Rattle.label.specs.Labels.{on}
-use Rattle.html.specs.Page.{begun_lines, cell, fold, head, heading, lines, page, paragraph, picture, row, table}
+use Rattle.html.specs.Page.{begun_lines, cell, fold, head, lines, page, paragraph, picture, row, table}
 use Rattle.html.specs.Sections.{Section, sections_in}
+use Rattle.html.specs.declared.sheet.Sheet.{Sheet}
+use Rattle.html.specs.declared.sheet.Sheet.TheVariants.{Large, Several, Small}
 use Rattle.show_table.specs.Retold.{traitors_of}
 use Rattle.round.specs.Scenario.{Scenario, program_of}
 use Rattle.trace.specs.Text.{chronicle_text}
@@ -26,7 +28,7 @@ use Rattle.world.specs.declared.schedule.Repeat.{Repeat}
 use Rattle.world.specs.declared.verdict.Verdict.{Verdict}
 use Rattle.show_page.specs.Calls.{named_calls}
 use Rattle.show_page.specs.Printers.{accesses_printer, chronicle_printer, lieutenants_printer, picture_printer, programs_printer, scenario_printer, schedule_printer}
-use Rattle.show_page.specs.Room.{fitted, lines_told, narrow_sheet, over, room_for_accesses, room_for_chronicle, room_for_lieutenants, room_for_picture, room_for_programs, room_for_scenario, room_for_schedule, room_for_sections, room_for_story, room_for_units, roomed, share, units_words}
+use Rattle.show_page.specs.Room.{fitted, lines_told, large_sheet, over, room_for_accesses, room_for_chronicle, room_for_lieutenants, room_for_picture, room_for_programs, room_for_scenario, room_for_schedule, room_for_sections, room_for_story, room_for_units, roomed, share, small_sheet, units_words}
 use Rattle.show_page.specs.Story.{behind_story, story}
 use Rattle.show_page.specs.Trees.{tree_told}
 
@@ -67,9 +69,6 @@ unfoldable pub behind_words : List ℕ
 behind_words =
     codes "After a round's line, and in a round without one, the loyal generals who have not written do so, and "
     ++ codes "then each traitor acts until he ends, in the order of their numbers."
-
-unfoldable pub verdict_heading : List ℕ
-verdict_heading = codes "Verdict, and what was promised"
 
 unfoldable pub picture_name : List ℕ
 picture_name = codes "Space-time diagram"
@@ -172,19 +171,21 @@ programs_roomed s told = record {
 abbrev pub programs_section : Scenario → Section
 programs_section s = programs_roomed s (programs_told (each_program room_for_sections s))
 
--- Checks whether a diagram is too wide for a narrow sheet, on which its letters would be too small to be read. It is
--- then printed on a wide sheet.
-abbrev pub is_wide : Scenario → List Access → Bool
-is_wide s accesses = nat_lt narrow_sheet (width s.generals accesses)
+-- Returns the paper for a diagram of the width w, on which its letters can be read.
+abbrev pub sheet_for : ℕ → Sheet
+sheet_for w = if nat_lt large_sheet w then Several else if nat_lt small_sheet w then Large else Small
 
-abbrev pub hinted : Bool → List ℕ → List ℕ
-hinted is_wide svg = paragraph picture_hint ++ picture is_wide picture_name svg
+abbrev pub sheet_of : Scenario → List Access → Sheet
+sheet_of s accesses = sheet_for (width s.generals accesses)
 
-abbrev pub picture_section : Bool → List ℕ → Section
-picture_section is_wide svg = roomed picture_heading room_for_picture picture_printer (hinted is_wide svg)
+abbrev pub hinted : Sheet → List ℕ → List ℕ
+hinted sheet svg = picture sheet picture_name svg ++ paragraph picture_hint
+
+abbrev pub picture_section : Sheet → List ℕ → Section
+picture_section sheet svg = roomed picture_heading room_for_picture picture_printer (hinted sheet svg)
 
 abbrev pub diagram_section : MessageTable → Chronicle → Section
-diagram_section t c = picture_section (is_wide c.scenario c.accesses) (svg_text t c)
+diagram_section t c = picture_section (sheet_of c.scenario c.accesses) (svg_text t c)
 
 -- Returns how a page shows the trees of the lieutenants: with two levels of labels below the commander's. The labels
 -- below a label are left out if the lieutenant received the same for it and for all of them, and none is known to be a
@@ -252,6 +253,19 @@ chronicle_section text =
     roomed chronicle_heading room_for_chronicle chronicle_printer
     (lines_told room_for_chronicle chronicle_printer (flat_map encode_utf8 text))
 
+-- Writes the outcome of a campaign in a sentence: whether the loyal lieutenants decide alike (IC1), and whether they obey
+-- a loyal commander (IC2). None means that the commander is a traitor.
+unfoldable pub outcome_words : Bool → Option Bool → List ℕ
+outcome_words true (Some true) = codes "The loyal lieutenants decide alike, and obey the loyal commander."
+outcome_words true (Some false) = codes "The loyal lieutenants decide alike, but do not obey the loyal commander."
+outcome_words false (Some true) = codes "The loyal lieutenants do not decide alike, but obey the loyal commander."
+outcome_words false (Some false) =
+    codes "The loyal lieutenants do not decide alike, and do not all obey the loyal commander."
+outcome_words true None =
+    codes "The loyal lieutenants decide alike; the commander is a traitor, so nobody has to obey him."
+outcome_words false None =
+    codes "The loyal lieutenants do not decide alike; the commander is a traitor, so nobody has to obey him."
+
 -- The words for what the algorithm promises if the bound holds (TOPLAS 1982, IC1 and IC2).
 unfoldable pub promise_words : List ℕ
 promise_words =
@@ -262,9 +276,9 @@ promise_words =
 abbrev pub bound_told : Bool → List ℕ → List ℕ
 bound_told bound without = if bound then promise_words else without
 
+-- Writes the verdict on a campaign: its outcome, and the words `bound` on what the algorithm promises.
 abbrev pub verdict_told : Verdict → List ℕ → List ℕ
-verdict_told v bound =
-    heading verdict_heading ++ paragraph (alike_words v.alike) ++ paragraph (obeyed_words v.obeyed) ++ paragraph bound
+verdict_told v bound = paragraph (outcome_words v.alike v.obeyed) ++ paragraph bound
 
 abbrev pub verdict_part : Verdict → List ℕ
 verdict_part v = verdict_told v (bound_told v.bound (bound_words false))
@@ -273,12 +287,12 @@ verdict_part v = verdict_told v (bound_told v.bound (bound_words false))
 -- chronicle's scenario, and `schedule` is the schedule by which the campaign was played, if there is one.
 abbrev pub sections : List ℕ → Option (List (List Repeat)) → MessageTable → Chronicle → List Section
 sections text schedule t c =
-    scenario_section text ∷ schedule_section schedule ∷ programs_section c.scenario ∷ diagram_section t c
-    ∷ lieutenants_section t c.scenario ∷ accesses_section c.accesses ∷ chronicle_section (chronicle_text c) ∷ []
+    diagram_section t c ∷ lieutenants_section t c.scenario ∷ scenario_section text ∷ programs_section c.scenario
+    ∷ schedule_section schedule ∷ accesses_section c.accesses ∷ chronicle_section (chronicle_text c) ∷ []
 
--- Writes all sections, as far as there is room for them, and then the verdict.
+-- Writes the verdict, and then all sections, as far as there is room for them.
 unfoldable pub parts : List ℕ → Option (List (List Repeat)) → MessageTable → Chronicle → List ℕ
-parts text schedule t c = sections_in room_for_sections (sections text schedule t c) ++ verdict_part c.verdict
+parts text schedule t c = verdict_part c.verdict ++ sections_in room_for_sections (sections text schedule t c)
 
 -- Writes the description of a campaign, with the same words as its diagram.
 abbrev pub title : Scenario → List ℕ

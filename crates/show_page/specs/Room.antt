@@ -50,10 +50,14 @@ share generals = 145000 / (generals + 1)
 abbrev pub room_for_units : ℕ
 room_for_units = 256
 
--- The greatest width of a diagram that is printed on a narrow sheet, in units of SVG. It does not include the margins,
--- which are 16 units in all.
-abbrev pub narrow_sheet : ℕ
-narrow_sheet = 1300
+-- The greatest width of a diagram that is printed on a sheet like those of the text, in units of SVG. It does not include
+-- the margins, which are 16 units in all.
+abbrev pub small_sheet : ℕ
+small_sheet = 1400
+
+-- The greatest width of a diagram that is printed on one sheet of A3, likewise.
+abbrev pub large_sheet : ℕ
+large_sheet = 2400
 
 -- Writes the sentence that a part of a page is longer than `room` bytes. It ends with `who`, the words that say where
 -- to find this part.

@@ -13,12 +13,12 @@ use Rattle.trace.specs.SignedText.{signed_text}
 use Rattle.world.specs.Chronicle.{Chronicle}
 use Rattle.world.specs.declared.schedule.Repeat.{Repeat}
 use Rattle.world.specs.declared.verdict.Verdict.{Verdict}
-use Rattle.show_page.specs.Account.{accesses_section, bound_told, chronicle_section, is_wide, lieutenant_words, lieutenants_roomed, picture_section, programs_section, scenario_section, schedule_section, verdict_told}
+use Rattle.show_page.specs.Account.{accesses_section, bound_told, chronicle_section, lieutenant_words, lieutenants_roomed, picture_section, programs_section, scenario_section, schedule_section, sheet_of, verdict_told}
 use Rattle.show_page.specs.Room.{room_for_sections}
 
 -- Returns the section with the space-time diagram of a signed campaign.
 abbrev pub diagram_section : Chronicle → Section
-diagram_section c = picture_section (is_wide c.scenario c.accesses) (signed_svg c)
+diagram_section c = picture_section (sheet_of c.scenario c.accesses) (signed_svg c)
 
 -- The heading of the section that says which orders each lieutenant accepted, by which chains, and what he decides.
 unfoldable pub lieutenants_heading : List ℕ
@@ -54,13 +54,13 @@ verdict_part v = verdict_told v (bound_told v.bound (bound_words false))
 -- which the campaign was played, if there is one.
 abbrev pub sections : List ℕ → Option (List (List Repeat)) → Chronicle → List Section
 sections text schedule c =
-    scenario_section text ∷ schedule_section schedule ∷ programs_section c.scenario ∷ diagram_section c
-    ∷ lieutenants_section c ∷ accesses_section c.accesses ∷ chronicle_section (signed_text c) ∷ []
+    diagram_section c ∷ lieutenants_section c ∷ scenario_section text ∷ programs_section c.scenario
+    ∷ schedule_section schedule ∷ accesses_section c.accesses ∷ chronicle_section (signed_text c) ∷ []
 
--- Writes all sections, as far as there is room for them, and then the verdict.
+-- Writes the verdict, and then all sections, as far as there is room for them.
 unfoldable pub parts : List ℕ → Option (List (List Repeat)) → Chronicle → List ℕ
 parts text schedule c =
-    sections_in room_for_sections (sections text schedule c) ++ verdict_part c.verdict
+    verdict_part c.verdict ++ sections_in room_for_sections (sections text schedule c)
 
 -- Writes the page of a signed campaign, with the campaign's description, in the words of its diagram, as its title.
 abbrev pub signed_page_text : List ℕ → Option (List (List Repeat)) → Chronicle → List ℕ

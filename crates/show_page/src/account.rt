@@ -1,13 +1,14 @@
 //! Writes a campaign with oral messages as an HTML page. Every function here that returns a `Result` fails only if
 //! memory runs out.
 ghost use Rattle.std.specs.Prelude.{◌≡◌, ◌++◌, encode_utf8, flat_map, option_map, string_bytes, IfOk, OnOk};
-ghost use Rattle.show_page.specs.Account.{accesses_section, chronicle_heading, chronicle_section, diagram_section, hinted, is_wide, page_text, parts, picture_heading, picture_hint, picture_name, picture_section, programs_section, title};
+ghost use Rattle.show_page.specs.Account.{accesses_section, chronicle_heading, chronicle_section, diagram_section, hinted, page_text, parts, picture_heading, picture_hint, picture_name, picture_section, programs_section, sheet_for, sheet_of, title};
 ghost use Rattle.trace.specs.Text.{chronicle_text};
 
 use crate::accesses::accesses_section;
 use crate::printers::{chronicle_printer, picture_printer};
 use crate::room::{
-    NARROW_SHEET, ROOM_FOR_CHRONICLE, ROOM_FOR_PICTURE, ROOM_FOR_SECTIONS, lines_told, roomed,
+    LARGE_SHEET, ROOM_FOR_CHRONICLE, ROOM_FOR_PICTURE, ROOM_FOR_SECTIONS, SMALL_SHEET, lines_told,
+    roomed,
 };
 use crate::scenario::scenario_section;
 use crate::schedule::schedule_section;
@@ -15,7 +16,7 @@ use crate::sections::{lieutenants_section, programs_section};
 use crate::verdict::put_verdict;
 use board::Access;
 use book::Heard;
-use html::{Section, finish, put_paragraph, put_picture, put_sections, start};
+use html::{Section, Sheet, finish, put_paragraph, put_picture, put_sections, start};
 use round::Scenario;
 use show_diagram::campaign_svg;
 use show_diagram::layout::width;
@@ -48,7 +49,7 @@ pub fn page_text<H: Heard>(
     Ok(out)
 }
 
-/// Appends all sections of the page of a campaign, and then the verdict.
+/// Appends the verdict, and then all sections of the page of a campaign.
 fn put_parts<H: Heard>(
     alloc: Global,
     out: &mut String,
@@ -60,24 +61,24 @@ fn put_parts<H: Heard>(
     ensures { OnOk result (string_bytes out.new ≡ string_bytes out.old
         ++ parts scenario_text.now (option_map (λ s. s.now) schedule.entry) (H.seen table.now) chronicle.now) }
 {
-    let scenario = scenario_section(alloc, scenario_text)?;
-    let time = schedule_section(alloc, schedule)?;
-    let programs = programs_of(alloc, chronicle)?;
     let picture = diagram_section(alloc, table, chronicle)?;
     let lieutenants = lieutenants_section(alloc, table, chronicle)?;
+    let scenario = scenario_section(alloc, scenario_text)?;
+    let programs = programs_of(alloc, chronicle)?;
+    let time = schedule_section(alloc, schedule)?;
     let accesses = accesses_of(alloc, chronicle)?;
     let text = section_of(alloc, chronicle)?;
     let sections = [
-        scenario,
-        time,
-        programs,
         picture,
         lieutenants,
+        scenario,
+        programs,
+        time,
         accesses,
         text,
     ];
-    put_sections(out, ROOM_FOR_SECTIONS, &sections)?;
     put_verdict(out, chronicle)?;
+    put_sections(out, ROOM_FOR_SECTIONS, &sections)?;
     Ok(())
 }
 
@@ -120,33 +121,49 @@ fn diagram_section<H: Heard>(
     ensures { IfOk result (λ section. section ≡ diagram_section (H.seen table.now) chronicle.now) }
 {
     let svg = campaign_svg(alloc, table, chronicle)?;
-    let wide = is_wide(alloc, chronicle.scenario(), chronicle.accesses())?;
-    picture_section(alloc, wide, svg.as_str())
+    let sheet = sheet_of(alloc, chronicle.scenario(), chronicle.accesses())?;
+    picture_section(alloc, sheet, svg.as_str())
 }
 
-/// Checks whether the diagram of a campaign with these accesses is too wide for a narrow sheet, so that it is printed
-/// on a wide one.
+/// Returns the paper on which the diagram of a campaign with these accesses is printed.
 ///
 /// # Errors
 ///
 /// Fails if there is no memory for the words of an access.
-pub fn is_wide(alloc: Global, scenario: &Scenario, accesses: &[Access]) -> Result<bool, AllocError>
-    ensures { IfOk result (λ wide. wide ≡ is_wide scenario.now accesses.now) }
+pub fn sheet_of(
+    alloc: Global,
+    scenario: &Scenario,
+    accesses: &[Access],
+) -> Result<Sheet, AllocError>
+    ensures { IfOk result (λ sheet. sheet ≡ sheet_of scenario.now accesses.now) }
 {
-    Ok(width(alloc, scenario.generals(), accesses)? > NARROW_SHEET)
+    Ok(sheet_for(width(alloc, scenario.generals(), accesses)?))
 }
 
-/// Returns the section with a diagram in SVG, and with a hint on how to get the diagram as a separate file. If
-/// `is_wide` is true, the diagram is printed on a wide sheet.
+/// Returns the paper for a diagram that is `width` units of SVG wide, on which its letters can be read.
+fn sheet_for(width: u128) -> Sheet
+    ensures { result ≡ sheet_for width }
+{
+    if width > LARGE_SHEET {
+        Sheet::Several
+    } else if width > SMALL_SHEET {
+        Sheet::Large
+    } else {
+        Sheet::Small
+    }
+}
+
+/// Returns the section with a diagram in SVG, which is printed on this sheet, and with a hint on how to get the diagram
+/// as a separate file.
 ///
 /// # Errors
 ///
 /// Fails if there is no memory for the text.
-pub fn picture_section(alloc: Global, is_wide: bool, svg: &str) -> Result<Section, AllocError>
-    ensures { IfOk result (λ section. section ≡ picture_section is_wide svg.now) }
+pub fn picture_section(alloc: Global, sheet: Sheet, svg: &str) -> Result<Section, AllocError>
+    ensures { IfOk result (λ section. section ≡ picture_section sheet svg.now) }
 {
     let mut told = String::new(alloc);
-    put_hinted(&mut told, is_wide, svg)?;
+    put_hinted(&mut told, sheet, svg)?;
     roomed(
         alloc,
         picture_heading(),
@@ -156,12 +173,12 @@ pub fn picture_section(alloc: Global, is_wide: bool, svg: &str) -> Result<Sectio
     )
 }
 
-/// Appends a hint on how to get a diagram as a separate file, and then the diagram, which is in SVG.
-fn put_hinted(out: &mut String, is_wide: bool, svg: &str) -> Result<(), AllocError>
-    ensures { OnOk result (string_bytes out.new ≡ string_bytes out.old ++ hinted is_wide svg.now) }
+/// Appends a diagram, which is in SVG, and then a hint on how to get it as a separate file.
+fn put_hinted(out: &mut String, sheet: Sheet, svg: &str) -> Result<(), AllocError>
+    ensures { OnOk result (string_bytes out.new ≡ string_bytes out.old ++ hinted sheet svg.now) }
 {
-    put_paragraph(out, picture_hint())?;
-    put_picture(out, is_wide, picture_name(), svg)
+    put_picture(out, sheet, picture_name(), svg)?;
+    put_paragraph(out, picture_hint())
 }
 
 /// Returns the section with the text of a campaign's chronicle.

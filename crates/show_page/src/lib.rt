@@ -19,7 +19,7 @@ mod story;
 mod verdict;
 
 pub use accesses::accesses_section;
-pub use account::{chronicle_section, is_wide, page_text, picture_section};
+pub use account::{chronicle_section, page_text, picture_section, sheet_of};
 pub use laws::{campaign_pages_are_elements, campaign_pages_are_short, folds_hide_nothing};
 pub use room::ROOM_FOR_SECTIONS;
 pub use scenario::scenario_section;

@@ -45,9 +45,12 @@ pub(crate) fn share(generals: u8) -> usize
 /// The greatest number of units of a program that a page explains.
 pub(crate) const ROOM_FOR_UNITS: usize = 256;
 
-/// The greatest width of a diagram that is printed on a narrow sheet, in units of SVG. It does not include the margins,
-/// which are 16 units in all.
-pub(crate) const NARROW_SHEET: u128 = 1300;
+/// The greatest width of a diagram that is printed on a sheet like those of the text, in units of SVG. It does not
+/// include the margins, which are 16 units in all.
+pub(crate) const SMALL_SHEET: u128 = 1400;
+
+/// The greatest width of a diagram that is printed on one sheet of A3, likewise.
+pub(crate) const LARGE_SHEET: u128 = 2400;
 
 /// Returns a section with this title, text and room in bytes. If the page has no room for the text, a paragraph
 /// replaces it. It says that the text is too long and, in the words of `who`, where to find it.

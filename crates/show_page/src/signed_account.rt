@@ -6,7 +6,7 @@ ghost use Rattle.show_page.specs.SignedAccount.{diagram_section, parts, signed_p
 ghost use Rattle.trace.specs.SignedText.{signed_text};
 
 use crate::accesses::accesses_section;
-use crate::account::{chronicle_section, is_wide, picture_section};
+use crate::account::{chronicle_section, picture_section, sheet_of};
 use crate::lieutenants::lieutenants_section;
 use crate::room::ROOM_FOR_SECTIONS;
 use crate::scenario::scenario_section;
@@ -43,7 +43,7 @@ pub fn signed_page_text(
     Ok(out)
 }
 
-/// Appends all sections of the page of a signed campaign, and then the verdict.
+/// Appends the verdict, and then all sections of the page of a signed campaign.
 fn put_parts(
     alloc: Global,
     out: &mut String,
@@ -54,24 +54,24 @@ fn put_parts(
     ensures { OnOk result (string_bytes out.new ≡ string_bytes out.old
         ++ parts scenario_text.now (option_map (λ s. s.now) schedule.entry) chronicle.now) }
 {
-    let scenario = scenario_section(alloc, scenario_text)?;
-    let time = schedule_section(alloc, schedule)?;
-    let programs = programs_of(alloc, chronicle)?;
     let picture = diagram_section(alloc, chronicle)?;
     let lieutenants = lieutenants_section(alloc, chronicle)?;
+    let scenario = scenario_section(alloc, scenario_text)?;
+    let programs = programs_of(alloc, chronicle)?;
+    let time = schedule_section(alloc, schedule)?;
     let accesses = accesses_of(alloc, chronicle)?;
     let text = section_of(alloc, chronicle)?;
     let sections = [
-        scenario,
-        time,
-        programs,
         picture,
         lieutenants,
+        scenario,
+        programs,
+        time,
         accesses,
         text,
     ];
-    put_sections(out, ROOM_FOR_SECTIONS, &sections)?;
     put_verdict_of(out, chronicle)?;
+    put_sections(out, ROOM_FOR_SECTIONS, &sections)?;
     Ok(())
 }
 
@@ -111,8 +111,8 @@ fn diagram_section(alloc: Global, chronicle: &SignedChronicle) -> Result<Section
     ensures { IfOk result (λ section. section ≡ diagram_section chronicle.now) }
 {
     let svg = signed_campaign_svg(alloc, chronicle)?;
-    let wide = is_wide(alloc, chronicle.scenario(), chronicle.accesses())?;
-    picture_section(alloc, wide, svg.as_str())
+    let sheet = sheet_of(alloc, chronicle.scenario(), chronicle.accesses())?;
+    picture_section(alloc, sheet, svg.as_str())
 }
 
 /// Returns the section with the text of a signed campaign's chronicle.

@@ -7,8 +7,7 @@ use show_chains::bound_words;
 use std::alloc::AllocError;
 use world::Verdict;
 
-/// Appends the verdict on a signed campaign, with a paragraph for each of its statements. The last one is what the
-/// algorithm promises (TOPLAS 1982, Theorem 2).
+/// Appends the verdict on a signed campaign: its outcome, and what the algorithm promises (TOPLAS 1982, Theorem 2).
 pub(crate) fn put_verdict(out: &mut String, verdict: Verdict) -> Result<(), AllocError>
     ensures { OnOk result (string_bytes out.new ≡ string_bytes out.old ++ verdict_part verdict) }
 {

@@ -1,13 +1,13 @@
 //! The verdict on a campaign with oral messages, and what the algorithm promised.
 ghost use Rattle.std.specs.Prelude.{◌≡◌, ◌++◌, string_bytes, OnOk};
-ghost use Rattle.show_page.specs.Account.{bound_told, promise_words, verdict_heading, verdict_part, verdict_told};
+ghost use Rattle.show_page.specs.Account.{bound_told, outcome_words, promise_words, verdict_part, verdict_told};
 
-use html::{put_heading, put_paragraph};
-use show_diagram::foot::{alike_words, bound_words, obeyed_words};
+use html::put_paragraph;
+use show_diagram::foot::bound_words;
 use std::alloc::AllocError;
 use world::{Chronicle, Verdict};
 
-/// Appends the verdict on a campaign with oral messages, with a paragraph for each of its statements.
+/// Appends the verdict on a campaign with oral messages: its outcome, and what the algorithm promises.
 pub(crate) fn put_verdict(out: &mut String, chronicle: &Chronicle) -> Result<(), AllocError>
     ensures { OnOk result (string_bytes out.new ≡ string_bytes out.old ++ verdict_part chronicle.now.verdict) }
 {
@@ -15,7 +15,8 @@ pub(crate) fn put_verdict(out: &mut String, chronicle: &Chronicle) -> Result<(),
     put_verdict_told(out, verdict, bound_told(verdict.bound, bound_words(false)))
 }
 
-/// Appends this verdict, with a paragraph for each of its statements. `bound` contains the words about the bound.
+/// Appends this verdict: a paragraph on the campaign's outcome, and one with the words `bound`, on what the algorithm
+/// promises.
 ///
 /// # Errors
 ///
@@ -23,10 +24,34 @@ pub(crate) fn put_verdict(out: &mut String, chronicle: &Chronicle) -> Result<(),
 pub fn put_verdict_told(out: &mut String, verdict: Verdict, bound: &str) -> Result<(), AllocError>
     ensures { OnOk result (string_bytes out.new ≡ string_bytes out.old ++ verdict_told verdict bound.now) }
 {
-    put_heading(out, verdict_heading())?;
-    put_paragraph(out, alike_words(verdict.alike))?;
-    put_paragraph(out, obeyed_words(verdict.obeyed))?;
+    put_paragraph(out, outcome_words(verdict.alike, verdict.obeyed))?;
     put_paragraph(out, bound)
+}
+
+/// Returns the words for a campaign's outcome: whether the loyal lieutenants decide alike, and whether they obey a loyal
+/// commander. If `obeyed` is `None`, the commander is a traitor.
+#[tactic(auto, unfolding(crate::specs::Account::outcome_words))]
+fn outcome_words(alike: bool, obeyed: Option<bool>) -> &'static str
+    ensures { result.now ≡ outcome_words alike obeyed }
+{
+    match (alike, obeyed) {
+        (true, Some(true)) => "The loyal lieutenants decide alike, and obey the loyal commander.",
+        (true, Some(false)) => {
+            "The loyal lieutenants decide alike, but do not obey the loyal commander."
+        }
+        (false, Some(true)) => {
+            "The loyal lieutenants do not decide alike, but obey the loyal commander."
+        }
+        (false, Some(false)) => {
+            "The loyal lieutenants do not decide alike, and do not all obey the loyal commander."
+        }
+        (true, None) => {
+            "The loyal lieutenants decide alike; the commander is a traitor, so nobody has to obey him."
+        }
+        (false, None) => {
+            "The loyal lieutenants do not decide alike; the commander is a traitor, so nobody has to obey him."
+        }
+    }
 }
 
 /// Returns the words for what the algorithm promises (TOPLAS 1982, IC1 and IC2) if the bound holds, and otherwise
@@ -44,12 +69,4 @@ fn promise_words() -> &'static str
 {
     "The bound holds: there are few enough traitors, so that loyal lieutenants decide alike, and obey a loyal \
      commander, whatever the traitors do."
-}
-
-/// Returns the heading of the verdict.
-#[tactic(auto, unfolding(crate::specs::Account::verdict_heading))]
-fn verdict_heading() -> &'static str
-    ensures { result.now ≡ verdict_heading }
-{
-    "Verdict, and what was promised"
 }
