@@ -10,12 +10,12 @@ ghost use Rattle.world.specs.Promises.{AgreeIfTolerable, AreSafeThroughout, AreW
 ghost use Rattle.world.specs.Replay.{replay_of};
 ghost use Rattle.world.specs.Safety.{IsShort};
 ghost use Rattle.world.specs.World.{oral_kind};
-ghost use Rattle.threads.specs.Answers.{mishap_as, IfUnlike};
+ghost use Rattle.threads.specs.Outcomes.{halt_as, IfUnlike};
 ghost use Rattle.threads.specs.declared.error.MusterError.TheVariants.{Memory, Unaccounted, Spawn, Post};
 
 use crate::account::are_accounted;
 use crate::delivered::Delivered;
-use crate::mishap::Mishap;
+use crate::halt::Halt;
 use arrayvec::ArrayVec;
 use board::{Access, Board};
 use round::{Round, Scenario};
@@ -27,7 +27,7 @@ use world::Chronicle;
 
 /// Evidence that a board does not account for the letters of a campaign. Only `accounted` creates one.
 #[derive(Drop)]
-pub(crate) struct Unlike {
+pub struct Unlike {
     /// A snapshot of this board.
     board: Snapshot<Board>,
 }
@@ -47,34 +47,34 @@ pub(crate) fn judge<R: Threads + Sync, D: Delivered + Sync>(
     board: &Board,
     rows: &[Round],
     told: &D,
-) -> Result<ArrayVec<u32, 12>, Mishap>
+) -> Result<ArrayVec<u32, 12>, Halt>
     requires rounds { length rows.now ≡ suc scenario.now.bound }
     requires told { D.was_told scenario.now rows.now told.now }
     requires all { D.count told.now ≡ suc scenario.now.bound }
     ensures legal { OnOk result (IsLegal scenario.now.board board.now.ledger) }
     ensures accounted { OnOk result (AreAccounted D.kind scenario.now [] board.now.ledger rows.now) }
     ensures decisions { IfOk result (λ orders. orders.items ≡ D.decided scenario.now rows.now) }
-    ensures unaccounted { IfErr result (λ e. mishap_as e ≡ Unaccounted →
+    ensures unaccounted { IfErr result (λ e. halt_as e ≡ Unaccounted →
         ¬ ((board.now.opening ≡ scenario.now.board) × AreAccounted D.kind scenario.now [] board.now.ledger rows.now)) }
-    ensures memory { IfErr result (λ e. mishap_as e ≡ Memory → board.now.opening ≡ scenario.now.board) }
-    ensures started { IfErr result (λ e. mishap_as e ≢ Spawn) }
-    ensures posted { IfErr result (λ e. mishap_as e ≢ Post) }
+    ensures memory { IfErr result (λ e. halt_as e ≡ Memory → board.now.opening ≡ scenario.now.board) }
+    ensures started { IfErr result (λ e. halt_as e ≢ Spawn) }
+    ensures posted { IfErr result (λ e. halt_as e ≢ Post) }
     ensures unlike { IfErr result (λ e. IfUnlike e (λ b. b ≡ board.now)) }
 {
     let (compared, decided) = thread::join(
         rt,
-        || -> Result<(), Mishap>
+        || -> Result<(), Halt>
             requires rounds { length rows.now ≡ suc scenario.now.bound }
             requires told { D.was_told scenario.now rows.now told.now }
             ensures legal { OnOk result (IsLegal scenario.entry.now.board board.entry.now.ledger) }
             ensures accounted { OnOk result (AreAccounted D.kind scenario.entry.now [] board.entry.now.ledger rows.entry.now) }
-            ensures unaccounted { IfErr result (λ e. mishap_as e ≡ Unaccounted
+            ensures unaccounted { IfErr result (λ e. halt_as e ≡ Unaccounted
                 → ¬ ((board.entry.now.opening ≡ scenario.entry.now.board)
                 × AreAccounted D.kind scenario.entry.now [] board.entry.now.ledger rows.entry.now)) }
             ensures opening { OnOk result (board.entry.now.opening ≡ scenario.entry.now.board) }
-            ensures memory { IfErr result (λ e. mishap_as e ≡ Memory → board.entry.now.opening ≡ scenario.entry.now.board) }
-            ensures started { IfErr result (λ e. mishap_as e ≢ Spawn) }
-            ensures posted { IfErr result (λ e. mishap_as e ≢ Post) }
+            ensures memory { IfErr result (λ e. halt_as e ≡ Memory → board.entry.now.opening ≡ scenario.entry.now.board) }
+            ensures started { IfErr result (λ e. halt_as e ≢ Spawn) }
+            ensures posted { IfErr result (λ e. halt_as e ≢ Post) }
             ensures unlike { IfErr result (λ e. IfUnlike e (λ b. b ≡ board.entry.now)) }
         { account(alloc, scenario, board, rows, told) },
         || -> Result<ArrayVec<u32, 12>, AllocError>
@@ -103,17 +103,17 @@ fn account<D: Delivered>(
     board: &Board,
     rows: &[Round],
     told: &D,
-) -> Result<(), Mishap>
+) -> Result<(), Halt>
     requires rounds { length rows.now ≡ suc scenario.now.bound }
     requires told { D.was_told scenario.now rows.now told.now }
     ensures legal { OnOk result (IsLegal scenario.now.board board.now.ledger) }
     ensures opening { OnOk result (board.now.opening ≡ scenario.now.board) }
     ensures accounted { OnOk result (AreAccounted D.kind scenario.now [] board.now.ledger rows.now) }
-    ensures unaccounted { IfErr result (λ e. mishap_as e ≡ Unaccounted →
+    ensures unaccounted { IfErr result (λ e. halt_as e ≡ Unaccounted →
         ¬ ((board.now.opening ≡ scenario.now.board) × AreAccounted D.kind scenario.now [] board.now.ledger rows.now)) }
-    ensures memory { IfErr result (λ e. mishap_as e ≡ Memory → board.now.opening ≡ scenario.now.board) }
-    ensures started { IfErr result (λ e. mishap_as e ≢ Spawn) }
-    ensures posted { IfErr result (λ e. mishap_as e ≢ Post) }
+    ensures memory { IfErr result (λ e. halt_as e ≡ Memory → board.now.opening ≡ scenario.now.board) }
+    ensures started { IfErr result (λ e. halt_as e ≢ Spawn) }
+    ensures posted { IfErr result (λ e. halt_as e ≢ Post) }
     ensures unlike { IfErr result (λ e. IfUnlike e (λ b. b ≡ board.now)) }
 {
     let is_opened = board.opening().as_slice() == scenario.board().as_slice();

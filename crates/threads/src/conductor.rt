@@ -2,9 +2,9 @@
 ghost use Rattle.std.specs.Prelude.{◌≡◌, ◌≢◌, ◌≤◌, ◌∷◌, [], suc, All, List, length, IfOk, IfErr};
 ghost use Rattle.round.specs.Letters.{Letter as LetterSeen};
 ghost use Rattle.world.specs.Kind.{each};
-ghost use Rattle.threads.specs.Answers.{halt_as};
 ghost use Rattle.threads.specs.Duties.{duty_of};
 ghost use Rattle.threads.specs.Inboxes.{AreByGeneral, AreOwn};
+ghost use Rattle.threads.specs.Outcomes.{halt_as};
 ghost use Rattle.threads.specs.declared.error.MusterError.TheVariants.{Spawn, Post as PostFull};
 
 use crate::camp::Crew;

@@ -3,7 +3,8 @@ ghost use Rattle.std.specs.Prelude.{◌≡◌, ◌≢◌, ◌≤◌, ◌++◌, s
 ghost use Rattle.std.specs.Ordering.{nat_cmp};
 ghost use Rattle.round.specs.Letters.{Letter as LetterSeen};
 ghost use Rattle.round.specs.Origin.{AreLettersOf};
-ghost use Rattle.threads.specs.Answers.{halt_as, HasStrayedIn};
+ghost use Rattle.threads.specs.Answers.{HasStrayedIn};
+ghost use Rattle.threads.specs.Outcomes.{halt_as};
 ghost use Rattle.threads.specs.declared.error.MusterError.TheVariants.{Spawn, Post as PostFull};
 
 use crate::claim::Claim;
@@ -19,7 +20,7 @@ use std::sync::Wait;
 /// Evidence that the letters taken for a round are not exactly one letter of that round for each general. Only
 /// `of_round` creates one.
 #[derive(Clone, Copy)]
-pub(crate) struct Strayed {
+pub struct Strayed {
     /// The round for which the letters were taken.
     round: u32,
 }
