@@ -1,5 +1,5 @@
 //! Plays signed campaigns with one thread for each general.
-ghost use Rattle.std.specs.Prelude.{◌≡◌, ◌↔◌, suc, All, IfOk, IfErr};
+ghost use Rattle.std.specs.Prelude.{◌≡◌, ◌↔◌, suc, All, IfOk, IfErr, IfSome};
 ghost use Rattle.board.specs.Board.{IsLegal};
 ghost use Rattle.signed.specs.Chronicle.{signed_chronicle_of, signed_decisions};
 ghost use Rattle.signed.specs.Kind.{signed_kind};
@@ -7,7 +7,7 @@ ghost use Rattle.signed.specs.Promises.{AgreeUnderSignedBound, IsSignedVerdictOn
 ghost use Rattle.world.specs.KindLists.{IsComplete, names_in, replay_world, replayed};
 ghost use Rattle.world.specs.Promises.{AreSafeThroughout, AreWhole, IsWellUnderBound};
 ghost use Rattle.world.specs.Safety.{IsShort};
-ghost use Rattle.threads.specs.Outcomes.{LacksMemory, LacksAccount, LacksThread, LacksRoom, HasAnEndForEach};
+ghost use Rattle.threads.specs.Outcomes.{LacksMemory, LacksAccount, LacksThread, LacksRoom, HasAnEndForEach, IsHaltOf};
 ghost use Rattle.threads.specs.Served.{AreGated};
 ghost use Rattle.threads.specs.declared.error.MusterError.TheVariants.{Memory, Unaccounted, Spawn, Post};
 
@@ -70,6 +70,7 @@ pub fn muster_signed<R: Threads + Wait + Sync, G: Gate + Sync>(
     ensures spawn { IfErr result (λ failed. failed.error ≡ Spawn ↔ LacksThread failed.outcomes) }
     ensures post { IfErr result (λ failed. failed.error ≡ Post ↔ LacksRoom failed.outcomes) }
     ensures ends { IfErr result (λ failed. HasAnEndForEach scenario.generals failed.outcomes) }
+    ensures found { IfErr result (λ failed. IfSome failed.outcomes.halt (IsHaltOf signed_kind scenario)) }
 {
     muster_signed_with(rt, alloc, scenario, gate, STACK)
 }
@@ -107,6 +108,7 @@ pub fn muster_signed_with<R: Threads + Wait + Sync, G: Gate + Sync>(
     ensures spawn { IfErr result (λ failed. failed.error ≡ Spawn ↔ LacksThread failed.outcomes) }
     ensures post { IfErr result (λ failed. failed.error ≡ Post ↔ LacksRoom failed.outcomes) }
     ensures ends { IfErr result (λ failed. HasAnEndForEach scenario.generals failed.outcomes) }
+    ensures found { IfErr result (λ failed. IfSome failed.outcomes.halt (IsHaltOf signed_kind scenario)) }
 {
     let campaign = muster_as::<R, G, DeliveredChains>(rt, alloc, &scenario, gate, stack)?;
     let AccountedCampaign {

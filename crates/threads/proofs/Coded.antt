@@ -86,13 +86,13 @@ callers_room (Strayed x) = (λ is. absurd cc, λ why. absurd why)
 callers_room (Unlike x) = (λ is. absurd cc, λ why. absurd why)
 
 pub memory_by : (halt : Option Halt) (lowest : Option Failure) (e : MusterError) → error_by halt lowest ≡ Some e → (e ≡ errors.Memory ↔ IsDecidedBy IsRefused IsOutOfMemory halt lowest)
-memory_by = decided IsRefused IsOutOfMemory errors.Memory cc his_memory callers_memory
+memory_by = decided IsRefused IsOutOfMemory errors.Memory (λ is. cc) his_memory callers_memory
 
 pub account_by : (halt : Option Halt) (lowest : Option Failure) (e : MusterError) → error_by halt lowest ≡ Some e → (e ≡ errors.Unaccounted ↔ IsDecidedBy IsForeign IsUnfit halt lowest)
-account_by = decided IsForeign IsUnfit errors.Unaccounted cc his_account callers_account
+account_by = decided IsForeign IsUnfit errors.Unaccounted (λ is. cc) his_account callers_account
 
 pub room_by : (halt : Option Halt) (lowest : Option Failure) (e : MusterError) → error_by halt lowest ≡ Some e → (e ≡ errors.Post ↔ IsDecidedBy IsReturned (λ halt. ⊥) halt lowest)
-room_by = decided IsReturned (λ halt. ⊥) errors.Post cc his_room callers_room
+room_by = decided IsReturned (λ halt. ⊥) errors.Post (λ is. cc) his_room callers_room
 
 his_thread : (f : Failure) → failure_as f ≢ errors.Spawn
 his_thread failures.Memory is = cc
@@ -120,8 +120,8 @@ thread_by (Some Memory) (Some f) e is = never (failure_as f) e is (his_thread f)
 thread_by (Some (Failed x)) (Some f) e is = never (failure_as f) e is (his_thread f)
 thread_by (Some (Strayed x)) (Some f) e is = never (failure_as f) e is (his_thread f)
 thread_by (Some (Unlike x)) (Some f) e is = never (failure_as f) e is (his_thread f)
-thread_by (Some Unprepared) None e is = never errors.Memory e is cc
-thread_by (Some Memory) None e is = never errors.Memory e is cc
-thread_by (Some (Failed x)) None e is = never errors.Unaccounted e is cc
-thread_by (Some (Strayed x)) None e is = never errors.Unaccounted e is cc
-thread_by (Some (Unlike x)) None e is = never errors.Unaccounted e is cc
+thread_by (Some Unprepared) None e is = never errors.Memory e is (λ no. cc)
+thread_by (Some Memory) None e is = never errors.Memory e is (λ no. cc)
+thread_by (Some (Failed x)) None e is = never errors.Unaccounted e is (λ no. cc)
+thread_by (Some (Strayed x)) None e is = never errors.Unaccounted e is (λ no. cc)
+thread_by (Some (Unlike x)) None e is = never errors.Unaccounted e is (λ no. cc)

@@ -1,8 +1,12 @@
 -- Which error a muster returns, depending on how its threads have ended (own).
-use Rattle.std.specs.Prelude.{ℕ, ◌≡◌, List, length, IsSortedByKey, Option, Some, None, map, option_map, is_some, find, IsSomeAnd}
+use Rattle.std.specs.Prelude.{ℕ, ◌≡◌, List, [], length, IsSortedByKey, Option, Some, None, map, option_map, is_some, find, IsSomeAnd}
 use Rattle.std.specs.Option.{option_flatten}
 use Rattle.std.specs.Ordering.{nat_cmp}
 use Rattle.board.specs.Ledger.{RecordedBoard}
+use Rattle.round.specs.Origin.{AreLettersOf}
+use Rattle.round.specs.Scenario.{Scenario}
+use Rattle.world.specs.Kind.{Kind}
+use Rattle.world.specs.KindAccounted.{AreAccounted}
 use Rattle.threads.specs.declared.error.MusterError.{MusterError}
 use Rattle.threads.specs.declared.error.MusterError.TheVariants as errors
 use Rattle.threads.specs.declared.failure.Failure.{Failure}
@@ -122,3 +126,11 @@ pub record HasAnEndForEach (n : ℕ) (o : Outcomes) : Type 0 where
 abbrev pub IfUnlike : Halt → (RecordedBoard → Type 0) → Type 0
 IfUnlike (Unlike found) Is = Is found.board.value
 IfUnlike halt Is = Unit {0}
+
+-- States that what halted the calling thread is about this campaign: the strayed letters are not one of their round for
+-- each general, or the board with the scenario's words does not account for the letters.
+abbrev pub IsHaltOf : Kind → Scenario → Halt → Type 0
+IsHaltOf K s (Strayed found) = ¬ AreLettersOf s found.round found.letters.value.items
+IsHaltOf K s (Unlike found) = (found.board.value.opening ≡ s.board)
+    × (¬ AreAccounted K s [] found.board.value.ledger found.rounds.value.items)
+IsHaltOf K s halt = Unit {0}

@@ -4,7 +4,7 @@ ghost use Rattle.round.specs.Letters.{Letter as LetterSeen};
 ghost use Rattle.threads.specs.Seen.{PosterSeen, poster_seen};
 ghost use Rattle.threads.specs.Answers.{AreAscending, HasAllStarted};
 ghost use Rattle.threads.specs.Inboxes.{AreOwn};
-ghost use Rattle.threads.specs.Outcomes.{LacksMemory, LacksAccount, LacksThread, LacksRoom, HasAnEndForEach};
+ghost use Rattle.threads.specs.Outcomes.{LacksMemory, LacksAccount, LacksThread, LacksRoom, HasAnEndForEach, IsHaltOf};
 ghost use Rattle.threads.specs.Served.{IsGated};
 ghost use Rattle.threads.specs.declared.error.MusterError.TheVariants.{Memory, Unaccounted, Spawn, Post};
 ghost use Rattle.threads.specs.declared.halt.Halt.TheVariants.{Unstarted};
@@ -71,6 +71,7 @@ pub(crate) fn collect<
     ensures spawn { IfErr result (λ failed. failed.error ≡ Spawn ↔ LacksThread failed.outcomes) }
     ensures post { IfErr result (λ failed. failed.error ≡ Post ↔ LacksRoom failed.outcomes) }
     ensures ends { IfErr result (λ failed. HasAnEndForEach scenario.now.generals failed.outcomes) }
+    ensures found { IfErr result (λ failed. IfSome failed.outcomes.halt (IsHaltOf D.kind scenario.now)) }
 {
     let (camp, posters, collector) = Crew::<G, J, C>::new(alloc, scenario.generals(), gate, board)?;
     let ending = through_residents::<R, G, J, C, D>(
@@ -115,6 +116,7 @@ fn through_residents<
     ensures all { IfOk result
         (λ ending. HasAllStarted ending.outcome → length ending.generals.items ≡ length posters.items) }
     ensures ascending { IfOk result (λ ending. AreAscending ending.generals.items) }
+    ensures found { IfOk result (λ ending. IfErr ending.outcome (IsHaltOf D.kind scenario.now)) }
     ensures rounds { IfOk result
         (λ ending. IfOk ending.outcome (λ r. length r.0.items ≡ suc scenario.now.bound)) }
     ensures told { IfOk result (λ ending. IfOk ending.outcome (λ r. D.was_told scenario.now r.0.items r.1)) }
@@ -141,6 +143,7 @@ fn through_residents<
             requires claim { (l : LetterSeen) → IsGated (G.passed camp.now.gate.now) l → C.holds l }
             ensures all { HasAllStarted result.outcome → length result.generals.items ≡ length posters.entry.items }
             ensures ascending { AreAscending result.generals.items }
+            ensures found { IfErr result.outcome (IsHaltOf D.kind scenario.entry.now) }
             ensures rounds { IfOk result.outcome (λ r. length r.0.items ≡ suc scenario.entry.now.bound) }
             ensures told { IfOk result.outcome (λ r. D.was_told scenario.entry.now r.0.items r.1) }
             ensures claims { IfOk result.outcome (λ r. All (λ letters. All C.holds letters) r.0.items) }
@@ -193,6 +196,7 @@ fn finish<R: Threads + Wait, G, J: Room, C: Claim, D: Delivered>(
     ensures unstarted { IfSome unstarted (λ evidence. result.outcome ≡ Err (Unstarted evidence)) }
     ensures all { length result.generals.items ≡ length handles.items }
     ensures ascending { AreAscending result.generals.items }
+    ensures found { IfErr result.outcome (IsHaltOf D.kind scenario.now) }
     ensures rounds { IfOk result.outcome (λ r. length r.0.items ≡ suc scenario.now.bound) }
     ensures told { IfOk result.outcome (λ r. D.was_told scenario.now r.0.items r.1) }
     ensures claims { IfOk result.outcome (λ r. All (λ letters. All C.holds letters) r.0.items) }
@@ -221,6 +225,7 @@ fn conducted<R: Wait, G, J: Room, C: Claim, D: Delivered>(
     requires own { AreOwn camp.now.inboxes.items }
     requires tally { scenario.now.generals ≤ camp.now.tally.generals }
     ensures unstarted { IfSome unstarted (λ evidence. result ≡ Err (Unstarted evidence)) }
+    ensures found { IfErr result (IsHaltOf D.kind scenario.now) }
     ensures rounds { IfOk result (λ r. length r.0.items ≡ suc scenario.now.bound) }
     ensures told { IfOk result (λ r. D.was_told scenario.now r.0.items r.1) }
     ensures claims { IfOk result (λ r. All (λ letters. All C.holds letters) r.0.items) }

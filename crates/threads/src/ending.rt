@@ -9,7 +9,6 @@ use crate::failed_muster::FailedMuster;
 use crate::failure::Failure;
 use crate::general_end::GeneralEnd;
 use crate::halt::Halt;
-use crate::outcomes::Outcomes;
 use arrayvec::ArrayVec;
 
 /// How the threads of a campaign have ended. Only `Ending::told` turns it into a result, and that looks at every
@@ -48,15 +47,13 @@ impl<T: Drop> Ending<T> {
     {
         let Ending { outcome, generals } = self;
         let lowest = lowest_failure(generals.as_slice());
-        let (error, halt) = match (outcome, lowest) {
-            (Ok(well), None) => return Ok((well, generals)),
-            (Ok(_), Some(failure)) => (failure.error(), None),
-            (Err(halt), lowest) => (error_of(&halt, lowest), Some(halt)),
-        };
-        Err(FailedMuster {
-            error,
-            outcomes: Outcomes { halt, generals },
-        })
+        match outcome {
+            Ok(well) => match lowest {
+                None => Ok((well, generals)),
+                Some(failure) => Err(FailedMuster::new(failure.error(), None, generals)),
+            },
+            Err(halt) => Err(FailedMuster::new(error_of(&halt, lowest), Some(halt), generals)),
+        }
     }
 }
 

@@ -10,7 +10,7 @@ ghost use Rattle.world.specs.Promises.{AgreeIfTolerable, AreSafeThroughout, AreW
 ghost use Rattle.world.specs.Replay.{replay_of};
 ghost use Rattle.world.specs.Safety.{IsShort};
 ghost use Rattle.world.specs.World.{oral_kind};
-ghost use Rattle.threads.specs.Outcomes.{IfUnlike, LacksMemory, LacksAccount, LacksThread, LacksRoom, HasAnEndForEach};
+ghost use Rattle.threads.specs.Outcomes.{IfUnlike, LacksMemory, LacksAccount, LacksThread, LacksRoom, HasAnEndForEach, IsHaltOf};
 ghost use Rattle.threads.specs.Served.{AreGated, IsGated};
 ghost use Rattle.threads.specs.declared.error.MusterError.TheVariants.{Memory, Unaccounted, Spawn, Post};
 
@@ -90,6 +90,7 @@ pub fn muster<R: Threads + Wait + Sync, G: Gate + Sync>(
     ensures spawn { IfErr result (λ failed. failed.error ≡ Spawn ↔ LacksThread failed.outcomes) }
     ensures post { IfErr result (λ failed. failed.error ≡ Post ↔ LacksRoom failed.outcomes) }
     ensures ends { IfErr result (λ failed. HasAnEndForEach scenario.generals failed.outcomes) }
+    ensures found { IfErr result (λ failed. IfSome failed.outcomes.halt (IsHaltOf oral_kind scenario)) }
 {
     muster_with(rt, alloc, scenario, gate, STACK)
 }
@@ -126,6 +127,7 @@ pub fn muster_with<R: Threads + Wait + Sync, G: Gate + Sync>(
     ensures spawn { IfErr result (λ failed. failed.error ≡ Spawn ↔ LacksThread failed.outcomes) }
     ensures post { IfErr result (λ failed. failed.error ≡ Post ↔ LacksRoom failed.outcomes) }
     ensures ends { IfErr result (λ failed. HasAnEndForEach scenario.generals failed.outcomes) }
+    ensures found { IfErr result (λ failed. IfSome failed.outcomes.halt (IsHaltOf oral_kind scenario)) }
 {
     let campaign = muster_as::<R, G, Received>(rt, alloc, &scenario, gate, stack)?;
     let AccountedCampaign {
@@ -163,6 +165,7 @@ pub fn muster_as<R: Threads + Wait + Sync, G: Gate + Sync, D: Delivered + Sync>(
     ensures spawn { IfErr result (λ failed. failed.error ≡ Spawn ↔ LacksThread failed.outcomes) }
     ensures post { IfErr result (λ failed. failed.error ≡ Post ↔ LacksRoom failed.outcomes) }
     ensures ends { IfErr result (λ failed. HasAnEndForEach scenario.now.generals failed.outcomes) }
+    ensures found { IfErr result (λ failed. IfSome failed.outcomes.halt (IsHaltOf D.kind scenario.now)) }
 {
     let threads = scenario.generals();
     let unshared = Unshared::new(Board::new(alloc, *scenario.board()), threads + 1);
@@ -200,6 +203,7 @@ fn mustered<R: Threads + Wait + Sync, G: Gate + Sync, J: Room + Send + Sync, D: 
     ensures spawn { IfErr result (λ failed. failed.error ≡ Spawn ↔ LacksThread failed.outcomes) }
     ensures post { IfErr result (λ failed. failed.error ≡ Post ↔ LacksRoom failed.outcomes) }
     ensures ends { IfErr result (λ failed. HasAnEndForEach scenario.now.generals failed.outcomes) }
+    ensures found { IfErr result (λ failed. IfSome failed.outcomes.halt (IsHaltOf D.kind scenario.now)) }
 {
     let threads = scenario.generals() + 1;
     let (board, mut witnesses) = SharedBoard::<J>::new(alloc, unshared, threads)?;
@@ -251,12 +255,13 @@ fn by_board<
     ensures spawn { IfErr result (λ failed. failed.error ≡ Spawn ↔ LacksThread failed.outcomes) }
     ensures post { IfErr result (λ failed. failed.error ≡ Post ↔ LacksRoom failed.outcomes) }
     ensures ends { IfErr result (λ failed. HasAnEndForEach scenario.now.generals failed.outcomes) }
+    ensures found { IfErr result (λ failed. IfSome failed.outcomes.halt (IsHaltOf D.kind scenario.now)) }
 {
     let ((rounds, told), generals) = collect::<R, G, J, C, D>(
         rt, alloc, scenario, gate, &board, witnesses, stack,
     )?;
     let board = board.into_board(rt, witness);
-    let judged = judge(rt, alloc, scenario, &board, rounds.as_slice(), &told);
+    let judged = judge(rt, alloc, scenario, &board, &rounds, &told);
     let (decisions, _generals) = Ending::new(judged, generals).told()?;
     Ok(AccountedCampaign {
         accesses: board.into_ledger(),
