@@ -3,7 +3,9 @@ use Rattle.std.specs.Prelude.{ℕ, ◌≢◌, List}
 use Rattle.campaign_schedules.specs.Arranged.{IsUnarranged}
 use Rattle.round.specs.Scenario.{Scenario as OralScenario}
 use Rattle.scenario.specs.Reading.{Tells}
+use Rattle.threads.specs.Outcomes.{IsErrorFor}
 use Rattle.threads.specs.declared.error.MusterError.TheVariants as muster
+use Rattle.threads.specs.declared.outcomes.Outcomes.{Outcomes}
 use Rattle.cli_tasks.specs.declared.refusal.InputRefusal.{InputRefusal}
 use Rattle.cli_tasks.specs.declared.refusal.InputRefusal.TheVariants.{Threads, Accesses, Memory}
 use Rattle.cli_tasks.specs.Refusals.{RefusesScenario}
@@ -14,9 +16,9 @@ abbrev pub RefusesListed : List ℕ → List ℕ → InputRefusal → Type 0
 RefusesListed list text (Accesses fault) = (s : OralScenario) × Tells text s × IsUnarranged s list fault
 RefusesListed list text refusal = RefusesScenario text refusal
 
--- States that a run with threads made no chronicle, or that memory ran out. Which error of the threads occurred is not
--- stated.
+-- States that a run with threads made no chronicle, and that its threads ended so that the error is this one, or that
+-- memory ran out.
 abbrev pub RefusesMuster : InputRefusal → Type 0
-RefusesMuster (Threads error) = error ≢ muster.Memory
+RefusesMuster (Threads error) = (error ≢ muster.Memory) × ((o : Outcomes) × IsErrorFor o error)
 RefusesMuster Memory = Unit {0}
 RefusesMuster _ = ⊥

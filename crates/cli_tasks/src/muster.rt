@@ -22,7 +22,7 @@ use threads::{Open, muster};
 /// # Errors
 ///
 /// Fails with `Threads` if the threads make no chronicle, for example if one cannot be started, and with `Memory` if
-/// memory runs out.
+/// memory runs out. How the threads have ended decides which error `Threads` has.
 pub fn mustered<T: Threads + Wait + Sync>(
     rt: &T,
     alloc: Global,
@@ -40,7 +40,7 @@ pub fn mustered<T: Threads + Wait + Sync>(
 
 /// Runs an oral campaign with a thread for each general, and returns the text of its chronicle. If `explained` names
 /// lieutenants, the explanation of their decisions follows.
-#[tactic(auto, using(crate::proofs::CampaignLemmas::is_mustered, crate::proofs::CampaignLemmas::mustered_wholly))]
+#[tactic(auto, using(crate::proofs::CampaignLemmas::is_mustered, crate::proofs::CampaignLemmas::mustered_wholly, crate::proofs::MusterLemmas::refuses_muster))]
 fn oral_mustered<T: Threads + Wait + Sync>(
     rt: &T,
     alloc: Global,
@@ -58,7 +58,7 @@ fn oral_mustered<T: Threads + Wait + Sync>(
 
 /// Runs a signed campaign with a thread for each general, and returns the text of its chronicle. If `explained` names
 /// lieutenants, the explanation of their decisions follows.
-#[tactic(auto, using(crate::proofs::CampaignLemmas::is_signed_mustered))]
+#[tactic(auto, using(crate::proofs::CampaignLemmas::is_signed_mustered, crate::proofs::MusterLemmas::refuses_muster))]
 fn signed_mustered<T: Threads + Wait + Sync>(
     rt: &T,
     alloc: Global,

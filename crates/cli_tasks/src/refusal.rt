@@ -11,7 +11,7 @@ use scenario::ScenarioError;
 use std::alloc::AllocError;
 use std::error::Error;
 use std::fmt;
-use threads::MusterError;
+use threads::{FailedMuster, MusterError};
 use trace::TraceError;
 use trial::SettingError;
 use verify::VerifyError;
@@ -251,14 +251,14 @@ impl From<TraceError> for InputRefusal {
     }
 }
 
-impl From<MusterError> for InputRefusal {
+impl From<FailedMuster> for InputRefusal {
     ghost use Rattle.std.specs.Prelude.{◌≡◌};
     ghost use Rattle.cli_tasks.specs.Refusals.{muster_refusal};
 
-    ghost from_gives = { λ error refusal. refusal ≡ muster_refusal error };
+    ghost from_gives = { λ failed refusal. refusal ≡ muster_refusal failed.error };
 
-    fn from(error: MusterError) -> InputRefusal {
-        match error {
+    fn from(failed: FailedMuster) -> InputRefusal {
+        match failed.error {
             MusterError::Memory => InputRefusal::Memory,
             error => InputRefusal::Threads(error),
         }

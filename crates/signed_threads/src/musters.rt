@@ -1,5 +1,5 @@
 //! Plays signed campaigns with one thread for each general.
-ghost use Rattle.std.specs.Prelude.{◌≡◌, suc, All, IfOk};
+ghost use Rattle.std.specs.Prelude.{◌≡◌, ◌↔◌, suc, All, IfOk, IfErr, IfSome};
 ghost use Rattle.board.specs.Board.{IsLegal};
 ghost use Rattle.signed.specs.Chronicle.{signed_chronicle_of, signed_decisions};
 ghost use Rattle.signed.specs.Kind.{signed_kind};
@@ -7,7 +7,9 @@ ghost use Rattle.signed.specs.Promises.{AgreeUnderSignedBound, IsSignedVerdictOn
 ghost use Rattle.world.specs.KindLists.{IsComplete, names_in, replay_world, replayed};
 ghost use Rattle.world.specs.Promises.{AreSafeThroughout, AreWhole, IsWellUnderBound};
 ghost use Rattle.world.specs.Safety.{IsShort};
+ghost use Rattle.threads.specs.Outcomes.{LacksMemory, LacksAccount, LacksThread, LacksRoom, HasAnEndForEach, IsHaltOf};
 ghost use Rattle.threads.specs.Served.{AreGated};
+ghost use Rattle.threads.specs.declared.error.MusterError.TheVariants.{Memory, Unaccounted, Spawn, Post};
 
 use crate::conclusion::conclude;
 use crate::delivered_chains::DeliveredChains;
@@ -16,7 +18,7 @@ use signed::SignedChronicle;
 use std::alloc::Global;
 use std::sync::Wait;
 use std::thread::Threads;
-use threads::{AccountedCampaign, Gate, MusterError, STACK, muster_as};
+use threads::{AccountedCampaign, FailedMuster, Gate, STACK, muster_as};
 
 /// Plays the scenario's signed campaign with one thread for each general. The thread makes its general's letter in each
 /// round. Before each access to the board, `gate` may hold the traitor who makes it.
@@ -46,7 +48,7 @@ pub fn muster_signed<R: Threads + Wait + Sync, G: Gate + Sync>(
     alloc: Global,
     scenario: Scenario,
     gate: &G,
-) -> Result<SignedChronicle, MusterError>
+) -> Result<SignedChronicle, FailedMuster>
     ensures scenario { IfOk result (λ chronicle. chronicle.scenario ≡ scenario) }
     ensures replay { IfOk result
         (λ chronicle. chronicle ≡ signed_chronicle_of (replay_world signed_kind scenario chronicle.accesses)) }
@@ -63,6 +65,12 @@ pub fn muster_signed<R: Threads + Wait + Sync, G: Gate + Sync>(
     ensures verdict { IfOk result (λ chronicle. IsSignedVerdictOn scenario chronicle.decisions chronicle.verdict) }
     ensures well { IfOk result (λ chronicle. IsWellUnderBound chronicle.verdict) }
     ensures passed { IfOk result (λ chronicle. AreGated (G.passed gate.now) chronicle.letters) }
+    ensures memory { IfErr result (λ failed. failed.error ≡ Memory ↔ LacksMemory failed.outcomes) }
+    ensures unaccounted { IfErr result (λ failed. failed.error ≡ Unaccounted ↔ LacksAccount failed.outcomes) }
+    ensures spawn { IfErr result (λ failed. failed.error ≡ Spawn ↔ LacksThread failed.outcomes) }
+    ensures post { IfErr result (λ failed. failed.error ≡ Post ↔ LacksRoom failed.outcomes) }
+    ensures ends { IfErr result (λ failed. HasAnEndForEach scenario.generals failed.outcomes) }
+    ensures found { IfErr result (λ failed. IfSome failed.outcomes.halt (IsHaltOf signed_kind scenario)) }
 {
     muster_signed_with(rt, alloc, scenario, gate, STACK)
 }
@@ -78,7 +86,7 @@ pub fn muster_signed_with<R: Threads + Wait + Sync, G: Gate + Sync>(
     scenario: Scenario,
     gate: &G,
     stack: usize,
-) -> Result<SignedChronicle, MusterError>
+) -> Result<SignedChronicle, FailedMuster>
     ensures scenario { IfOk result (λ chronicle. chronicle.scenario ≡ scenario) }
     ensures replay { IfOk result
         (λ chronicle. chronicle ≡ signed_chronicle_of (replay_world signed_kind scenario chronicle.accesses)) }
@@ -95,6 +103,12 @@ pub fn muster_signed_with<R: Threads + Wait + Sync, G: Gate + Sync>(
     ensures verdict { IfOk result (λ chronicle. IsSignedVerdictOn scenario chronicle.decisions chronicle.verdict) }
     ensures well { IfOk result (λ chronicle. IsWellUnderBound chronicle.verdict) }
     ensures passed { IfOk result (λ chronicle. AreGated (G.passed gate.now) chronicle.letters) }
+    ensures memory { IfErr result (λ failed. failed.error ≡ Memory ↔ LacksMemory failed.outcomes) }
+    ensures unaccounted { IfErr result (λ failed. failed.error ≡ Unaccounted ↔ LacksAccount failed.outcomes) }
+    ensures spawn { IfErr result (λ failed. failed.error ≡ Spawn ↔ LacksThread failed.outcomes) }
+    ensures post { IfErr result (λ failed. failed.error ≡ Post ↔ LacksRoom failed.outcomes) }
+    ensures ends { IfErr result (λ failed. HasAnEndForEach scenario.generals failed.outcomes) }
+    ensures found { IfErr result (λ failed. IfSome failed.outcomes.halt (IsHaltOf signed_kind scenario)) }
 {
     let campaign = muster_as::<R, G, DeliveredChains>(rt, alloc, &scenario, gate, stack)?;
     let AccountedCampaign {

@@ -12,3 +12,4 @@ pub mod Among
 pub mod Numbered
 pub mod Popped
 pub mod Passing
+pub mod Coded

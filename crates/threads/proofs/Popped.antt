@@ -1,12 +1,11 @@
 -- The last element is removed from a list: what holds for all elements holds for it and for the remaining ones. Also,
 -- the handles of started threads are kept.
 use Rattle.std.proofs.Common.{◌≡◌, ℕ, ◌<◌, ◌+◌, List, [], ◌∷◌, ◌++◌, length, get_or, false, ap, sym, subst, ◌∙◌, length-append, arith}
-use Rattle.std.specs.Prelude.{All, Option, None, Some, is_some, IsSomeAnd, MatchOption, MatchResult, Result, Ok, Err}
+use Rattle.std.specs.Prelude.{All, Option, None, Some, is_some, IsSome, MatchResult, Result, Ok, Err}
 use Rattle.std.proofs.lemmas.List.Elements.{All-append, All-cons, All-nil}
 use Rattle.std.proofs.Math.ListN.{get_or-append}
 use Rattle.std.proofs.Math.Seq.{get_or-append_seam}
-use Rattle.threads.specs.declared.answers.Refused.{Refused}
-use Rattle.threads.specs.declared.error.MusterError.TheVariants.{Memory, Spawn}
+use Rattle.threads.specs.declared.answers.Unstarted.{Unstarted}
 
 pub last_all : {X : Type 0} (P : X → Type 0) (old new : List X) (x : X) → All P old → old ≡ new ++ x ∷ [] → P x
 last_all {X} P old new x all is =
@@ -30,13 +29,12 @@ rest_known {X} f old new x known is g d lt =
     let each : (k : ℕ) (e : X) → k < length (new ++ x ∷ []) → get_or (new ++ x ∷ []) k e ≡ f k = subst (λ (l : List X). (k : ℕ) (e : X) → k < length l → get_or l k e ≡ f k) is known in
     sym (get_or-append new (x ∷ []) d g lt) ∙ each g d (omega (arith, lt, length-append new (x ∷ [])))
 
--- One more handle is kept, unless there is an error.
-pub kept_more : {H E : Type 0} (started : Result H E) (refused : Option Refused) (old new : List H)
-    → MatchResult started (λ h. MatchOption refused (new ≡ old ++ h ∷ []) (λ r. r.error ≡ Memory)) (λ _. IsSomeAnd refused (λ r. r.error ≡ Spawn))
-    → is_some refused ≡ false → length new ≡ length old + 1
-kept_more (Ok h) None old new is none = (let long = ap length is in omega (arith, length-append old (h ∷ [])))
-kept_more (Ok h) (Some r) old new is none = absurd cc
-kept_more (Err e) None old new is none = absurd is
+-- One more handle is kept, unless the thread was not started.
+pub kept_more : {H E : Type 0} (started : Result H E) (unstarted : Option Unstarted) (old new : List H)
+    → MatchResult started (λ h. (unstarted ≡ None) × (new ≡ old ++ h ∷ [])) (λ _. IsSome unstarted × (new ≡ old))
+    → is_some unstarted ≡ false → length new ≡ length old + 1
+kept_more (Ok h) unstarted old new is none = (let long = ap length is.1 in omega (arith, length-append old (h ∷ [])))
+kept_more (Err e) None old new is none = absurd is.0
 kept_more (Err e) (Some r) old new is none = absurd cc
 
 -- One more element is appended for which the property holds.

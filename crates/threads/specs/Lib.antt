@@ -6,5 +6,6 @@ pub mod Holding
 pub mod Duties
 pub mod ErrorText
 pub mod Answers
+pub mod Outcomes
 pub mod Inboxes
 pub mod Served

@@ -1,26 +1,13 @@
-//! Turns what threads and checks report into the errors of `muster`.
-ghost use Rattle.std.specs.Prelude.{◌≡◌, ◌≤◌, ◌+◌, ◌++◌, ◌∷◌, [], find, is_some, length, Ok, Err, IsSomeAnd, MatchBool, MatchOption, MatchResult};
-ghost use Rattle.threads.specs.Answers.{ended_as, first_failure};
-ghost use Rattle.threads.specs.declared.error.MusterError.TheVariants.{Memory, Unaccounted, Spawn};
+//! Turns what threads and checks report into evidence and into the errors of `muster`.
+ghost use Rattle.std.specs.Prelude.{◌≡◌, ◌<◌, ◌++◌, ◌∷◌, [], None, Ok, Err, length, vec_capacity, IsSome, MatchBool, MatchOption, MatchResult};
+ghost use Rattle.threads.specs.declared.error.MusterError.TheVariants.{Unaccounted};
 
 use crate::error::MusterError;
 use std::io;
 
-/// Evidence that a general's thread could not be started, or its handle not be stored, with the error to report. Only
-/// `kept` creates one.
+/// Evidence that a general's thread could not be started. Only `kept` creates one.
 #[derive(Clone, Copy)]
-pub(crate) struct Refused {
-    error: MusterError,
-}
-
-impl Refused {
-    /// Returns the error that `muster` reports because not all threads were started.
-    pub(crate) fn error(self) -> MusterError
-        ensures { result ≡ self.error }
-    {
-        self.error
-    }
-}
+pub struct Unstarted(());
 
 /// Returns `Ok` if `is_so`, a condition that must hold if the ledger accounts for the letters.
 ///
@@ -51,43 +38,22 @@ pub(crate) fn found<T: Drop>(found: Option<T>) -> Result<T, MusterError>
     }
 }
 
-/// Appends the handle of a started thread to `handles` and returns `None`. If it cannot, it returns why: `Spawn` if the
-/// thread was not started, or `Memory` if there is no memory for the handle.
-pub(crate) fn kept<H: Drop>(handles: &mut Vec<H>, started: io::Result<H>) -> Option<Refused>
+/// Appends the handle of a started thread to `handles`, which must have room for it, and returns `None`. If the thread
+/// was not started, this returns the evidence for that.
+pub(crate) fn kept<H: Drop>(handles: &mut Vec<H>, started: io::Result<H>) -> Option<Unstarted>
+    requires { length handles.old.items < vec_capacity handles.old }
     ensures handle { MatchResult started
-        (λ handle. MatchOption result (handles.new.items ≡ handles.old.items ++ handle ∷ []) (λ r. r.error ≡ Memory))
-        (λ _. IsSomeAnd result (λ r. r.error ≡ Spawn)) }
-    ensures more { length handles.new.items ≤ length handles.old.items + 1 }
+        (λ handle. (result ≡ None) × (handles.new.items ≡ handles.old.items ++ handle ∷ []))
+        (λ _. IsSome result × (handles.new.items ≡ handles.old.items)) }
+    ensures room { vec_capacity handles.new ≡ vec_capacity handles.old }
 {
-    let error = match started {
-        Err(_) => MusterError::Spawn,
-        Ok(handle) => match handles.push(handle) {
-            Ok(()) => return None,
-            Err(error) => MusterError::from(error),
-        },
-    };
-    Some(Refused { error })
-}
-
-/// Returns the result of a muster: the error `refused` if a thread was not started, otherwise the first error in
-/// `failures`, otherwise `outcome`. If `failures` is ordered by general, ascending, its first error is that of the
-/// lowest general who failed.
-pub fn ended<T: Drop, E: Copy>(
-    refused: Option<E>,
-    failures: &[Option<E>],
-    outcome: Result<T, E>,
-) -> Result<T, E>
-    ensures { result ≡ ended_as refused (first_failure failures.now) outcome }
-{
-    match refused.or(first_failed(failures).flatten()) {
-        Some(error) => Err(error),
-        None => outcome,
+    match started {
+        Err(_) => Some(Unstarted(())),
+        Ok(handle) => {
+            let Ok(()) = handles.push(handle) else {
+                unreachable!()
+            };
+            None
+        }
     }
-}
-
-/// Returns the first element that is not `None`, or `None` if every element is `None`.
-fn first_failed<E: Copy>(failures: &[Option<E>]) -> Option<Option<E>>
-    ensures { result ≡ find (λ failure. is_some failure) failures.now }
-{
-    failures.iter().copied().find(|failure| failure.is_some())
 }

@@ -10,12 +10,12 @@ ghost use Rattle.world.specs.Promises.{AgreeIfTolerable, AreSafeThroughout, AreW
 ghost use Rattle.world.specs.Replay.{replay_of};
 ghost use Rattle.world.specs.Safety.{IsShort};
 ghost use Rattle.world.specs.World.{oral_kind};
-ghost use Rattle.threads.specs.Answers.{mishap_as, IfUnlike};
+ghost use Rattle.threads.specs.Outcomes.{halt_as, IfUnlike, IsHaltOf};
 ghost use Rattle.threads.specs.declared.error.MusterError.TheVariants.{Memory, Unaccounted, Spawn, Post};
 
 use crate::account::are_accounted;
 use crate::delivered::Delivered;
-use crate::mishap::Mishap;
+use crate::halt::Halt;
 use arrayvec::ArrayVec;
 use board::{Access, Board};
 use round::{Round, Scenario};
@@ -27,9 +27,11 @@ use world::Chronicle;
 
 /// Evidence that a board does not account for the letters of a campaign. Only `accounted` creates one.
 #[derive(Drop)]
-pub(crate) struct Unlike {
+pub struct Unlike {
     /// A snapshot of this board.
     board: Snapshot<Board>,
+    /// A snapshot of these letters, by round.
+    rounds: Snapshot<Vec<Round>>,
 }
 
 /// Returns the order on which each lieutenant decides, ascending by lieutenant, if the ledger of `board` accounts for
@@ -45,37 +47,40 @@ pub(crate) fn judge<R: Threads + Sync, D: Delivered + Sync>(
     alloc: Global,
     scenario: &Scenario,
     board: &Board,
-    rows: &[Round],
+    rows: &Vec<Round>,
     told: &D,
-) -> Result<ArrayVec<u32, 12>, Mishap>
-    requires rounds { length rows.now ≡ suc scenario.now.bound }
-    requires told { D.was_told scenario.now rows.now told.now }
+) -> Result<ArrayVec<u32, 12>, Halt>
+    requires rounds { length rows.now.items ≡ suc scenario.now.bound }
+    requires told { D.was_told scenario.now rows.now.items told.now }
     requires all { D.count told.now ≡ suc scenario.now.bound }
     ensures legal { OnOk result (IsLegal scenario.now.board board.now.ledger) }
-    ensures accounted { OnOk result (AreAccounted D.kind scenario.now [] board.now.ledger rows.now) }
-    ensures decisions { IfOk result (λ orders. orders.items ≡ D.decided scenario.now rows.now) }
-    ensures unaccounted { IfErr result (λ e. mishap_as e ≡ Unaccounted →
-        ¬ ((board.now.opening ≡ scenario.now.board) × AreAccounted D.kind scenario.now [] board.now.ledger rows.now)) }
-    ensures memory { IfErr result (λ e. mishap_as e ≡ Memory → board.now.opening ≡ scenario.now.board) }
-    ensures started { IfErr result (λ e. mishap_as e ≢ Spawn) }
-    ensures posted { IfErr result (λ e. mishap_as e ≢ Post) }
+    ensures accounted { OnOk result (AreAccounted D.kind scenario.now [] board.now.ledger rows.now.items) }
+    ensures decisions { IfOk result (λ orders. orders.items ≡ D.decided scenario.now rows.now.items) }
+    ensures unaccounted { IfErr result (λ e. halt_as e ≡ Unaccounted →
+        ¬ ((board.now.opening ≡ scenario.now.board) × AreAccounted D.kind scenario.now [] board.now.ledger rows.now.items)) }
+    ensures memory { IfErr result (λ e. halt_as e ≡ Memory → board.now.opening ≡ scenario.now.board) }
+    ensures started { IfErr result (λ e. halt_as e ≢ Spawn) }
+    ensures posted { IfErr result (λ e. halt_as e ≢ Post) }
     ensures unlike { IfErr result (λ e. IfUnlike e (λ b. b ≡ board.now)) }
+    ensures found { board.now.opening ≡ scenario.now.board → IfErr result (IsHaltOf D.kind scenario.now) }
 {
     let (compared, decided) = thread::join(
         rt,
-        || -> Result<(), Mishap>
-            requires rounds { length rows.now ≡ suc scenario.now.bound }
-            requires told { D.was_told scenario.now rows.now told.now }
+        || -> Result<(), Halt>
+            requires rounds { length rows.now.items ≡ suc scenario.now.bound }
+            requires told { D.was_told scenario.now rows.now.items told.now }
             ensures legal { OnOk result (IsLegal scenario.entry.now.board board.entry.now.ledger) }
-            ensures accounted { OnOk result (AreAccounted D.kind scenario.entry.now [] board.entry.now.ledger rows.entry.now) }
-            ensures unaccounted { IfErr result (λ e. mishap_as e ≡ Unaccounted
+            ensures accounted { OnOk result (AreAccounted D.kind scenario.entry.now [] board.entry.now.ledger rows.entry.now.items) }
+            ensures unaccounted { IfErr result (λ e. halt_as e ≡ Unaccounted
                 → ¬ ((board.entry.now.opening ≡ scenario.entry.now.board)
-                × AreAccounted D.kind scenario.entry.now [] board.entry.now.ledger rows.entry.now)) }
+                × AreAccounted D.kind scenario.entry.now [] board.entry.now.ledger rows.entry.now.items)) }
             ensures opening { OnOk result (board.entry.now.opening ≡ scenario.entry.now.board) }
-            ensures memory { IfErr result (λ e. mishap_as e ≡ Memory → board.entry.now.opening ≡ scenario.entry.now.board) }
-            ensures started { IfErr result (λ e. mishap_as e ≢ Spawn) }
-            ensures posted { IfErr result (λ e. mishap_as e ≢ Post) }
+            ensures memory { IfErr result (λ e. halt_as e ≡ Memory → board.entry.now.opening ≡ scenario.entry.now.board) }
+            ensures started { IfErr result (λ e. halt_as e ≢ Spawn) }
+            ensures posted { IfErr result (λ e. halt_as e ≢ Post) }
             ensures unlike { IfErr result (λ e. IfUnlike e (λ b. b ≡ board.entry.now)) }
+            ensures found { board.entry.now.opening ≡ scenario.entry.now.board
+                → IfErr result (IsHaltOf D.kind scenario.entry.now) }
         { account(alloc, scenario, board, rows, told) },
         || -> Result<ArrayVec<u32, 12>, AllocError>
             requires shared { IsSync R.row }
@@ -101,41 +106,44 @@ fn account<D: Delivered>(
     alloc: Global,
     scenario: &Scenario,
     board: &Board,
-    rows: &[Round],
+    rows: &Vec<Round>,
     told: &D,
-) -> Result<(), Mishap>
-    requires rounds { length rows.now ≡ suc scenario.now.bound }
-    requires told { D.was_told scenario.now rows.now told.now }
+) -> Result<(), Halt>
+    requires rounds { length rows.now.items ≡ suc scenario.now.bound }
+    requires told { D.was_told scenario.now rows.now.items told.now }
     ensures legal { OnOk result (IsLegal scenario.now.board board.now.ledger) }
     ensures opening { OnOk result (board.now.opening ≡ scenario.now.board) }
-    ensures accounted { OnOk result (AreAccounted D.kind scenario.now [] board.now.ledger rows.now) }
-    ensures unaccounted { IfErr result (λ e. mishap_as e ≡ Unaccounted →
-        ¬ ((board.now.opening ≡ scenario.now.board) × AreAccounted D.kind scenario.now [] board.now.ledger rows.now)) }
-    ensures memory { IfErr result (λ e. mishap_as e ≡ Memory → board.now.opening ≡ scenario.now.board) }
-    ensures started { IfErr result (λ e. mishap_as e ≢ Spawn) }
-    ensures posted { IfErr result (λ e. mishap_as e ≢ Post) }
+    ensures accounted { OnOk result (AreAccounted D.kind scenario.now [] board.now.ledger rows.now.items) }
+    ensures unaccounted { IfErr result (λ e. halt_as e ≡ Unaccounted →
+        ¬ ((board.now.opening ≡ scenario.now.board) × AreAccounted D.kind scenario.now [] board.now.ledger rows.now.items)) }
+    ensures memory { IfErr result (λ e. halt_as e ≡ Memory → board.now.opening ≡ scenario.now.board) }
+    ensures started { IfErr result (λ e. halt_as e ≢ Spawn) }
+    ensures posted { IfErr result (λ e. halt_as e ≢ Post) }
     ensures unlike { IfErr result (λ e. IfUnlike e (λ b. b ≡ board.now)) }
+    ensures found { board.now.opening ≡ scenario.now.board → IfErr result (IsHaltOf D.kind scenario.now) }
 {
     let is_opened = board.opening().as_slice() == scenario.board().as_slice();
-    accounted(board, is_opened)?;
-    let are_accounted = are_accounted(alloc, told, scenario, rows, 0, board.ledger())?;
-    accounted(board, are_accounted)?;
+    accounted(board, rows, is_opened)?;
+    let are_accounted = are_accounted(alloc, told, scenario, rows.as_slice(), 0, board.ledger())?;
+    accounted(board, rows, are_accounted)?;
     Ok(())
 }
 
-/// Returns `Ok` if `is_so`, a condition that must hold if the board accounts for the letters.
+/// Returns `Ok` if `is_so`, a condition that must hold if the board accounts for the letters in `rows`.
 ///
 /// # Errors
 ///
-/// `Unlike` with a snapshot of the board if `is_so` is false.
-fn accounted(board: &Board, is_so: bool) -> Result<(), Unlike>
-    ensures { MatchBool is_so (result ≡ Ok tt) (IsErrAnd result (λ unlike. unlike.board.value ≡ board.now)) }
+/// `Unlike` with snapshots of the board and of the letters if `is_so` is false.
+fn accounted(board: &Board, rows: &Vec<Round>, is_so: bool) -> Result<(), Unlike>
+    ensures { MatchBool is_so (result ≡ Ok tt) (IsErrAnd result
+        (λ unlike. (unlike.board.value ≡ board.now) × (unlike.rounds.value.items ≡ rows.now.items))) }
 {
     if is_so {
         Ok(())
     } else {
         Err(Unlike {
             board: Snapshot::of(board),
+            rounds: Snapshot::of(rows),
         })
     }
 }

@@ -1,6 +1,6 @@
-//! Defines why a general's thread can fail.
+//! Defines why a general can fail.
 ghost use Rattle.std.specs.Prelude.{◌≡◌, ◌≢◌, MatchResult};
-ghost use Rattle.threads.specs.Answers.{failure_as};
+ghost use Rattle.threads.specs.Outcomes.{failure_as};
 ghost use Rattle.threads.specs.declared.failure.Failure.TheVariants.{Memory, Foreign as NotHis, Returned as Back};
 
 use crate::error::MusterError;
@@ -10,7 +10,7 @@ use std::alloc::AllocError;
 
 /// Evidence that a general was given another general's task. Only `is_his` creates one.
 #[derive(Clone, Copy)]
-pub(crate) struct Foreign {
+pub struct Foreign {
     /// The general who was given another general's task.
     general: u32,
 }
@@ -18,7 +18,7 @@ pub(crate) struct Foreign {
 /// Why a general has failed. Each variant except `Memory` contains evidence that only the code that finds this fault
 /// can create.
 #[derive(Clone, Copy)]
-pub(crate) enum Failure {
+pub enum Failure {
     /// An allocation failed.
     Memory,
     /// He was given another general's task.
@@ -29,7 +29,7 @@ pub(crate) enum Failure {
 
 impl Failure {
     /// Returns the error that `muster` reports for this failure.
-    pub(crate) fn error(self) -> MusterError
+    pub fn error(self) -> MusterError
         ensures { result ≡ failure_as self }
     {
         match self {

@@ -1,5 +1,5 @@
 //! Plays campaigns with one thread for each general.
-ghost use Rattle.std.specs.Prelude.{◌≡◌, ◌≤◌, ◌↔◌, [], suc, length, All, IfOk, IfErr};
+ghost use Rattle.std.specs.Prelude.{◌≡◌, ◌≤◌, ◌↔◌, [], suc, length, All, IfOk, IfErr, IfSome};
 ghost use mathlib.Core.List.{IsPrefix};
 ghost use Rattle.board.specs.Board.{IsLegal};
 ghost use Rattle.round.specs.Letters.{Letter as LetterSeen, messages};
@@ -10,17 +10,18 @@ ghost use Rattle.world.specs.Promises.{AgreeIfTolerable, AreSafeThroughout, AreW
 ghost use Rattle.world.specs.Replay.{replay_of};
 ghost use Rattle.world.specs.Safety.{IsShort};
 ghost use Rattle.world.specs.World.{oral_kind};
-ghost use Rattle.threads.specs.Answers.{IfUnlike};
+ghost use Rattle.threads.specs.Outcomes.{IfUnlike, LacksMemory, LacksAccount, LacksThread, LacksRoom, HasAnEndForEach, IsHaltOf};
 ghost use Rattle.threads.specs.Served.{AreGated, IsGated};
+ghost use Rattle.threads.specs.declared.error.MusterError.TheVariants.{Memory, Unaccounted, Spawn, Post};
 
 use crate::accounted_campaign::AccountedCampaign;
 use crate::claim::Claim;
 use crate::collection::collect;
 use crate::conclusion::{conclude, judge};
 use crate::delivered::Delivered;
-use crate::error::MusterError;
+use crate::ending::Ending;
+use crate::failed_muster::FailedMuster;
 use crate::gate::Gate;
-use crate::mishap::Mishap;
 use board::Board;
 use round::{Received, Scenario};
 use shared_board::{Room, SharedBoard, Unshared, Witness};
@@ -54,16 +55,21 @@ pub const STACK: usize = 1 << 20;
 ///
 /// # Errors
 ///
-/// `Spawn` if a thread could not be started; the threads that were started are joined first. `Memory` if an allocation
-/// fails. `Post` if the post was full when a general posted his letter. If several generals fail, the error is that of
-/// the lowest. `Unaccounted` if the ledger does not account for the letters. It is not proved that `Post` and
-/// `Unaccounted` never happen with the threads that are started here.
+/// `FailedMuster` says how each thread has ended, and this decides its error:
+///
+/// - `Spawn` if a general's thread could not be started. The threads that were started are joined first.
+/// - Otherwise the error for the failure of the lowest general who failed: `Memory` if an allocation failed, `Post` if
+///   the post was full when he posted his letter, `Unaccounted` if he was given another general's task.
+/// - Otherwise the error for what halted this thread: `Memory` if an allocation failed, else `Unaccounted`. Then letters
+///   are missing, the letters of a round are not one from each general, or the board does not account for the letters.
+///
+/// It is not proved that `Post` and `Unaccounted` never happen with the threads that are started here.
 pub fn muster<R: Threads + Wait + Sync, G: Gate + Sync>(
     rt: &R,
     alloc: Global,
     scenario: Scenario,
     gate: &G,
-) -> Result<Chronicle, MusterError>
+) -> Result<Chronicle, FailedMuster>
     ensures scenario { IfOk result (λ chronicle. chronicle.scenario ≡ scenario) }
     ensures replay { IfOk result (λ chronicle. chronicle ≡ chronicle_of (replay_of scenario chronicle.accesses)) }
     ensures complete { IfOk result
@@ -79,6 +85,12 @@ pub fn muster<R: Threads + Wait + Sync, G: Gate + Sync>(
     ensures verdict { IfOk result (λ chronicle. IsVerdictOn scenario chronicle.decisions chronicle.verdict) }
     ensures well { IfOk result (λ chronicle. IsWellUnderBound chronicle.verdict) }
     ensures passed { IfOk result (λ chronicle. AreGated (G.passed gate.now) chronicle.letters) }
+    ensures memory { IfErr result (λ failed. failed.error ≡ Memory ↔ LacksMemory failed.outcomes) }
+    ensures unaccounted { IfErr result (λ failed. failed.error ≡ Unaccounted ↔ LacksAccount failed.outcomes) }
+    ensures spawn { IfErr result (λ failed. failed.error ≡ Spawn ↔ LacksThread failed.outcomes) }
+    ensures post { IfErr result (λ failed. failed.error ≡ Post ↔ LacksRoom failed.outcomes) }
+    ensures ends { IfErr result (λ failed. HasAnEndForEach scenario.generals failed.outcomes) }
+    ensures found { IfErr result (λ failed. IfSome failed.outcomes.halt (IsHaltOf oral_kind scenario)) }
 {
     muster_with(rt, alloc, scenario, gate, STACK)
 }
@@ -94,7 +106,7 @@ pub fn muster_with<R: Threads + Wait + Sync, G: Gate + Sync>(
     scenario: Scenario,
     gate: &G,
     stack: usize,
-) -> Result<Chronicle, MusterError>
+) -> Result<Chronicle, FailedMuster>
     ensures scenario { IfOk result (λ chronicle. chronicle.scenario ≡ scenario) }
     ensures replay { IfOk result (λ chronicle. chronicle ≡ chronicle_of (replay_of scenario chronicle.accesses)) }
     ensures complete { IfOk result
@@ -110,6 +122,12 @@ pub fn muster_with<R: Threads + Wait + Sync, G: Gate + Sync>(
     ensures verdict { IfOk result (λ chronicle. IsVerdictOn scenario chronicle.decisions chronicle.verdict) }
     ensures well { IfOk result (λ chronicle. IsWellUnderBound chronicle.verdict) }
     ensures passed { IfOk result (λ chronicle. AreGated (G.passed gate.now) chronicle.letters) }
+    ensures memory { IfErr result (λ failed. failed.error ≡ Memory ↔ LacksMemory failed.outcomes) }
+    ensures unaccounted { IfErr result (λ failed. failed.error ≡ Unaccounted ↔ LacksAccount failed.outcomes) }
+    ensures spawn { IfErr result (λ failed. failed.error ≡ Spawn ↔ LacksThread failed.outcomes) }
+    ensures post { IfErr result (λ failed. failed.error ≡ Post ↔ LacksRoom failed.outcomes) }
+    ensures ends { IfErr result (λ failed. HasAnEndForEach scenario.generals failed.outcomes) }
+    ensures found { IfErr result (λ failed. IfSome failed.outcomes.halt (IsHaltOf oral_kind scenario)) }
 {
     let campaign = muster_as::<R, G, Received>(rt, alloc, &scenario, gate, stack)?;
     let AccountedCampaign {
@@ -134,7 +152,7 @@ pub fn muster_as<R: Threads + Wait + Sync, G: Gate + Sync, D: Delivered + Sync>(
     scenario: &Scenario,
     gate: &G,
     stack: usize,
-) -> Result<AccountedCampaign<D>, MusterError>
+) -> Result<AccountedCampaign<D>, FailedMuster>
     ensures legal { IfOk result (λ campaign. IsLegal scenario.now.board campaign.accesses.items) }
     ensures accounted { IfOk result
         (λ campaign. AreAccounted D.kind scenario.now [] campaign.accesses.items campaign.rounds.items) }
@@ -142,29 +160,12 @@ pub fn muster_as<R: Threads + Wait + Sync, G: Gate + Sync, D: Delivered + Sync>(
     ensures decisions { IfOk result
         (λ campaign. campaign.decisions.items ≡ D.decided scenario.now campaign.rounds.items) }
     ensures passed { IfOk result (λ campaign. AreGated (G.passed gate.now) campaign.rounds.items) }
-{
-    Ok(muster_on::<R, G, D>(rt, alloc, scenario, gate, stack)?)
-}
-
-/// Plays the scenario's campaign as `muster_as` does.
-///
-/// # Errors
-///
-/// `Mishap` says why there is no such campaign, with the evidence for it.
-fn muster_on<R: Threads + Wait + Sync, G: Gate + Sync, D: Delivered + Sync>(
-    rt: &R,
-    alloc: Global,
-    scenario: &Scenario,
-    gate: &G,
-    stack: usize,
-) -> Result<AccountedCampaign<D>, Mishap>
-    ensures legal { IfOk result (λ campaign. IsLegal scenario.now.board campaign.accesses.items) }
-    ensures accounted { IfOk result
-        (λ campaign. AreAccounted D.kind scenario.now [] campaign.accesses.items campaign.rounds.items) }
-    ensures told { IfOk result (λ campaign. D.was_told scenario.now campaign.rounds.items campaign.told) }
-    ensures decisions { IfOk result
-        (λ campaign. campaign.decisions.items ≡ D.decided scenario.now campaign.rounds.items) }
-    ensures passed { IfOk result (λ campaign. AreGated (G.passed gate.now) campaign.rounds.items) }
+    ensures memory { IfErr result (λ failed. failed.error ≡ Memory ↔ LacksMemory failed.outcomes) }
+    ensures unaccounted { IfErr result (λ failed. failed.error ≡ Unaccounted ↔ LacksAccount failed.outcomes) }
+    ensures spawn { IfErr result (λ failed. failed.error ≡ Spawn ↔ LacksThread failed.outcomes) }
+    ensures post { IfErr result (λ failed. failed.error ≡ Post ↔ LacksRoom failed.outcomes) }
+    ensures ends { IfErr result (λ failed. HasAnEndForEach scenario.now.generals failed.outcomes) }
+    ensures found { IfErr result (λ failed. IfSome failed.outcomes.halt (IsHaltOf D.kind scenario.now)) }
 {
     let threads = scenario.generals();
     let unshared = Unshared::new(Board::new(alloc, *scenario.board()), threads + 1);
@@ -176,7 +177,7 @@ fn muster_on<R: Threads + Wait + Sync, G: Gate + Sync, D: Delivered + Sync>(
 ///
 /// # Errors
 ///
-/// `Mishap` says why there is no such campaign, with the evidence for it.
+/// The errors are those of `muster`.
 fn mustered<R: Threads + Wait + Sync, G: Gate + Sync, J: Room + Send + Sync, D: Delivered + Sync>(
     rt: &R,
     alloc: Global,
@@ -184,7 +185,7 @@ fn mustered<R: Threads + Wait + Sync, G: Gate + Sync, J: Room + Send + Sync, D: 
     gate: &G,
     stack: usize,
     unshared: Unshared,
-) -> Result<AccountedCampaign<D>, Mishap>
+) -> Result<AccountedCampaign<D>, FailedMuster>
     requires book { unshared.book ≡ J.book }
     requires opening { unshared.opening ≡ J.opening }
     requires words { unshared.opening ≡ scenario.now.board }
@@ -197,6 +198,12 @@ fn mustered<R: Threads + Wait + Sync, G: Gate + Sync, J: Room + Send + Sync, D: 
     ensures decisions { IfOk result
         (λ campaign. campaign.decisions.items ≡ D.decided scenario.now campaign.rounds.items) }
     ensures passed { IfOk result (λ campaign. AreGated (G.passed gate.now) campaign.rounds.items) }
+    ensures memory { IfErr result (λ failed. failed.error ≡ Memory ↔ LacksMemory failed.outcomes) }
+    ensures unaccounted { IfErr result (λ failed. failed.error ≡ Unaccounted ↔ LacksAccount failed.outcomes) }
+    ensures spawn { IfErr result (λ failed. failed.error ≡ Spawn ↔ LacksThread failed.outcomes) }
+    ensures post { IfErr result (λ failed. failed.error ≡ Post ↔ LacksRoom failed.outcomes) }
+    ensures ends { IfErr result (λ failed. HasAnEndForEach scenario.now.generals failed.outcomes) }
+    ensures found { IfErr result (λ failed. IfSome failed.outcomes.halt (IsHaltOf D.kind scenario.now)) }
 {
     let threads = scenario.generals() + 1;
     let (board, mut witnesses) = SharedBoard::<J>::new(alloc, unshared, threads)?;
@@ -212,7 +219,7 @@ fn mustered<R: Threads + Wait + Sync, G: Gate + Sync, J: Room + Send + Sync, D: 
 ///
 /// # Errors
 ///
-/// `Mishap` says why there is no such campaign, with the evidence for it.
+/// The errors are those of `muster`.
 fn by_board<
     R: Threads + Wait + Sync,
     G: Gate + Sync,
@@ -228,13 +235,13 @@ fn by_board<
     board: SharedBoard<J>,
     witness: Witness<J>,
     witnesses: Vec<Witness<J>>,
-) -> Result<AccountedCampaign<D>, Mishap>
+) -> Result<AccountedCampaign<D>, FailedMuster>
     requires words { J.opening ≡ scenario.now.board }
     requires witnesses { scenario.now.generals ≤ length witnesses.items }
     requires unserved { All (λ w. w.made ≡ 0) witnesses.items }
     requires claim { (l : LetterSeen) → C.holds l ↔ IsGated (G.passed gate.now) l }
-    ensures unlike { IfErr result (λ e.
-        IfUnlike e (λ b. (b.opening ≡ scenario.now.board) × IsPrefix witness.seen b.ledger)) }
+    ensures unlike { IfErr result (λ failed. IfSome failed.outcomes.halt (λ halt.
+        IfUnlike halt (λ b. (b.opening ≡ scenario.now.board) × IsPrefix witness.seen b.ledger))) }
     ensures history { IfOk result (λ campaign. IsPrefix witness.seen campaign.accesses.items) }
     ensures legal { IfOk result (λ campaign. IsLegal scenario.now.board campaign.accesses.items) }
     ensures accounted { IfOk result
@@ -243,12 +250,19 @@ fn by_board<
     ensures decisions { IfOk result
         (λ campaign. campaign.decisions.items ≡ D.decided scenario.now campaign.rounds.items) }
     ensures passed { IfOk result (λ campaign. AreGated (G.passed gate.now) campaign.rounds.items) }
+    ensures memory { IfErr result (λ failed. failed.error ≡ Memory ↔ LacksMemory failed.outcomes) }
+    ensures unaccounted { IfErr result (λ failed. failed.error ≡ Unaccounted ↔ LacksAccount failed.outcomes) }
+    ensures spawn { IfErr result (λ failed. failed.error ≡ Spawn ↔ LacksThread failed.outcomes) }
+    ensures post { IfErr result (λ failed. failed.error ≡ Post ↔ LacksRoom failed.outcomes) }
+    ensures ends { IfErr result (λ failed. HasAnEndForEach scenario.now.generals failed.outcomes) }
+    ensures found { IfErr result (λ failed. IfSome failed.outcomes.halt (IsHaltOf D.kind scenario.now)) }
 {
-    let (rounds, told) = collect::<R, G, J, C, D>(
+    let ((rounds, told), generals) = collect::<R, G, J, C, D>(
         rt, alloc, scenario, gate, &board, witnesses, stack,
     )?;
     let board = board.into_board(rt, witness);
-    let decisions = judge(rt, alloc, scenario, &board, rounds.as_slice(), &told)?;
+    let judged = judge(rt, alloc, scenario, &board, &rounds, &told);
+    let (decisions, _generals) = Ending::new(judged, generals).told()?;
     Ok(AccountedCampaign {
         accesses: board.into_ledger(),
         rounds,

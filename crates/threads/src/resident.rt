@@ -1,16 +1,16 @@
 //! Runs the thread of one general through all rounds.
 ghost use Rattle.std.specs.Prelude.{◌≡◌, ◌≢◌, ℕ, ◌++◌, ◌∷◌, [], All, IfOk, IfErr, IsErrAnd};
 ghost use Rattle.round.specs.Letters.{Letter as LetterSeen};
-ghost use Rattle.threads.specs.Answers.{failure_of, failure_as, IsFailureOf};
+ghost use Rattle.threads.specs.Answers.{end_of, IsFailureOf};
 ghost use Rattle.threads.specs.Duties.{IsDone};
+ghost use Rattle.threads.specs.Outcomes.{failure_as};
 ghost use Rattle.threads.specs.Served.{told_in, IsGated, AreWitnessed};
 ghost use Rattle.threads.specs.declared.error.MusterError.TheVariants.{Unaccounted, Post as PostFull};
 
 use crate::claim::Claim;
-use crate::collection_error::Uncollected;
-use crate::error::MusterError;
 use crate::failure::{Failure, is_his};
 use crate::gate::{Gate, Gated, Settled};
+use crate::general_end::GeneralEnd;
 use crate::inbox::{Closed, Inbox};
 use crate::post::PostOf;
 use crate::poster::Poster;
@@ -30,11 +30,11 @@ pub(crate) struct Failed {
 }
 
 impl Failed {
-    /// Returns the error that `muster` reports for this failure.
-    pub(crate) fn error(self) -> MusterError
-        ensures { result ≡ failure_as self.failure }
+    /// Returns why the general has failed.
+    pub(crate) fn failure(self) -> Failure
+        ensures { result ≡ self.failure }
     {
-        self.failure.error()
+        self.failure
     }
 }
 
@@ -49,20 +49,17 @@ pub(crate) struct Answer {
 }
 
 impl Answer {
-    /// Returns the general whose thread returned this answer.
-    pub(crate) fn general(&self) -> u32
-        ensures { result ≡ self.now.general }
+    /// Returns how the thread has ended.
+    pub(crate) fn end(self) -> GeneralEnd
+        ensures { result ≡ end_of self }
     {
-        self.general
-    }
-
-    /// Returns why the general has failed, or `None` if he has not.
-    pub(crate) fn failure(&self) -> Option<Uncollected>
-        ensures { result ≡ failure_of self.now }
-    {
-        match &self.ended {
+        let failure = match self.ended {
             Ok(_) => None,
-            Err(reported) => Some(Uncollected::Failed(*reported)),
+            Err(reported) => Some(reported.failure()),
+        };
+        GeneralEnd {
+            general: self.general,
+            failure,
         }
     }
 }

@@ -3,7 +3,8 @@ ghost use Rattle.std.specs.Prelude.{◌≡◌, ◌≢◌, ◌≤◌, ◌++◌, s
 ghost use Rattle.std.specs.Ordering.{nat_cmp};
 ghost use Rattle.round.specs.Letters.{Letter as LetterSeen};
 ghost use Rattle.round.specs.Origin.{AreLettersOf};
-ghost use Rattle.threads.specs.Answers.{halt_as, HasStrayedIn};
+ghost use Rattle.threads.specs.Answers.{HasStrayedIn};
+ghost use Rattle.threads.specs.Outcomes.{halt_as, IsHaltOf};
 ghost use Rattle.threads.specs.declared.error.MusterError.TheVariants.{Spawn, Post as PostFull};
 
 use crate::claim::Claim;
@@ -14,14 +15,17 @@ use crate::post::PostOf;
 use crate::tally::AllPosted;
 use round::{Letter, Scenario, are_letters_of};
 use std::alloc::{AllocError, Global};
+use std::snapshot::Snapshot;
 use std::sync::Wait;
 
 /// Evidence that the letters taken for a round are not exactly one letter of that round for each general. Only
 /// `of_round` creates one.
-#[derive(Clone, Copy)]
-pub(crate) struct Strayed {
+#[derive(Drop)]
+pub struct Strayed {
     /// The round for which the letters were taken.
     round: u32,
+    /// A snapshot of these letters.
+    letters: Snapshot<Vec<Letter>>,
 }
 
 /// Takes the letters of the next round out of the post, and returns the collector and these letters, ascending by
@@ -51,28 +55,33 @@ pub(crate) fn receive<R: Wait, C: Claim, D: Delivered>(
         × IsPermutation came r.1.items) }
     ensures claims { IfOk result (λ r. All C.holds r.1.items) }
     ensures strayed { IfErr result (HasStrayedIn (suc (D.count told.now))) }
+    ensures found { IfErr result (IsHaltOf D.kind scenario.now) }
     ensures started { IfErr result (λ halt. halt_as halt ≢ Spawn) }
     ensures posted { IfErr result (λ halt. halt_as halt ≢ PostFull) }
 {
     let (collector, letters) = take_letters(rt, alloc, post, collector, all)?;
-    of_round(scenario, u32::from(told.rounds()) + 1, letters.as_slice())?;
+    let letters = of_round(scenario, u32::from(told.rounds()) + 1, letters)?;
     Ok((collector, letters))
 }
 
-/// Checks that `letters` are the letters of this round, one for each general.
+/// Returns `letters` if they are the letters of this round, one for each general.
 ///
 /// # Errors
 ///
 /// `Strayed` if they are not.
-fn of_round(scenario: &Scenario, round: u32, letters: &[Letter]) -> Result<(), Strayed>
-    ensures placed { OnOk result (AreLettersOf scenario.now round letters.now) }
-    ensures strayed { IfErr result (λ strayed. (¬ AreLettersOf scenario.now round letters.now)
-        × (strayed.round ≡ round)) }
+fn of_round(scenario: &Scenario, round: u32, letters: Vec<Letter>) -> Result<Vec<Letter>, Strayed>
+    ensures same { IfOk result (λ own. own.items ≡ letters.items) }
+    ensures placed { OnOk result (AreLettersOf scenario.now round letters.items) }
+    ensures strayed { IfErr result (λ strayed. ¬ AreLettersOf scenario.now strayed.round strayed.letters.value.items) }
+    ensures round { IfErr result (λ strayed. strayed.round ≡ round) }
 {
-    if are_letters_of(scenario, round, letters) {
-        Ok(())
+    if are_letters_of(scenario, round, letters.as_slice()) {
+        Ok(letters)
     } else {
-        Err(Strayed { round })
+        Err(Strayed {
+            round,
+            letters: Snapshot::of(&letters),
+        })
     }
 }
 

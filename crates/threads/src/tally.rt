@@ -1,17 +1,17 @@
 //! Counts the letters that the generals have posted, so that a thread can wait until all have.
 ghost use Rattle.std.specs.Prelude.{◌≡◌, ◌≤◌, IfOk};
-ghost use Rattle.threads.specs.Answers.{failure_as};
 
 mod count;
 mod returned_letter;
 
 use crate::camp::HandedOut;
-use crate::error::MusterError;
+use crate::failure::Failure;
 use crate::poster::Poster;
 use crate::resident::Failed;
+pub use count::SomeoneFailed;
 use count::{Count, Counted};
-pub(crate) use count::{AllPosted, SomeoneFailed, Uncounted, send};
-pub(crate) use returned_letter::Returned;
+pub(crate) use count::{AllPosted, Uncounted, send};
+pub use returned_letter::Returned;
 use std::sync::{Condvar, Mutex, Wait};
 
 /// Evidence that a general has failed, and that this was reported to the thread that waits for the letters. Only
@@ -23,11 +23,11 @@ pub(crate) struct Reported {
 }
 
 impl Reported {
-    /// Returns the error that `muster` reports for this failure.
-    pub(crate) fn error(self) -> MusterError
-        ensures { result ≡ failure_as self.failed.failure }
+    /// Returns why the general has failed.
+    pub(crate) fn failure(self) -> Failure
+        ensures { result ≡ self.failed.failure }
     {
-        self.failed.error()
+        self.failed.failure()
     }
 }
 

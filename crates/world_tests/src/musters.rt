@@ -9,7 +9,7 @@ use board::Access;
 use std::alloc::Global;
 use std::sync::Wait;
 use std::thread::Threads;
-use threads::{MusterError, Open, ended, muster_with};
+use threads::{MusterError, Open, muster_with};
 use world::Chronicle;
 
 /// Rows for campaigns of two colluders: the keys, the first reply, the number of accesses, and how many times the
@@ -19,31 +19,6 @@ const COLLUSIONS: &[(&str, u64, usize, u32)] = &[
     (SEVEN_AND_THREE_STEPS, 0, 6, 1),
     (SEVEN_AND_TWO_STEPS, 0, 0, 1),
     (SEVEN_ON_A_BOARD, 5, 6, 1),
-];
-
-/// Rows for failed campaigns: why a thread was not started, how each general has failed, and the error to be reported.
-const FAILURES: &[(Option<MusterError>, &[Option<MusterError>], MusterError)] = &[
-    (
-        None,
-        &[
-            None,
-            Some(MusterError::Post),
-            None,
-            Some(MusterError::Memory),
-        ],
-        MusterError::Post,
-    ),
-    (
-        None,
-        &[None, Some(MusterError::Memory), Some(MusterError::Post)],
-        MusterError::Memory,
-    ),
-    (
-        Some(MusterError::Spawn),
-        &[None, Some(MusterError::Post)],
-        MusterError::Spawn,
-    ),
-    (None, &[None, None], MusterError::Unaccounted),
 ];
 
 /// Returns whether each round has exactly two of these accesses.
@@ -99,10 +74,10 @@ fn cannot_start<R: Threads + Wait + Sync>(
     let Some(scenario) = told(alloc, keys, traitors) else {
         return false;
     };
-    matches!(
-        muster_with(rt, alloc, scenario, &Open, 1 << 60),
-        Err(MusterError::Spawn)
-    )
+    match muster_with(rt, alloc, scenario, &Open, 1 << 60) {
+        Ok(_) => false,
+        Err(failed) => failed.error == MusterError::Spawn,
+    }
 }
 
 /// Checks that a campaign played with threads has the same chronicle as played in one thread.
@@ -126,13 +101,4 @@ fn a_thread_that_cannot_start(rt: HostRuntime) {
     let alloc = rt.alloc();
     assert!(rt; cannot_start(&rt, alloc, FOUR, SWAYING));
     assert!(rt; is_told_as_played(&rt, alloc, FOUR, SWAYING));
-}
-
-#[test]
-fn the_failure_of_the_lowest_general(rt: HostRuntime) {
-    for &(refused, failures, error) in FAILURES {
-        let told = ended::<(), _>(refused, failures, Err(MusterError::Unaccounted));
-        assert!(rt; told == Err(error));
-    }
-    assert!(rt; ended::<(), MusterError>(None, &[None, None], Ok(())).is_ok());
 }

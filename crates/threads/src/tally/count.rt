@@ -27,7 +27,7 @@ impl<D> AllPosted<D> {
 
 /// Evidence that a general has failed, found when a round was over. Only `Count::begin_again` creates one.
 #[derive(Clone, Copy)]
-pub(crate) struct SomeoneFailed {
+pub struct SomeoneFailed {
     failed: Failed,
 }
 

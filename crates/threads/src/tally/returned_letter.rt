@@ -5,7 +5,7 @@ use round::Letter;
 
 /// Evidence that the post had no room for a letter and returned it. Only `posted` creates one.
 #[derive(Clone, Copy)]
-pub(crate) struct Returned {
+pub struct Returned {
     /// The general whose letter was returned.
     general: u32,
 }

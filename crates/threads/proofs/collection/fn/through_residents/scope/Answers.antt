@@ -28,13 +28,12 @@ spawn_scoped-started-requires-after_bounds g c κs within =
 pub loop-poster-preserved : goal.loop-poster-preserved
 loop-poster-preserved g c =
     let old = c.loop-poster.invariant in
-    let more = kept_more c.spawn_scoped-started.result c.kept-refused.result c.loop-poster.handles.items c.kept-refused.new.handles.items c.kept-refused.ensures.handle (sym c.is_some.ensures ∙ c.if-is_some.false) in
+    let more = kept_more c.spawn_scoped-started.result c.kept-unstarted.result c.loop-poster.handles.items c.kept-unstarted.new.handles.items c.kept-unstarted.ensures.handle (sym c.is_some.ensures ∙ c.if-is_some.false) in
     let posters = ap length c.in-Some.ensures.items in
     let witnesses = ap length c.in-Some-pop.ensures.items in record {
       all = (let all = old.all in omega (arith, length-append c.pop.new.self.items (c.in-Some.poster ∷ [])));
       few = (let few = old.few in omega (arith, length-append c.pop.new.self.items (c.in-Some.poster ∷ [])));
-      room = old.room;
-      fresh = old.fresh;
+      room = (let room = old.room in let kept = c.kept-unstarted.ensures.room in omega (arith, length-append c.pop.new.self.items (c.in-Some.poster ∷ [])));
       witnesses = (let many = old.witnesses in omega (arith, length-append c.pop.new.self.items (c.in-Some.poster ∷ []), length-append c.pop-in-Some.new.self.items (c.in-Some-pop.me ∷ [])));
       unserved = rest_all (λ (w : Witnessed). w.made ≡ 0) c.loop-poster.witnesses.items c.pop-in-Some.new.self.items c.in-Some-pop.me old.unserved c.in-Some-pop.ensures.items;
       inboxes = (let many = old.inboxes in omega (arith, length-append c.pop.new.self.items (c.in-Some.poster ∷ [])));

@@ -1,4 +1,4 @@
-use Rattle.std.proofs.Common.{◌≡◌, ◌<◌, ◌≤◌, ◌+◌, ℕ, [], length, vec_len, slice_index_or}
+use Rattle.std.proofs.Common.{◌≡◌, ◌<◌, ◌≤◌, ◌+◌, ℕ, length, vec_len, slice_index_or}
 use Rattle.std.specs.Prelude.{All, vec_capacity}
 use Rattle.threads.specs.Seen.{PosterSeen, poster_seen}
 use Rattle.threads.specs.Inboxes.{AreOwn}
@@ -8,8 +8,7 @@ abbrev pub invariant-loop-poster : goal.invariant-loop-poster
 invariant-loop-poster g l = record {
   all : length l.handles.items + length l.posters.items ≡ length l.initial.posters.items;
   few : length l.handles.items + length l.posters.items ≤ 13;
-  room : length l.initial.posters.items ≤ vec_capacity l.answers;
-  fresh : l.answers.items ≡ [];
+  room : length l.handles.items + length l.posters.items ≤ vec_capacity l.handles;
   witnesses : length l.posters.items ≤ length l.witnesses.items;
   unserved : All (λ w. w.made ≡ 0) l.witnesses.items;
   inboxes : length l.posters.items ≤ length l.camp.now.inboxes.items;

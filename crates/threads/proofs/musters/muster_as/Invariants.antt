@@ -1,4 +1,4 @@
-use Rattle.threads.proofs.musters.muster_on.Given as goal
+use Rattle.threads.proofs.musters.muster_as.Given as goal
 
 -- The name `J` is for the board that was just made.
 abbrev pub ghosts-mustered-J-Room : goal.ghosts-mustered-J-Room
