@@ -7,7 +7,7 @@ ghost use Rattle.trial.specs.Notes.{campaign_notes, in_brackets, letter_note, le
 
 use crate::held_chains::HeldChains;
 use crate::helper_call::HelperCall;
-use crate::letter_slips::letter_slips;
+use crate::letter_replay::letter_slips;
 use crate::reasons::put_reason;
 use explain::helper_name;
 use label::Shape;

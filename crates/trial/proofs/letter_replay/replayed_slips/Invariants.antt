@@ -3,7 +3,7 @@ use Rattle.semantics.specs.Outbox.{empty_outbox}
 use Rattle.semantics.specs.State.{entry}
 use Rattle.trial.specs.Slips.{by_replies, slips_from}
 use Rattle.trial.proofs.SlipLemmas.{IsSlipped}
-use Rattle.trial.proofs.letter_slips.replayed_slips.Given as goal
+use Rattle.trial.proofs.letter_replay.replayed_slips.Given as goal
 
 abbrev pub invariant-loop-activation : goal.invariant-loop-activation
 invariant-loop-activation l =
