@@ -17,7 +17,7 @@ use Rattle.cli_answers.specs.Lines.{with_file}
 use Rattle.cli_answers.specs.Objects.{called, first_by, first_shaped, line_object, or, shaped, told_by, unshaped, with_mark, with_name}
 use Rattle.cli_answers.specs.Refusals.{behind_stop, class_of, fault_object, namer, namer_of, refusal_object, refused_object, reported, sentence_of, with_namer, with_sentence, with_text}
 use Rattle.cli_answers.specs.Shapes.{Row, accesses, shapes}
-use Rattle.cli_answers.specs.Values.{Word, all, joined, number_of, place_of, places, power_of, rule_of, small, told, yes_no_of}
+use Rattle.cli_answers.specs.Values.{Word, all, joined, number_of, place_of, places, power_of, rule_of, small, told, yes_no_of, spaced, text_of}
 
 abbrev IsClean : Option Data → Type 0
 IsClean None = Unit {0}
@@ -106,7 +106,8 @@ told_clean k w =
     (either IsClean (bytes_eq k (codes "S")) (joined w) _ (joined_clean w)
     (either IsClean (bytes_eq k (codes "C")) (rule_of w) _ (rule_clean w)
     (either IsClean (bytes_eq k (codes "E")) (power_of w) _ (power_clean w)
-    (either IsClean (bytes_eq w k) (Some (string (utf8_lossy w))) None refl tt))))))
+    (either IsClean (bytes_eq k (codes "H")) (Some (text_of w)) _ refl
+    (either IsClean (bytes_eq w k) (Some (text_of w)) None refl tt)))))))
 
 abbrev NoFloat : Members → Type 0
 NoFloat ms = members_have_float ms ≡ false
@@ -128,9 +129,11 @@ told_by_clean [] [] ms b = b
 told_by_clean [] (w ∷ ws) ms b = tt
 told_by_clean (p ∷ ps) [] ms b = either HaveClean (bytes_eq p.0 (codes "*")) (option_map (λ d. with_name p.1 d ms) (places [])) None (star_clean p.1 ms (places []) b (places_clean [])) tt
 told_by_clean (p ∷ ps) (w ∷ ws) ms b =
-    either HaveClean (bytes_eq p.0 (codes "*")) (option_map (λ d. with_name p.1 d ms) (places (w ∷ ws))) (option_and_then (λ d. told_by ps ws (with_name p.1 d ms)) (told p.0 w))
+    either HaveClean (bytes_eq p.0 (codes "*")) (option_map (λ d. with_name p.1 d ms) (places (w ∷ ws))) _
     (star_clean p.1 ms (places (w ∷ ws)) b (places_clean (w ∷ ws)))
-    (then_clean p.1 ms (told p.0 w) (told_by ps ws) b (told_clean p.0 w) (λ next c. told_by_clean ps ws next c))
+    (either HaveClean (bytes_eq p.0 (codes "T")) (Some (with_name p.1 (text_of (spaced (w ∷ ws))) ms)) (option_and_then (λ d. told_by ps ws (with_name p.1 d ms)) (told p.0 w))
+    (name_clean p.1 (text_of (spaced (w ∷ ws))) ms refl b)
+    (then_clean p.1 ms (told p.0 w) (told_by ps ws) b (told_clean p.0 w) (λ next c. told_by_clean ps ws next c)))
 
 mark_clean : (r : Row) (ms : Members) → NoFloat ms → NoFloat (with_mark r ms)
 mark_clean r ms b = either NoFloat (length r.mark == 0) ms (put r.mark (boolean r.holds) ms) b (put_clean r.mark (boolean r.holds) ms refl b)

@@ -55,6 +55,10 @@ fn put_told(
         let Some(words) = rest else {
             return Ok(false);
         };
+        if *kind == "T" {
+            put_named(alloc, object, name, spelled(alloc, words)?)?;
+            return Ok(true);
+        }
         let (word, further) = piece(SPACE, words);
         let Some(value) = told(alloc, kind.as_bytes(), word)? else {
             return Ok(false);

@@ -25,8 +25,8 @@ pub(crate) struct Shape {
     pub line: &'static str,
     /// For each word what it may be, and its name, or a dash if the object leaves the word out. `N` is a number, `P`
     /// a number or a dash, `A` yes, no or a dash, `S` numbers joined by dots or a dash, `C` the word of a rule, and `E`
-    /// a power of two, such as `2^18`. `*` is any number of further words, each a number or a dash. Anything else is
-    /// the word itself.
+    /// a power of two, such as `2^18`. `H` is any word, such as a helper's name. `*` is any number of further words, each a
+    /// number or a dash, and `T` is the rest of the line, at least one word. Anything else is the word itself.
     pub parts: &'static [(&'static str, &'static str)],
     /// The mark: the name of a member that is true, or false, in the objects of all these lines. It is empty if there
     /// is no mark.
@@ -266,6 +266,26 @@ const SHAPES: &[Shape] = &[
             ("N", "order"),
         ],
         mark: "",
+        holds: false,
+        within: Within::Nothing,
+    },
+    Shape {
+        line: "call",
+        parts: &[
+            ("note:", "-"),
+            ("round", "-"),
+            ("N", "round"),
+            ("general", "-"),
+            ("N", "general"),
+            ("unit", "-"),
+            ("N", "unit"),
+            ("H", "helper"),
+            ("has", "-"),
+            ("no", "-"),
+            ("effect:", "-"),
+            ("T", "reason"),
+        ],
+        mark: "effect",
         holds: false,
         within: Within::Nothing,
     },

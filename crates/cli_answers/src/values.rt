@@ -120,8 +120,8 @@ fn power(word: &[u8]) -> Option<Value>
 }
 
 /// Returns the JSON value of a word, if it is what `kind` says. For `N` it is a number, for `P` a number or null, for
-/// `A` a boolean or null, for `S` an array of numbers, for `C` the word of a rule, and for `E` the exponent of a power
-/// of two. Any other `kind` is the word itself. Returns `None` if the word does not fit.
+/// `A` a boolean or null, for `S` an array of numbers, for `C` the word of a rule, for `E` the exponent of a power of
+/// two, and for `H` any word. Any other `kind` is the word itself. Returns `None` if the word does not fit.
 #[tactic(auto, unfolding(crate::specs::Values::told))]
 pub(crate) fn told(alloc: Global, kind: &[u8], word: &[u8]) -> Result<Option<Value>, AllocError>
     ensures { IfOk result (λ o. option_map view o ≡ told kind.now word.now) }
@@ -138,6 +138,8 @@ pub(crate) fn told(alloc: Global, kind: &[u8], word: &[u8]) -> Result<Option<Val
         rule(alloc, word)
     } else if kind == b"E".as_slice() {
         Ok(power(word))
+    } else if kind == b"H".as_slice() {
+        Ok(Some(spelled(alloc, word)?))
     } else if word == kind {
         Ok(Some(spelled(alloc, word)?))
     } else {

@@ -27,6 +27,7 @@ use Rattle.signed.specs.Promises.{AgreeUnderSignedBound, IsSignedVerdictOn}
 use Rattle.signed.proofs.Worlds.{signed_campaigns}
 use Rattle.trace.specs.SignedAudit.{IsSoundSignedText, signed_chronicle_told}
 use Rattle.trace.specs.SignedText.{signed_text}
+use Rattle.trial.specs.Notes.{campaign_notes}
 use Rattle.cli_tasks.specs.Campaigns.{IsAccount, IsFollowed, IsOralAudited, IsOralMustered, IsOralPlayed, IsSignedAudited, IsSignedMustered, IsSignedPlayed, asked, signed_behind}
 use Rattle.cli_tasks.specs.Promises.{IsCompleteRun}
 use Rattle.cli_tasks.specs.Schedules.{played, signed_played}
@@ -131,12 +132,15 @@ alone c front = ([], sym (append-nil front), refl)
 pub signed_alone : (c : Chronicle) (front : List ℕ) → front ≡ front ++ signed_behind None c
 signed_alone c front = sym (append-nil front)
 
-pub signed_followed : (who : Lieutenants) (c : Chronicle) (front lines text : List ℕ) → lines ≡ signed_explained c (asked who) → text ≡ front ++ 10 ∷ lines → text ≡ front ++ signed_behind (Some who) c
-signed_followed who c front lines text explains is = is ∙ ap (λ (xs : List ℕ). front ++ 10 ∷ xs) explains
+pub signed_followed : (who : Lieutenants) (c : Chronicle) (front lines notes text : List ℕ) → lines ≡ signed_explained c (asked who) → notes ≡ campaign_notes c.letters
+    → text ≡ front ++ 10 ∷ (lines ++ notes) → text ≡ front ++ signed_behind (Some who) c
+signed_followed who c front lines notes text explains noted is =
+    is ∙ (ap (λ (xs : List ℕ). front ++ 10 ∷ (xs ++ notes)) explains ∙ ap (λ (xs : List ℕ). front ++ 10 ∷ (signed_explained c (asked who) ++ xs)) noted)
 
--- A text that is followed by an empty line and the explanation is what `IsFollowed` states.
-pub followed : (who : Lieutenants) (c : Chronicle) (front lines text : List ℕ) → Explains c (asked who) lines → text ≡ front ++ 10 ∷ lines → IsFollowed (Some who) c front text
-followed who c front lines text explains is = (10 ∷ lines, is, (lines, refl, explains))
+-- A text that is followed by an empty line, the explanation and the notes is what `IsFollowed` states.
+pub followed : (who : Lieutenants) (c : Chronicle) (front lines notes text : List ℕ) → Explains c (asked who) lines → notes ≡ campaign_notes c.letters
+    → text ≡ front ++ 10 ∷ (lines ++ notes) → IsFollowed (Some who) c front text
+followed who c front lines notes text explains noted is = (10 ∷ (lines ++ notes), is, (lines, ap (λ (xs : List ℕ). 10 ∷ (lines ++ xs)) noted, explains))
 
 -- The text that `play` prints for a signed campaign, from its parts: the chronicle, the explanation, and the facts
 -- about the run.
@@ -162,6 +166,6 @@ is_signed_audited s explained bytes c front text inside sound is lines behind = 
   told = behind ∙ (ap (λ (f : List ℕ). f ++ signed_behind explained c) lines ∙ ap (λ (x : Chronicle). sound_lines x.verdict ++ signed_behind explained x) is);
 }
 
--- Appending a line feed and then lines to a text gives the text, the line feed and the lines.
-pub behind_lines : (front lines text : List ℕ) → text ≡ (front ++ 10 ∷ []) ++ lines → text ≡ front ++ 10 ∷ lines
-behind_lines front lines text is = is ∙ append_assoc front (10 ∷ []) lines
+-- Appending a line feed, lines and notes to a text gives the text, the line feed, the lines and the notes.
+pub behind_lines : (front lines notes text : List ℕ) → text ≡ ((front ++ 10 ∷ []) ++ lines) ++ notes → text ≡ front ++ 10 ∷ (lines ++ notes)
+behind_lines front lines notes text is = is ∙ (append_assoc (front ++ 10 ∷ []) lines notes ∙ append_assoc front (10 ∷ []) (lines ++ notes))

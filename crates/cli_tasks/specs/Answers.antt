@@ -14,6 +14,7 @@ use Rattle.verify.specs.Judgement.{judged}
 use Rattle.trial.specs.Setting.{Setting, bench, context_in}
 use Rattle.trial.specs.Answers.{IsTried, Tells as TellsSetting}
 use Rattle.trial.specs.Trial.{Ending, trial_in}
+use Rattle.trial.specs.Notes.{trial_notes}
 use Rattle.trial.specs.Slips.{slips_on}
 use Rattle.trial.specs.Trace.{trace_on}
 use Rattle.cli_tasks.specs.Programs.{ArePlaces, HasProgram, IsBehind, if_asked}
@@ -49,16 +50,16 @@ IsChecked notation explained traced bytes text =
     (checked_lines checked ++ steps_behind traced program bench) text)
 
 -- States that `text` is `told`, the text about a program that was tried in this setting, with notes after it. If an
--- explanation is asked for, there is a note for each call that should set orders in the outbox but sets none. It names
--- the unit of the call, and the line of the file where the call is written.
+-- explanation is asked for, there is a note for each call that should send orders, but has no effect. It names the unit
+-- of the call, and the line of the file where the call is written.
 abbrev pub AreSlipsBehind : Option Notation → List ℕ → List Insn → Setting → List ℕ → List ℕ → Type 0
 AreSlipsBehind None bytes program s told text = text ≡ told
 AreSlipsBehind (Some notation) bytes program s told text =
     (places : List (String Global)) × ArePlaces notation bytes (map string_bytes places)
-    × (text ≡ told ++ slips_on places s.board program (context_in s) (oral s.shape))
+    × (text ≡ told ++ trial_notes places s.shape (slips_on s.board program (context_in s) (oral s.shape)))
 
 -- States that `text` has the lines of the program's trial in this setting. The steps follow if `traced` is set. If an
--- explanation is asked for, it follows, with a note for each call that should set orders in the outbox but sets none.
+-- explanation is asked for, it follows, with a note for each call that should send orders, but has no effect.
 abbrev pub IsTriedIn : Setting → Bool → Option Notation → List ℕ → List Insn → List ℕ → Type 0
 IsTriedIn s traced asked bytes program text =
     (lines : List ℕ) × IsTried program s lines

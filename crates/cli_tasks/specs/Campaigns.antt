@@ -25,6 +25,7 @@ use Rattle.trace.specs.Laws.{IsSoundText}
 use Rattle.trace.specs.SignedAudit.{IsSoundSignedText, signed_chronicle_told}
 use Rattle.trace.specs.SignedText.{signed_text}
 use Rattle.trace.specs.Text.{chronicle_text}
+use Rattle.trial.specs.Notes.{campaign_notes}
 use Rattle.cli_tasks.specs.AuditLines.{sound_lines}
 use Rattle.cli_tasks.specs.Promises.{IsCompleteRun}
 use Rattle.cli_tasks.specs.Schedules.{played, signed_played}
@@ -40,14 +41,15 @@ abbrev pub asked : Lieutenants → Option ℕ
 asked lieutenants.All = None
 asked (lieutenants.One g) = Some g
 
--- States that `behind` is an empty line and the explanation of the decisions in an oral campaign. It is empty if no
--- explanation is asked for.
+-- States that `behind` is an empty line, the explanation of the decisions in an oral campaign, and the notes on the
+-- traitors' calls that have no effect. It is empty if no explanation is asked for.
 abbrev pub IsBehind : Option Lieutenants → Chronicle → List ℕ → Type 0
 IsBehind None c behind = behind ≡ []
-IsBehind (Some who) c behind = (lines : List ℕ) × (behind ≡ 10 ∷ lines) × Explains c (asked who) lines
+IsBehind (Some who) c behind =
+    (lines : List ℕ) × (behind ≡ 10 ∷ (lines ++ campaign_notes c.letters)) × Explains c (asked who) lines
 
--- States that `text` is `front`, followed by an empty line and the explanation of the decisions in an oral campaign, if
--- one is asked for.
+-- States that `text` is `front`, followed by an empty line, the explanation of the decisions in an oral campaign and the
+-- notes on calls that have no effect, if an explanation is asked for.
 abbrev pub IsFollowed : Option Lieutenants → Chronicle → List ℕ → List ℕ → Type 0
 IsFollowed explained c front text = (behind : List ℕ) × (text ≡ front ++ behind) × IsBehind explained c behind
 
@@ -65,11 +67,11 @@ pub record IsOralPlayed (s : Scenario) (schedule : List (List Repeat)) (account 
   pub verdict : IsVerdictOn s (played s schedule).decisions (played s schedule).verdict
   pub well : IsWellUnderBound (played s schedule).verdict
 
--- Returns an empty line and the explanation of the decisions in a signed campaign. Returns no text if no explanation is
--- asked for.
+-- Returns an empty line, the explanation of the decisions in a signed campaign, and the notes on the traitors' calls
+-- that have no effect. Returns no text if no explanation is asked for.
 abbrev pub signed_behind : Option Lieutenants → Chronicle → List ℕ
 signed_behind None c = []
-signed_behind (Some who) c = 10 ∷ signed_explained c (asked who)
+signed_behind (Some who) c = 10 ∷ (signed_explained c (asked who) ++ campaign_notes c.letters)
 
 -- States that `text` is the chronicle of the signed campaign when it is played by the schedule. The explanation of the
 -- decisions follows if it is asked for. The run is complete, no activation in it traps or takes more steps than its

@@ -13,6 +13,7 @@ use show_table::table;
 use signed::{SignedChronicle, explain_signed, play_signed};
 use std::alloc::{AllocError, Global};
 use trace::{Latch, write_chronicle, write_signed};
+use trial::campaign_notes;
 use world::{Chronicle, Schedule, play};
 
 /// Plays the campaign by the schedule. Returns its chronicle or its message table, as `account` says; a signed campaign
@@ -96,19 +97,21 @@ pub(crate) fn chronicle_text(alloc: Global, chronicle: &Chronicle) -> Result<Vec
     }
 }
 
-/// Appends a line feed and then `lines` to a text. After a text that ends with a line feed this makes an empty line.
+/// Appends a line feed, then `lines` and then `notes` to a text. After a text that ends with a line feed this makes an
+/// empty line.
 #[tactic(auto, using(crate::proofs::CampaignLemmas::behind_lines))]
-fn with_lines(front: Vec<u8>, lines: &str) -> Result<Vec<u8>, AllocError>
-    ensures { IfOk result (λ text. text.items ≡ front.items ++ 10 ∷ lines.now) }
+fn with_lines(front: Vec<u8>, lines: &str, notes: &str) -> Result<Vec<u8>, AllocError>
+    ensures { IfOk result (λ text. text.items ≡ front.items ++ 10 ∷ (lines.now ++ notes.now)) }
 {
     let mut text = front;
     text.push(b'\n')?;
     text.extend_from_slice(lines.as_bytes())?;
+    text.extend_from_slice(notes.as_bytes())?;
     Ok(text)
 }
 
-/// Appends an empty line and the explanation of decisions in an oral campaign to its text. Returns the text unchanged
-/// if `explained` is `None`.
+/// Appends an empty line and the explanation of decisions in an oral campaign to its text, with a note for each call of
+/// a traitor that has no effect. Returns the text unchanged if `explained` is `None`.
 #[tactic(auto, using(crate::proofs::CampaignLemmas::alone, crate::proofs::CampaignLemmas::followed))]
 pub(crate) fn with_decisions(
     alloc: Global,
@@ -123,11 +126,12 @@ pub(crate) fn with_decisions(
         return Ok(front);
     };
     let lines = show_table::explained(alloc, chronicle, asked(who))?;
-    with_lines(front, lines.as_str())
+    let notes = campaign_notes(alloc, chronicle.letters())?;
+    with_lines(front, lines.as_str(), notes.as_str())
 }
 
-/// Appends an empty line and the explanation of decisions in a signed campaign to its text. Returns the text unchanged
-/// if `explained` is `None`.
+/// Appends an empty line and the explanation of decisions in a signed campaign to its text, with a note for each call
+/// of a traitor that has no effect. Returns the text unchanged if `explained` is `None`.
 #[tactic(auto, using(crate::proofs::CampaignLemmas::signed_alone, crate::proofs::CampaignLemmas::signed_followed))]
 pub(crate) fn with_signed_decisions(
     alloc: Global,
@@ -141,7 +145,8 @@ pub(crate) fn with_signed_decisions(
         return Ok(front);
     };
     let lines = explain_signed(alloc, chronicle, asked(who))?;
-    with_lines(front, lines.as_str())
+    let notes = campaign_notes(alloc, chronicle.letters())?;
+    with_lines(front, lines.as_str(), notes.as_str())
 }
 
 /// Returns the number of the lieutenant whose decision is explained, or `None` if the decisions of all lieutenants are.

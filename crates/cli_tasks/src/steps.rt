@@ -1,5 +1,5 @@
-//! Describes the run of a program: its steps (`check --trace`), and its calls that should set orders in the outbox but
-//! set none (`check --explain` in a setting).
+//! Describes the run of a program: its steps (`check --trace`), and its calls that should send orders, but have no effect
+//! (`check --explain` in a setting).
 ghost use Rattle.std.specs.Prelude.{◌≡◌, ◌++◌, IfOk, option_map, string_bytes};
 ghost use Rattle.cli_tasks.specs.Answers.{AreSlipsBehind, steps_behind};
 
@@ -38,8 +38,8 @@ pub(crate) fn with_steps(
     Ok(text)
 }
 
-/// Appends a note to the text about an accepted program for each call of its run in this setting that should set orders
-/// in the outbox but sets none. The note names the unit of the call and, if it is known, the line of the file where the
+/// Appends a note to the text about an accepted program for each call of its run in this setting that should send
+/// orders, but has no effect. The note names the unit of the call and, if it is known, the line of the file where the
 /// call is written. `file` has the bytes of the program's file, and `asked` says how the program is written in it.
 /// Returns the text unchanged if `asked` is `None`.
 ///
@@ -64,15 +64,9 @@ pub(crate) fn with_slips(
     let places = written_in(alloc, notation, file)?;
     let bytes = setting.context(alloc)?;
     let context = Context::new(bytes.as_slice());
-    let slips = trial::slips(
-        alloc,
-        program,
-        &context,
-        setting.shape(),
-        setting.board(),
-        places.as_slice(),
-    )?;
+    let slips = trial::slips(alloc, program, &context, setting.shape(), setting.board())?;
+    let notes = trial::trial_notes(alloc, slips.as_slice(), setting.shape(), places.as_slice())?;
     let mut text = told;
-    text.push_str(slips.as_str())?;
+    text.push_str(notes.as_str())?;
     Ok(text)
 }

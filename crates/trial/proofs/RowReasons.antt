@@ -2,18 +2,19 @@
 use Rattle.std.proofs.Common.{◌≡◌, ℕ, ◌<◌, ◌≤◌, List, ◌++◌, length, Bool, false, arith, get_or, inl, inr, ◌⊎◌}
 use Rattle.std.proofs.lemmas.Option.{slice_get_cases}
 use Rattle.std.specs.Prelude.{None, Some, codes, slice_get, ◌==◌}
-use Rattle.semantics.specs.Relay.{Relay, relayed}
-use Rattle.trial.specs.Slips.{dotted, no_row}
+use Rattle.label.specs.declared.shape.Shape.{Shape}
+use Rattle.label.specs.Relay.{relay}
+use Rattle.trial.specs.Notes.{dotted, no_row}
 
 -- Proves what is written if there is a label with this rank that nobody receives.
-unreceived_by : (r : Relay) (rank orders : ℕ) (old new text : List ℕ)
-    → (((x : List ℕ) × (rank < length (relayed r)) × (slice_get (relayed r) rank ≡ Some x) × (get_or (relayed r) rank x ≡ x)) ⊎ ((length (relayed r) ≤ rank) × (slice_get (relayed r) rank ≡ None)))
-    → rank < length (relayed r) → (orders == 0) ≡ false → ((label : List ℕ) → slice_get (relayed r) rank ≡ Some label → text ≡ dotted label)
-    → new ≡ old ++ (codes "nobody receives the label " ++ text) → new ≡ old ++ no_row r rank orders (slice_get (relayed r) rank)
+unreceived_by : (r : Shape) (rank orders : ℕ) (old new text : List ℕ)
+    → (((x : List ℕ) × (rank < length (relay r)) × (slice_get (relay r) rank ≡ Some x) × (get_or (relay r) rank x ≡ x)) ⊎ ((length (relay r) ≤ rank) × (slice_get (relay r) rank ≡ None)))
+    → rank < length (relay r) → (orders == 0) ≡ false → ((label : List ℕ) → slice_get (relay r) rank ≡ Some label → text ≡ dotted label)
+    → new ≡ old ++ (codes "nobody receives the label " ++ text) → new ≡ old ++ no_row r rank orders (slice_get (relay r) rank)
 unreceived_by r rank orders old new text (inl (x, within, is, same)) lt some told e = rw (is, some, ← told x is) e
 unreceived_by r rank orders old new text (inr (past, none)) lt some told e = absurd (omega (arith, past, lt))
 
-pub unreceived : (r : Relay) (rank orders : ℕ) (old new text : List ℕ) → rank < length (relayed r) → (orders == 0) ≡ false
-    → ((label : List ℕ) → slice_get (relayed r) rank ≡ Some label → text ≡ dotted label)
-    → new ≡ old ++ (codes "nobody receives the label " ++ text) → new ≡ old ++ no_row r rank orders (slice_get (relayed r) rank)
-unreceived r rank orders old new text = unreceived_by r rank orders old new text (slice_get_cases (relayed r) rank).1
+pub unreceived : (r : Shape) (rank orders : ℕ) (old new text : List ℕ) → rank < length (relay r) → (orders == 0) ≡ false
+    → ((label : List ℕ) → slice_get (relay r) rank ≡ Some label → text ≡ dotted label)
+    → new ≡ old ++ (codes "nobody receives the label " ++ text) → new ≡ old ++ no_row r rank orders (slice_get (relay r) rank)
+unreceived r rank orders old new text = unreceived_by r rank orders old new text (slice_get_cases (relay r) rank).1

@@ -1,74 +1,88 @@
--- Steps that are calls which set no order, and the notes on such steps.
-use Rattle.std.proofs.Common.{◌≡◌, ◌∙◌, ℕ, zero, suc, ◌+◌, ◌-◌, ◌<◌, List, [], ◌++◌, length, Bool, refl, sym, ap, subst, append_assoc, append-nil, arith}
+-- Steps that are slips (calls that should send orders, but have no effect), and the slips of a whole run.
+use Rattle.std.proofs.Common.{◌≡◌, ◌∙◌, ℕ, zero, suc, ◌+◌, ◌-◌, ◌<◌, ◌≤◌, List, [], ◌∷◌, ◌++◌, length, Bool, true, false, not, refl, sym, ap, subst, append_assoc, append-nil, arith}
 use Rattle.std.proofs.lemmas.Bool.{ne_eqb}
-use Rattle.std.specs.Prelude.{Option, Some, None, Result, Ok, Err, String, if◌then◌else◌, ◌==◌}
-use Rattle.std.specs.declared.alloc.Global.{Global}
+use Rattle.std.specs.Prelude.{Option, Some, None, Result, Ok, Err, if◌then◌else◌, ◌==◌}
 use Rattle.insn.specs.declared.insn.Insn.{Insn}
 use Rattle.insn.specs.declared.insn.Insn.TheVariants as i
 use Rattle.insn.specs.Program.{instruction_at}
 use Rattle.semantics.specs.Relay.{Relay}
+use Rattle.semantics.specs.declared.entry.Entry.{Entry}
 use Rattle.semantics.specs.declared.request.Helper.{Helper}
 use Rattle.semantics.specs.declared.request.Helper.TheVariants as h
 use Rattle.semantics.specs.declared.request.Request.{Request}
+use Rattle.semantics.specs.Entries.{is_entered}
 use Rattle.semantics.specs.State.{Cause, State, Outcome, Next, Ask, Exit, Trap, entry}
 use Rattle.semantics.specs.Outbox.{Choice, empty_outbox, places_set}
-use Rattle.semantics.specs.Call.{called, helper_of, honest_in, resumed, send_in, send_row_in, sent, sway_in}
+use Rattle.semantics.specs.Call.{Told, Puts, Enters, attempted, called, helper_of, honest_in, pass_in, resumed, send_in, send_row_in, sent, sign_in, sway_in, told, WhetherNone, HowMany}
 use Rattle.semantics.specs.Execution.{executed, fetched, step}
-use Rattle.board.specs.Board.{reply, next}
-use Rattle.board.specs.Ledger.{RecordedBoard}
+use Rattle.semantics.proofs.StepLaws.{resumed_counts}
 use Rattle.machine.specs.Standing.{Standing}
 use Rattle.machine.specs.Advance.{IsOfRun}
-use Rattle.trial.specs.Trace.{Rest}
-use Rattle.trial.specs.Slips.{call_at, call_by, followed, note_of, number_at, says_none, slip, slip_at, slips_at, slips_from, slips_on, where_none, where_said}
-use Rattle.trial.specs.declared.reasons.HelperCall.{HelperCall}
+use Rattle.trial.specs.Noted.{call_said, says_none}
+use Rattle.trial.specs.Noting.{EndsRun, HasAsked, HasEnded, HasGone, slip_next}
+use Rattle.trial.specs.Slips.{Answering, Rest, answered, call_at, call_by, followed, is_slip, number_at, slip, slip_at, slips_at, slips_from}
+use Rattle.trial.specs.declared.helper_call.HelperCall.{HelperCall}
 
--- ---- r0 says whether a call set a place
+-- ---- r0 says whether a call is a slip
 
--- States what the outcome of a step means for the note.
-abbrev Says : List (String Global) → Relay → Option HelperCall → List ℕ → Outcome → Type 0
-Says places r call line (Next t) = line ≡ where_said places r (number_at t 0) call
-Says places r call line (Ask request t) = line ≡ []
-Says places r call line (Exit r0 t) = line ≡ []
-Says places r call line (Trap cause) = Unit {0}
+-- States what the outcome of a step means for its slip.
+abbrev Says : Option HelperCall → List HelperCall → Outcome → Type 0
+Says call calls (Next t) = calls ≡ call_said (number_at t 0) call
+Says call calls (Ask request t) = calls ≡ []
+Says call calls (Exit r0 t) = calls ≡ []
+Says call calls (Trap cause) = Unit {0}
 
 abbrev made : State → Helper → HelperCall
 made s helper = record { unit = s.unit; helper = helper; first = number_at s 1; second = number_at s 2; third = number_at s 3 }
 
--- Proves that there is no note on a step that is not a call of a helper that sets orders.
-quiet : (places : List (String Global)) (r : Relay) (call : Option HelperCall) → ((r0 : ℕ) → where_said places r r0 call ≡ []) → (o : Outcome) → Says places r call [] o
-quiet places r call none (Next t) = sym (none (number_at t 0))
-quiet places r call none (Ask request t) = refl
-quiet places r call none (Exit r0 t) = refl
-quiet places r call none (Trap cause) = tt
+-- Proves that a step that is not a call of a helper that sends orders is no slip.
+quiet : (call : Option HelperCall) → ((r0 : ℕ) → call_said r0 call ≡ []) → (o : Outcome) → Says call [] o
+quiet call none (Next t) = sym (none (number_at t 0))
+quiet call none (Ask request t) = refl
+quiet call none (Exit r0 t) = refl
+quiet call none (Trap cause) = tt
 
 one_less : (n : ℕ) → (n == 0) ≡ ((1 - n) == 1)
 one_less zero = refl
 one_less (suc n) = let none : 1 - suc n ≡ 0 = omega arith in ne_eqb (suc n) 0 (λ (e : suc n ≡ 0). let no : ⊥ = omega arith in no) ∙ ap (λ (m : ℕ). m == 1) (sym none)
 
-sent_says : (places : List (String Global)) (r : Relay) (s : State) (r0 : ℕ → ℕ) (call : HelperCall) → ((n : ℕ) → (n == 0) ≡ says_none call.helper (r0 n)) → (chosen : Result Choice Cause)
-    → Says places r (Some call) (where_none r (note_of places r call) (Some chosen)) (sent r s r0 chosen)
-sent_says places r s r0 call same (Err cause) = tt
-sent_says places r s r0 call same (Ok choice) = ap (λ (b : Bool). if b then note_of places r call else []) (same (places_set r choice))
+sent_says : (r : Relay) (s : State) (tells : Told) (call : HelperCall) → ((n : ℕ) → (n == 0) ≡ says_none call.helper (told tells n)) → (chosen : Result Choice Cause)
+    → Says (Some call) (if is_slip r s (Puts tells chosen) then call ∷ [] else []) (sent r s (told tells) chosen)
+sent_says r s tells call same (Err cause) = tt
+sent_says r s tells call same (Ok choice) = ap (λ (b : Bool). if b then call ∷ [] else []) (same (places_set r choice))
 
-called_says : (places : List (String Global)) (context : List ℕ) (r : Relay) (s : State) (helper : Option Helper) → Says places r (call_by s helper) (slip places context r s (call_by s helper)) (called context r s helper)
-called_says places context r s None = tt
-called_says places context r s (Some h.Send) = sent_says places r s (λ set. 1 - set) (made s h.Send) one_less (send_in s)
-called_says places context r s (Some h.SendRow) = sent_says places r s (λ set. set) (made s h.SendRow) (λ n. refl) (send_row_in context s)
-called_says places context r s (Some h.Sway) = sent_says places r s (λ set. set) (made s h.Sway) (λ n. refl) (sway_in s)
-called_says places context r s (Some h.Honest) = sent_says places r s (λ set. set) (made s h.Honest) (λ n. refl) (honest_in context s)
-called_says places context r s (Some helper) = quiet places r (call_by s (Some helper)) (λ r0. refl) (called context r s (Some helper))
+refused_by_one : (b : Bool) → not b ≡ ((if b then 0 else 1) == 1)
+refused_by_one true = refl
+refused_by_one false = refl
 
-executed_says : (places : List (String Global)) (context : List ℕ) (r : Relay) (insn : Insn) (s : State) → Says places r (call_at s insn) (slip places context r s (call_at s insn)) (executed context r insn s)
-executed_says places context r (i.Call number) s = called_says places context r s (helper_of number)
-executed_says places context r insn s = quiet places r None (λ r0. refl) (executed context r insn s)
+attempted_says : (r : Relay) (s : State) (call : HelperCall) → ((n : ℕ) → says_none call.helper n ≡ (n == 1)) → (tried : Result Entry Cause)
+    → Says (Some call) (if is_slip r s (Enters tried) then call ∷ [] else []) (attempted r s tried)
+attempted_says r s call same (Err cause) = tt
+attempted_says r s call same (Ok entry) =
+    let b = is_entered r s.entries entry in
+    ap (λ (x : Bool). if x then call ∷ [] else []) (refused_by_one b ∙ sym (same (if b then 0 else 1)))
 
-step_says : (places : List (String Global)) (program : List Insn) (context : List ℕ) (r : Relay) (s : State) (insn : Insn) (o : Outcome) → instruction_at program s.unit ≡ Some insn → step program context r s ≡ o
-    → Says places r (call_at s insn) (slip_at places context r s (instruction_at program s.unit)) o
+called_says : (context : List ℕ) (r : Relay) (s : State) (helper : Option Helper) → Says (call_by s helper) (slip context r s (call_by s helper)) (called context r s helper)
+called_says context r s None = tt
+called_says context r s (Some h.Send) = sent_says r s WhetherNone (made s h.Send) one_less (send_in s)
+called_says context r s (Some h.SendRow) = sent_says r s HowMany (made s h.SendRow) (λ n. refl) (send_row_in context s)
+called_says context r s (Some h.Sway) = sent_says r s HowMany (made s h.Sway) (λ n. refl) (sway_in s)
+called_says context r s (Some h.Honest) = sent_says r s HowMany (made s h.Honest) (λ n. refl) (honest_in context s)
+called_says context r s (Some h.SignOrder) = attempted_says r s (made s h.SignOrder) (λ n. refl) (sign_in s)
+called_says context r s (Some h.PassOn) = attempted_says r s (made s h.PassOn) (λ n. refl) (pass_in s)
+called_says context r s (Some helper) = quiet (call_by s (Some helper)) (λ r0. refl) (called context r s (Some helper))
+
+executed_says : (context : List ℕ) (r : Relay) (insn : Insn) (s : State) → Says (call_at s insn) (slip context r s (call_at s insn)) (executed context r insn s)
+executed_says context r (i.Call number) s = called_says context r s (helper_of number)
+executed_says context r insn s = quiet None (λ r0. refl) (executed context r insn s)
+
+step_says : (program : List Insn) (context : List ℕ) (r : Relay) (s : State) (insn : Insn) (o : Outcome) → instruction_at program s.unit ≡ Some insn → step program context r s ≡ o
+    → Says (call_at s insn) (slip_at context r s (instruction_at program s.unit)) o
 unfolding step
-step_says places program context r s insn o here is =
+step_says program context r s insn o here is =
     let led : executed context r insn s ≡ o = sym (ap (λ (found : Option Insn). fetched context r found s) here) ∙ is in
-    subst (λ (x : Outcome). Says places r (call_at s insn) (slip_at places context r s (instruction_at program s.unit)) x) led
-    (subst (λ (found : Option Insn). Says places r (call_at s insn) (slip_at places context r s found) (executed context r insn s)) (sym here) (executed_says places context r insn s))
+    subst (λ (x : Outcome). Says (call_at s insn) (slip_at context r s (instruction_at program s.unit)) x) led
+    (subst (λ (found : Option Insn). Says (call_at s insn) (slip_at context r s found) (executed context r insn s)) (sym here) (executed_says context r insn s))
 
 -- ---- one step
 
@@ -77,84 +91,144 @@ pub none_here : (program own : List Insn) (unit at : ℕ) → None ≡ instructi
 none_here program own unit at none same is =
     sym (none ∙ (ap (λ (p : List Insn). instruction_at p at) same ∙ ap (λ (u : ℕ). instruction_at program u) is))
 
-pub nothing_there : (places : List (String Global)) (program : List Insn) (context : List ℕ) (r : Relay) (rest : Rest) (words : List ℕ) (s : State) → instruction_at program s.unit ≡ None
-    → slips_at places program context r rest words s ≡ []
+-- Proves that the run ends where there is no instruction.
+pub ended_nowhere : (program : List Insn) (context : List ℕ) (a : Standing) (calls : List HelperCall) → instruction_at program a.state.unit ≡ None → HasEnded program context a calls calls
 unfolding step
-nothing_there places program context r rest words s none = ap (λ (found : Option Insn). slip_at places context r s found ++ followed rest words (fetched context r found s)) none
+ended_nowhere program context a calls none = record {
+  ends = subst (λ (found : Option Insn). EndsRun (fetched context a.relay found a.state)) (sym none) tt;
+  noted = refl;
+  none = ap (λ (found : Option Insn). slip_at context a.relay a.state found) none;
+}
 
-pub slip_next : (places : List (String Global)) (program : List Insn) (context : List ℕ) (r : Relay) (rest : Rest) (words : List ℕ) (s t : State) (insn : Insn) (old new : List ℕ)
-    → instruction_at program s.unit ≡ Some insn → step program context r s ≡ Next t
-    → new ≡ old ++ where_said places r (number_at t 0) (call_at s insn)
-    → old ++ slips_at places program context r rest words s ≡ new ++ rest words t
-slip_next places program context r rest words s t insn old new here is grew =
-    let told : slip_at places context r s (instruction_at program s.unit) ≡ where_said places r (number_at t 0) (call_at s insn) = step_says places program context r s insn (Next t) here is in
-    ap (λ (o : Outcome). old ++ (slip_at places context r s (instruction_at program s.unit) ++ followed rest words o)) is
-    ∙ (ap (λ (line : List ℕ). old ++ (line ++ rest words t)) told
-    ∙ (sym (append_assoc old (where_said places r (number_at t 0) (call_at s insn)) (rest words t)) ∙ ap (λ (l : List ℕ). l ++ rest words t) (sym grew)))
+pub ended_by_exit : (program : List Insn) (context : List ℕ) (a : Standing) (insn : Insn) (r0 : ℕ) (t : State) (calls : List HelperCall) → instruction_at program a.state.unit ≡ Some insn
+    → step program context a.relay a.state ≡ Exit r0 t → HasEnded program context a calls calls
+ended_by_exit program context a insn r0 t calls here is = record {
+  ends = subst EndsRun (sym is) tt;
+  noted = refl;
+  none = step_says program context a.relay a.state insn (Exit r0 t) here is;
+}
 
-pub slip_asks : (places : List (String Global)) (program : List Insn) (context : List ℕ) (r : Relay) (rest : Rest) (words left : List ℕ) (s t u : State) (insn : Insn) (request : Request) (old new : List ℕ)
-    → instruction_at program s.unit ≡ Some insn → step program context r s ≡ Ask request t
-    → u ≡ resumed request (reply words request) t → left ≡ next words request → new ≡ old
-    → old ++ slips_at places program context r rest words s ≡ new ++ rest left u
-slip_asks places program context r rest words left s t u insn request old new here is resumes leaves same =
-    let told : slip_at places context r s (instruction_at program s.unit) ≡ [] = step_says places program context r s insn (Ask request t) here is in
-    ap (λ (o : Outcome). old ++ (slip_at places context r s (instruction_at program s.unit) ++ followed rest words o)) is
-    ∙ (ap (λ (line : List ℕ). old ++ (line ++ rest (next words request) (resumed request (reply words request) t))) told
-    ∙ (ap (λ (v : State). old ++ rest (next words request) v) (sym resumes)
-    ∙ (ap (λ (w : List ℕ). old ++ rest w u) (sym leaves) ∙ ap (λ (l : List ℕ). l ++ rest left u) (sym same))))
+-- Proves that a request is no slip.
+pub no_slip : (program : List Insn) (context : List ℕ) (a : Standing) (insn : Insn) (request : Request) (t : State) → instruction_at program a.state.unit ≡ Some insn
+    → step program context a.relay a.state ≡ Ask request t → slip_next program context a ≡ []
+no_slip program context a insn request t here is = step_says program context a.relay a.state insn (Ask request t) here is
 
-pub slip_exit : (places : List (String Global)) (program : List Insn) (context : List ℕ) (r : Relay) (rest : Rest) (words : List ℕ) (s t : State) (insn : Insn) (r0 : ℕ) (old new : List ℕ)
-    → instruction_at program s.unit ≡ Some insn → step program context r s ≡ Exit r0 t → new ≡ old
-    → old ++ slips_at places program context r rest words s ≡ new
-slip_exit places program context r rest words s t insn r0 old new here is same =
-    let told : slip_at places context r s (instruction_at program s.unit) ≡ [] = step_says places program context r s insn (Exit r0 t) here is in
-    ap (λ (o : Outcome). old ++ (slip_at places context r s (instruction_at program s.unit) ++ followed rest words o)) is
-    ∙ (ap (λ (line : List ℕ). old ++ (line ++ [])) told ∙ (append-nil old ∙ sym same))
+-- Proves that the slip of a step is what r0 says.
+pub slip_said : (program : List Insn) (context : List ℕ) (a : Standing) (insn : Insn) (t : State) → instruction_at program a.state.unit ≡ Some insn
+    → step program context a.relay a.state ≡ Next t → slip_next program context a ≡ call_said (number_at t 0) (call_at a.state insn)
+slip_said program context a insn t here is = step_says program context a.relay a.state insn (Next t) here is
 
 -- ---- the whole run
 
--- States which notes the further run adds, from the program's state and the board's words.
-pub record IsSlipped (places : List (String Global)) (opening : List ℕ) (program : List Insn) (context : List ℕ) (relay : Relay) (a : Standing) (b : RecordedBoard) (text : List ℕ) : Type 0 where
+-- States which slips the further run adds, at most up to this number of steps, to make the whole list.
+pub record IsSlipped {B : Type 0} (answering : Answering B) (program : List Insn) (context : List ℕ) (relay : Relay) (steps : ℕ) (whole : List HelperCall) (a : Standing) (b : B) (calls : List HelperCall) : Type 0 where
   pub of_run : IsOfRun program context a
   pub relay_kept : a.relay ≡ relay
-  pub rest : text ++ slips_from places program context relay (length program - a.state.steps) b.words a.state ≡ slips_on places opening program context relay
+  pub rest : calls ++ slips_from answering program context relay (steps - a.state.steps) b a.state ≡ whole
 
-pub slipped_from : (places : List (String Global)) (opening : List ℕ) (program : List Insn) (context : List ℕ) (relay : Relay) (a : Standing) (b : RecordedBoard) → IsOfRun program context a → a.relay ≡ relay →
-    b.words ≡ opening → a.state ≡ entry (empty_outbox a.relay) → IsSlipped places opening program context relay a b []
-slipped_from places opening program context relay a b run same opened begun =
-    let at : a.state ≡ entry (empty_outbox relay) = begun ∙ ap (λ (r : Relay). entry (empty_outbox r)) same in
-    record {
-      of_run = run;
-      relay_kept = same;
-      rest = (let all : length program - 0 ≡ length program = omega arith in rw (at, opened) (ap (λ (k : ℕ). slips_from places program context relay k opening (entry (empty_outbox relay))) all));
-    }
+pub slipped_from : {B : Type 0} (answering : Answering B) (program : List Insn) (context : List ℕ) (relay : Relay) (steps : ℕ) (a : Standing) (b : B) → IsOfRun program context a → a.relay ≡ relay
+    → a.state ≡ entry (empty_outbox relay) → IsSlipped answering program context relay steps (slips_from answering program context relay steps b (entry (empty_outbox relay))) a b []
+slipped_from answering program context relay steps a b run same at = record {
+  of_run = run;
+  relay_kept = same;
+  rest = (let all : steps - 0 ≡ steps = omega arith in rw at (ap (λ (k : ℕ). slips_from answering program context relay k b (entry (empty_outbox relay))) all));
+}
 
-slips_suc : (places : List (String Global)) (program : List Insn) (context : List ℕ) (relay : Relay) (k : ℕ) (words : List ℕ) (s : State)
-    → slips_from places program context relay (suc k) words s ≡ slips_at places program context relay (λ left t. slips_from places program context relay k left t) words s
+slips_suc : {B : Type 0} (answering : Answering B) (program : List Insn) (context : List ℕ) (relay : Relay) (k : ℕ) (b : B) (s : State)
+    → slips_from answering program context relay (suc k) b s ≡ slips_at answering program context relay (λ c t. slips_from answering program context relay k c t) b s
 unfolding slips_from
-slips_suc places program context relay k words s = refl
+slips_suc answering program context relay k b s = refl
 
--- Proves that the notes on k + 1 steps are the note on this step and those on k further steps.
-left_over : (places : List (String Global)) (opening : List ℕ) (program : List Insn) (context : List ℕ) (relay : Relay) (k : ℕ) (a : Standing) (b : RecordedBoard) (text : List ℕ) → IsSlipped places opening program context relay a b text
-    → length program - a.state.steps ≡ suc k → text ++ slips_at places program context a.relay (λ left t. slips_from places program context relay k left t) b.words a.state ≡ slips_on places opening program context relay
-left_over places opening program context relay k a b text h is =
-    ap (λ (r : Relay). text ++ slips_at places program context r (λ left t. slips_from places program context relay k left t) b.words a.state) h.relay_kept
-    ∙ (ap (λ (l : List ℕ). text ++ l) (sym (slips_suc places program context relay k b.words a.state))
-    ∙ (ap (λ (n : ℕ). text ++ slips_from places program context relay n b.words a.state) (sym is) ∙ h.rest))
+slips_zero : {B : Type 0} (answering : Answering B) (program : List Insn) (context : List ℕ) (relay : Relay) (b : B) (s : State) → slips_from answering program context relay 0 b s ≡ []
+unfolding slips_from
+slips_zero answering program context relay b s = refl
 
-pub slipped_on : (places : List (String Global)) (opening : List ℕ) (program : List Insn) (context : List ℕ) (relay : Relay) (a t : Standing) (b d : RecordedBoard) (text longer : List ℕ) → a.state.steps < length program → IsSlipped places opening program context relay a b text
-    → IsOfRun program context t → t.relay ≡ a.relay → t.state.steps ≡ a.state.steps + 1
-    → ((rest : Rest) → text ++ slips_at places program context a.relay rest b.words a.state ≡ longer ++ rest d.words t.state) → IsSlipped places opening program context relay t d longer
-slipped_on places opening program context relay a t b d text longer few h run same counted tells =
-    let left : length program - a.state.steps ≡ suc (length program - t.state.steps) = omega arith in
+-- Proves that the slips of k + 1 steps are the slip of this step and those of k further steps.
+left_over : {B : Type 0} (answering : Answering B) (program : List Insn) (context : List ℕ) (relay : Relay) (steps k : ℕ) (whole : List HelperCall) (a : Standing) (b : B) (calls : List HelperCall)
+    → IsSlipped answering program context relay steps whole a b calls → steps - a.state.steps ≡ suc k
+    → calls ++ slips_at answering program context a.relay (λ c t. slips_from answering program context relay k c t) b a.state ≡ whole
+left_over answering program context relay steps k whole a b calls h is =
+    ap (λ (r : Relay). calls ++ slips_at answering program context r (λ c t. slips_from answering program context relay k c t) b a.state) h.relay_kept
+    ∙ (ap (λ (l : List HelperCall). calls ++ l) (sym (slips_suc answering program context relay k b a.state))
+    ∙ (ap (λ (n : ℕ). calls ++ slips_from answering program context relay n b a.state) (sym is) ∙ h.rest))
+
+pub slipped_went : {B : Type 0} (answering : Answering B) (program : List Insn) (context : List ℕ) (relay : Relay) (steps : ℕ) (whole : List HelperCall) (a t : Standing) (b : B) (calls longer : List HelperCall)
+    → a.state.steps < steps → IsSlipped answering program context relay steps whole a b calls → HasGone program context a t calls longer → t.relay ≡ a.relay
+    → IsSlipped answering program context relay steps whole t b longer
+slipped_went answering program context relay steps whole a t b calls longer few h gone same =
+    let counted = gone.counted in
+    let left : steps - a.state.steps ≡ suc (steps - t.state.steps) = omega arith in
+    let rest : Rest B = λ c u. slips_from answering program context relay (steps - t.state.steps) c u in
     record {
-      of_run = run;
+      of_run = gone.of_run;
       relay_kept = same ∙ h.relay_kept;
-      rest = sym (tells (λ words s. slips_from places program context relay (length program - t.state.steps) words s)) ∙ left_over places opening program context relay (length program - t.state.steps) a b text h left;
+      rest = ap (λ (l : List HelperCall). l ++ rest b t.state) gone.noted
+          ∙ (append_assoc calls (slip_next program context a) (rest b t.state)
+          ∙ (ap (λ (o : Outcome). calls ++ (slip_next program context a ++ followed answering rest b o)) (sym gone.outcome)
+          ∙ left_over answering program context relay steps (steps - t.state.steps) whole a b calls h left));
     }
 
-pub slipped_end : (places : List (String Global)) (opening : List ℕ) (program : List Insn) (context : List ℕ) (relay : Relay) (a : Standing) (b : RecordedBoard) (text longer : List ℕ) → a.state.steps < length program → IsSlipped places opening program context relay a b text
-    → ((rest : Rest) → text ++ slips_at places program context a.relay rest b.words a.state ≡ longer) → longer ≡ slips_on places opening program context relay
-slipped_end places opening program context relay a b text longer few h tells =
-    let left : length program - a.state.steps ≡ suc (length program - a.state.steps - 1) = omega arith in
-    sym (tells (λ words s. slips_from places program context relay (length program - a.state.steps - 1) words s)) ∙ left_over places opening program context relay (length program - a.state.steps - 1) a b text h left
+-- Proves what follows a request, by what answers it.
+asked_rest : {B : Type 0} (answering : Answering B) (program : List Insn) (context : List ℕ) (rest : Rest B) (a : Standing) (m : Standing) (b : B) (request : Request) (found : Option (List ℕ × B)) (calls same : List HelperCall)
+    → HasAsked program context request a m calls same → answering b request ≡ found
+    → calls ++ slips_at answering program context a.relay rest b a.state ≡ same ++ answered rest request m.state found
+asked_rest answering program context rest a m b request found calls same asked is =
+    ap (λ (o : Outcome). calls ++ (slip_next program context a ++ followed answering rest b o)) asked.outcome
+    ∙ (ap (λ (l : List HelperCall). calls ++ (l ++ answered rest request m.state (answering b request))) asked.none
+    ∙ (ap (λ (f : Option (List ℕ × B)). calls ++ answered rest request m.state f) is
+    ∙ ap (λ (l : List HelperCall). l ++ answered rest request m.state found) (sym asked.noted)))
+
+pub slipped_asked : {B : Type 0} (answering : Answering B) (program : List Insn) (context : List ℕ) (relay : Relay) (steps : ℕ) (whole : List HelperCall) (a m t : Standing) (b d : B) (request : Request) (answer : List ℕ)
+    (calls same : List HelperCall) → a.state.steps < steps → IsSlipped answering program context relay steps whole a b calls → HasAsked program context request a m calls same → m.relay ≡ a.relay
+    → answering b request ≡ Some (answer, d) → t.relay ≡ m.relay → t.state ≡ resumed request answer m.state → IsOfRun program context t
+    → IsSlipped answering program context relay steps whole t d same
+slipped_asked answering program context relay steps whole a m t b d request answer calls same few h asked kept answers held resumes run =
+    let counted = asked.counted in
+    let unchanged : t.state.steps ≡ m.state.steps = ap (λ (s : State). s.steps) resumes ∙ resumed_counts request answer m.state in
+    let left : steps - a.state.steps ≡ suc (steps - t.state.steps) = omega arith in
+    let rest : Rest B = λ c u. slips_from answering program context relay (steps - t.state.steps) c u in
+    record {
+      of_run = run;
+      relay_kept = held ∙ (kept ∙ h.relay_kept);
+      rest = ap (λ (u : State). same ++ rest d u) resumes
+          ∙ (sym (asked_rest answering program context rest a m b request (Some (answer, d)) calls same asked answers)
+          ∙ left_over answering program context relay steps (steps - t.state.steps) whole a b calls h left);
+    }
+
+-- Proves that the list is whole if a request is not answered.
+pub slipped_cut : {B : Type 0} (answering : Answering B) (program : List Insn) (context : List ℕ) (relay : Relay) (steps : ℕ) (whole : List HelperCall) (a m : Standing) (b : B) (request : Request)
+    (calls same : List HelperCall) → a.state.steps < steps → IsSlipped answering program context relay steps whole a b calls → HasAsked program context request a m calls same
+    → answering b request ≡ None → same ≡ whole
+slipped_cut answering program context relay steps whole a m b request calls same few h asked unanswered =
+    let k = steps - a.state.steps - 1 in
+    let left : steps - a.state.steps ≡ suc k = omega arith in
+    let rest : Rest B = λ c u. slips_from answering program context relay k c u in
+    sym (append-nil same)
+    ∙ (sym (asked_rest answering program context rest a m b request None calls same asked unanswered)
+    ∙ left_over answering program context relay steps k whole a b calls h left)
+
+ends_none : {B : Type 0} (answering : Answering B) (rest : Rest B) (b : B) (o : Outcome) → EndsRun o → followed answering rest b o ≡ []
+ends_none answering rest b (Exit r0 t) ends = refl
+ends_none answering rest b (Trap cause) ends = refl
+
+-- Proves that the list is whole when the run ends.
+pub slipped_end : {B : Type 0} (answering : Answering B) (program : List Insn) (context : List ℕ) (relay : Relay) (steps : ℕ) (whole : List HelperCall) (a : Standing) (b : B)
+    (calls same : List HelperCall) → a.state.steps < steps → IsSlipped answering program context relay steps whole a b calls → HasEnded program context a calls same → same ≡ whole
+slipped_end answering program context relay steps whole a b calls same few h ended =
+    let k = steps - a.state.steps - 1 in
+    let left : steps - a.state.steps ≡ suc k = omega arith in
+    let rest : Rest B = λ c u. slips_from answering program context relay k c u in
+    ended.noted
+    ∙ (sym (append-nil calls)
+    ∙ (ap (λ (l : List HelperCall). calls ++ l) (sym (ends_none answering rest b (step program context a.relay a.state) ended.ends))
+    ∙ (ap (λ (l : List HelperCall). calls ++ (l ++ followed answering rest b (step program context a.relay a.state))) (sym ended.none)
+    ∙ left_over answering program context relay steps k whole a b calls h left)))
+
+-- Proves that the list is whole after all steps.
+pub slipped_over : {B : Type 0} (answering : Answering B) (program : List Insn) (context : List ℕ) (relay : Relay) (steps : ℕ) (whole : List HelperCall) (a : Standing) (b : B) (calls : List HelperCall)
+    → steps ≤ a.state.steps → IsSlipped answering program context relay steps whole a b calls → calls ≡ whole
+slipped_over answering program context relay steps whole a b calls past h =
+    let over : steps - a.state.steps ≡ 0 = omega arith in
+    sym (append-nil calls)
+    ∙ (ap (λ (l : List HelperCall). calls ++ l) (sym (slips_zero answering program context relay b a.state))
+    ∙ (ap (λ (n : ℕ). calls ++ slips_from answering program context relay n b a.state) (sym over) ∙ h.rest))

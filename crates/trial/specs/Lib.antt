@@ -11,4 +11,8 @@ pub mod Values
 pub mod StepLines
 pub mod Trace
 pub mod Slips
+pub mod Held
+pub mod Notes
+pub mod Noted
+pub mod Noting
 pub mod TraceLaws

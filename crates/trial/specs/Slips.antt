@@ -1,70 +1,25 @@
--- The notes on a run's slips: calls that should set an order in the outbox but set none. Each note is a line with the
--- reason.
-use Rattle.std.specs.Prelude.{ℕ, zero, suc, ◌-◌, ◌==◌, nat_lt, if◌then◌else◌, Bool, false, List, [], ◌∷◌, ◌++◌, flat_map, codes, decimal, length, slice_get, string_bytes, Option, Some, None, Result, Ok, String}
-use Rattle.std.specs.declared.alloc.Global.{Global}
+-- The slips of a run: calls that should send orders, but have no effect on the outbox (own).
+use Rattle.std.specs.Prelude.{ℕ, zero, suc, ◌+◌, ◌*◌, ◌%◌, ◌^◌, ◌==◌, not, min, if◌then◌else◌, Bool, false, List, [], ◌∷◌, ◌++◌, map, length, Option, Some, None, Ok}
+use Rattle.std.specs.List.{range_with_len}
 use Rattle.insn.specs.declared.insn.Insn.{Insn}
 use Rattle.insn.specs.declared.insn.Insn.TheVariants as insn
 use Rattle.insn.specs.Program.{instruction_at}
-use Rattle.label.specs.declared.shape.Shape.{Shape}
 use Rattle.semantics.specs.declared.request.Helper.{Helper}
-use Rattle.semantics.specs.declared.request.Helper.TheVariants.{Send, SendRow, Sway, Honest}
+use Rattle.semantics.specs.declared.request.Request.{Request}
 use Rattle.semantics.specs.declared.value.Value.{Value}
 use Rattle.semantics.specs.declared.value.Value.TheVariants.{Number}
-use Rattle.semantics.specs.Relay.{Relay, relayed}
-use Rattle.semantics.specs.State.{Cause, State, Outcome, Next, Ask, Exit, Trap, entry, value_at}
-use Rattle.semantics.specs.Outbox.{Choice, empty_outbox, places_set}
-use Rattle.semantics.specs.Call.{helper_of, honest_in, resumed, send_in, send_row_in, sway_in}
+use Rattle.semantics.specs.Entries.{is_entered}
+use Rattle.semantics.specs.Relay.{Kind, Oral, Signed, Relay}
+use Rattle.semantics.specs.State.{State, Outcome, Next, Ask, Exit, Trap, entry, value_at}
+use Rattle.semantics.specs.Outbox.{empty_outbox, places_set}
+use Rattle.semantics.specs.Call.{Effect, Puts, Enters, effect, fits, helper_of, resumed}
 use Rattle.semantics.specs.Execution.{step}
-use Rattle.board.specs.Board.{reply, next}
-use Rattle.explain.specs.Names.{helper_name}
-use Rattle.trial.specs.Trace.{Rest}
-use Rattle.trial.specs.declared.reasons.HelperCall.{HelperCall}
+use Rattle.board.specs.Board.{Access, reply, next}
+use Rattle.mem.specs.ContextLayout.{at_kind, number_told}
+use Rattle.round.specs.Letters.{Letter}
+use Rattle.trial.specs.declared.helper_call.HelperCall.{HelperCall}
 
--- The definitions down to `no_label` write the reason why a call sets no order.
-
--- Writes a label: its generals in decimal, joined by dots, such as `0.2`. The empty label is a dash.
-abbrev pub dotted : List ℕ → List ℕ
-dotted [] = codes "-"
-dotted (g ∷ gs) = decimal g ++ flat_map (λ h. codes "." ++ decimal h) gs
-
--- Writes that the rank is too great, because there are only `labels` labels, or that there are none.
-abbrev pub past : ℕ → ℕ → List ℕ
-past rank labels =
-    if labels == 0 then codes "nothing is relayed in this round"
-    else codes "rank " ++ decimal rank ++ codes " is past the last, " ++ decimal (labels - 1)
-
--- Writes why an existing general receives no order for `such`, words that name one label or every label: he is the
--- sender, or he is on the label.
-abbrev pub passed_over : ℕ → ℕ → List ℕ → List ℕ
-passed_over sender receiver such =
-    if receiver == sender then codes "general " ++ decimal receiver ++ codes " is the sender himself"
-    else codes "general " ++ decimal receiver ++ codes " is on " ++ such
-
--- Writes why a receiver gets no order for `such`, words that name one label or every label: there is no such general,
--- he is the sender, or he is on the label.
-abbrev pub unheard : Shape → ℕ → List ℕ → List ℕ
-unheard shape receiver such =
-    if nat_lt receiver shape.generals then passed_over shape.general receiver such
-    else codes "there is no general " ++ decimal receiver
-
--- Writes why `send` sets no order: there is no label with this rank, or the label does not go to this receiver.
-abbrev pub no_place : Relay → ℕ → ℕ → Option (List ℕ) → List ℕ
-no_place r rank receiver None = past rank (length (relayed r))
-no_place r rank receiver (Some label) = unheard r.shape receiver (codes "the label " ++ dotted label)
-
--- Writes why `send_row` sets no order: there is no label with this rank, no orders were passed, or the label goes to
--- nobody.
-abbrev pub no_row : Relay → ℕ → ℕ → Option (List ℕ) → List ℕ
-no_row r rank orders None = past rank (length (relayed r))
-no_row r rank orders (Some label) =
-    if orders == 0 then codes "no orders were given" else codes "nobody receives the label " ++ dotted label
-
--- Writes why `sway` and `honest` set no order: there is no label, or no label goes to this receiver.
-abbrev pub no_label : Shape → ℕ → ℕ → List ℕ
-no_label shape receiver labels =
-    if labels == 0 then codes "nothing is relayed in this round" else unheard shape receiver (codes "every label")
-
--- The definitions down to `where_said` write the note on one call.
+-- The definitions down to `slip_at` find the slip in one step.
 
 -- Returns the number that a value is, or 0 if it is not a number.
 abbrev pub number_in : Value → ℕ
@@ -91,99 +46,96 @@ abbrev pub call_at : State → Insn → Option HelperCall
 call_at s (insn.Call number) = call_by s (helper_of number)
 call_at s _ = None
 
--- Writes why a call of this helper, with the numbers in r1, r2 and r3, sets no order.
-abbrev pub reason_by : Relay → ℕ → ℕ → ℕ → Helper → List ℕ
-reason_by r first second third Send = no_place r first second (slice_get (relayed r) first)
-reason_by r first second third SendRow = no_row r first third (slice_get (relayed r) first)
-reason_by r first second third Sway = no_label r.shape first (length (relayed r))
-reason_by r first second third Honest = no_label r.shape first (length (relayed r))
-reason_by r first second third _ = []
+-- Returns whether a call should send orders but has no effect: it sets no place of the outbox, or its entry is refused.
+abbrev pub is_slip : Relay → State → Effect → Bool
+is_slip r s (Puts told (Ok choice)) = places_set r choice == 0
+is_slip r s (Enters (Ok entry)) = not (is_entered r s.entries entry)
+is_slip r s _ = false
 
--- Writes why a call sets no order.
-abbrev pub reason_of : Relay → HelperCall → List ℕ
-reason_of r call = reason_by r call.first call.second call.third call.helper
+-- Returns the list of a call if it is a slip, and otherwise no call.
+abbrev pub slip : List ℕ → Relay → State → Option HelperCall → List HelperCall
+slip context r s None = []
+slip context r s (Some call) = if is_slip r s (effect context s call.helper) then call ∷ [] else []
 
--- Writes a space and the text in brackets, or nothing for an empty text.
-abbrev pub in_brackets : List ℕ → List ℕ
-in_brackets [] = []
-in_brackets (c ∷ cs) = codes " (" ++ (c ∷ cs) ++ codes ")"
+-- Returns the list of the call that an instruction makes if it is a slip, and otherwise no call.
+abbrev pub slip_at : List ℕ → Relay → State → Option Insn → List HelperCall
+slip_at context r s None = []
+slip_at context r s (Some i) = slip context r s (call_at s i)
 
--- Returns the place of a unit in the source text, or the empty text if it is not known.
-abbrev pub place_of : Option (String Global) → List ℕ
-place_of None = []
-place_of (Some text) = string_bytes text
+-- The definitions down to `slips_from` list the slips of a run.
 
--- Writes a unit as `5`, or as `5 (line 7)` if its place is known.
-unfoldable pub unit_told : List (String Global) → ℕ → List ℕ
-unit_told places unit = decimal unit ++ in_brackets (place_of (slice_get places unit))
+-- What answers the requests of a run. From what it has, it gives the answer to a request and what it has afterwards, or
+-- nothing if it does not answer.
+abbrev pub Answering : Type 0 → Type 0
+Answering B = B → Request → Option (List ℕ × B)
 
--- Writes that a call of this helper sets no order, such as `, send sets no order: `.
-unfoldable pub slip_told : Helper → List ℕ
-slip_told helper = codes ", " ++ helper_name helper ++ codes " sets no order: "
+-- A board with these words answers each request.
+abbrev pub by_board : Answering (List ℕ)
+by_board words request = Some (reply words request, next words request)
 
--- Writes the note on a call that sets no order: its unit, its helper, and the reason.
-abbrev pub note_of : List (String Global) → Relay → HelperCall → List ℕ
-note_of places r call = codes "note: at " ++ unit_told places call.unit ++ slip_told call.helper ++ reason_of r call
-    ++ codes "\n"
+-- The replies in a list of accesses answer requests in their order. One that does not fit is no answer.
+abbrev pub by_replies : Answering (List Access)
+by_replies [] request = None
+by_replies (access ∷ accesses) request =
+    if fits request access.reply then Some (access.reply, accesses) else None
 
--- Returns which places of the outbox a call sets, or why it traps, if its helper is one that sets orders.
-abbrev pub chosen : List ℕ → State → Helper → Option (Result Choice Cause)
-chosen context s Send = Some (send_in s)
-chosen context s SendRow = Some (send_row_in context s)
-chosen context s Sway = Some (sway_in s)
-chosen context s Honest = Some (honest_in context s)
-chosen context s _ = None
+-- The type of a function that lists the slips of all further steps, from what answers requests and the state.
+abbrev pub Rest : Type 0 → Type 0
+Rest B = B → State → List HelperCall
 
--- Returns `line` if the call sets no place of the outbox, and otherwise the empty text.
-abbrev pub where_none : Relay → List ℕ → Option (Result Choice Cause) → List ℕ
-where_none r line (Some (Ok choice)) = if places_set r choice == 0 then line else []
-where_none r line _ = []
+-- Returns the slips that follow a request if it has this answer. Without an answer the run ends.
+abbrev pub answered : {B : Type 0} → Rest B → Request → State → Option (List ℕ × B) → List HelperCall
+answered rest request t None = []
+answered rest request t (Some answer) = rest answer.1 (resumed request answer.0 t)
 
--- Writes the note on a call if it sets no order although its helper is one that sets orders.
-abbrev pub slip : List (String Global) → List ℕ → Relay → State → Option HelperCall → List ℕ
-slip places context r s None = []
-slip places context r s (Some call) = where_none r (note_of places r call) (chosen context s call.helper)
+-- Returns the slips that follow this outcome of a step.
+abbrev pub followed : {B : Type 0} → Answering B → Rest B → B → Outcome → List HelperCall
+followed answering rest b (Next t) = rest b t
+followed answering rest b (Ask request t) = answered rest request t (answering b request)
+followed answering rest b (Exit r0 t) = []
+followed answering rest b (Trap cause) = []
 
--- Writes the note on an instruction if it is a call that sets no order although its helper is one that sets orders.
-abbrev pub slip_at : List (String Global) → List ℕ → Relay → State → Option Insn → List ℕ
-slip_at places context r s None = []
-slip_at places context r s (Some i) = slip places context r s (call_at s i)
+-- Returns the slip of the step from a state, if it is one, and then the slips that follow.
+abbrev pub slips_at : {B : Type 0} → Answering B → List Insn → List ℕ → Relay → Rest B → B → State → List HelperCall
+slips_at answering program context r rest b s =
+    slip_at context r s (instruction_at program s.unit) ++ followed answering rest b (step program context r s)
 
--- Returns whether the value that a call left in r0 means that it set no place of the outbox.
-abbrev pub says_none : Helper → ℕ → Bool
-says_none Send r0 = r0 == 1
-says_none SendRow r0 = r0 == 0
-says_none Sway r0 = r0 == 0
-says_none Honest r0 = r0 == 0
-says_none _ r0 = false
+-- Returns the slips of at most k steps from a state on, in their order.
+unfoldable pub slips_from : {B : Type 0} → Answering B → List Insn → List ℕ → Relay → ℕ → B → State → List HelperCall
+slips_from answering program context r zero b s = []
+slips_from answering program context r (suc k) b s =
+    slips_at answering program context r (λ c t. slips_from answering program context r k c t) b s
 
--- Writes the note on a call if the value that it left in r0 means that it set no place of the outbox.
-abbrev pub where_said : List (String Global) → Relay → ℕ → Option HelperCall → List ℕ
-where_said places r r0 None = []
-where_said places r r0 (Some call) = if says_none call.helper r0 then note_of places r call else []
+-- Returns the slips of a trial, with these words on the board at the start. The run takes at most as many steps as the
+-- program has instructions.
+abbrev pub slips_on : List ℕ → List Insn → List ℕ → Relay → List HelperCall
+slips_on words program context r =
+    slips_from by_board program context r (length program) words (entry (empty_outbox r))
 
--- The remaining definitions write the notes on a whole run.
+-- The remaining definitions list the slips of a traitor's round, of which his letter is the record.
 
--- Returns the notes on the steps that follow this outcome. The board, with these words, answers a request at once.
-abbrev pub followed : Rest → List ℕ → Outcome → List ℕ
-followed rest words (Next t) = rest words t
-followed rest words (Ask request t) = rest (next words request) (resumed request (reply words request) t)
-followed rest words (Exit r0 t) = []
-followed rest words (Trap cause) = []
+-- Returns the set of signers (bit g for general g) of each chain that, as a signed context says, its general holds. Of
+-- the context's numbers the sixth says how many chains there are, and from the ninth on there are two for each: its
+-- order and its signers. There is room for 508 chains.
+abbrev pub signers_told : List ℕ → List ℕ
+signers_told context =
+    map (λ i. number_told context (9 + 2 * i) % 2 ^ 16) (range_with_len 0 (min 508 (number_told context 5)))
 
--- Writes the note on the step from a state, if there is one, and then the notes on the steps after it.
-abbrev pub slips_at : List (String Global) → List Insn → List ℕ → Relay → Rest → List ℕ → State → List ℕ
-slips_at places program context r rest words s =
-    slip_at places context r s (instruction_at program s.unit) ++ followed rest words (step program context r s)
+-- Returns the kind of messages in the campaign that a context describes.
+abbrev pub kind_told : List ℕ → Kind
+kind_told context = if number_told context at_kind == 0 then Oral else Signed (signers_told context)
 
--- Writes the notes on at most k steps from a state on, with these words on the board.
-unfoldable pub slips_from : List (String Global) → List Insn → List ℕ → Relay → ℕ → List ℕ → State → List ℕ
-slips_from places program context r zero words s = []
-slips_from places program context r (suc k) words s =
-    slips_at places program context r (λ left t. slips_from places program context r k left t) words s
+-- Returns the relay of the general who writes a letter, as his context describes it.
+abbrev pub relay_of : Letter → Relay
+relay_of l = record { shape = l.outbox.relay.shape; kind = kind_told l.context }
 
--- Writes the notes on a whole run, with these words on the board at the start. `places` has each unit's place in the
--- source text. The run takes at most as many steps as the program has instructions.
-abbrev pub slips_on : List (String Global) → List ℕ → List Insn → List ℕ → Relay → List ℕ
-slips_on places words program context r =
-    slips_from places program context r (length program) words (entry (empty_outbox r))
+-- Returns the slips of this program in the round of a letter: in the letter's context, with the replies and the number
+-- of steps in the letter. Without a program there are none.
+abbrev pub slips_by : Letter → Option (List Insn) → List HelperCall
+slips_by l None = []
+slips_by l (Some program) =
+    slips_from by_replies program l.context (relay_of l) l.steps l.transcript (entry (empty_outbox (relay_of l)))
+
+-- Returns the slips in the round of a letter, in the order in which they were made.
+unfoldable pub letter_slips : Letter → List HelperCall
+letter_slips l = slips_by l l.program

@@ -1,11 +1,16 @@
 //! Runs trials: one program in one round, in a setting that a text describes (the general, the orders that he took,
-//! and the board). Reports the result, or traces the run step by step.
+//! and the board). Reports the result, traces the run step by step, or lists the calls that have no effect.
 #![tactic(auto)]
 
 mod fault;
+mod held_chains;
+mod helper_call;
 mod keys;
 mod laws;
+mod letter_replay;
 mod lines;
+mod noted_step;
+mod notes;
 mod orders;
 mod place;
 mod program_run;
@@ -17,12 +22,16 @@ mod setting;
 mod steps;
 mod trace_laws;
 mod traced_run;
+mod turn;
 mod values;
 mod words;
 
 pub use fault::{SettingError, SettingFault};
+pub use helper_call::HelperCall;
 pub use laws::{contexts_are_settings, trials_are_runs, trials_end};
+pub use letter_replay::letter_slips;
 pub use lines::{first_lines, tried};
+pub use notes::{campaign_notes, trial_notes};
 pub use place::{SettingKey, SettingPlace};
 pub use program_run::{Exited, run_in, run_on};
 pub use reader::read;

@@ -1,114 +1,150 @@
-//! Explains in text why a program's call of a helper such as `send` set no order in the outbox.
-ghost use Rattle.std.specs.Prelude.{◌≡◌, ◌<◌, ◌∷◌, ◌++◌, List, ℕ, Some, length, slice_get, string_bytes, IfOk, OnOk};
+//! Explains in text why a program's call of a helper such as `send` has no effect.
+ghost use Rattle.std.specs.Prelude.{◌≡◌, ◌<◌, ◌∷◌, ◌++◌, if◌then◌else◌, ◌==◌, List, ℕ, Some, None, length, slice_get, string_bytes, IfOk, OnOk};
+ghost use Rattle.std.specs.Int.{bit_at};
 ghost use Rattle.label.specs.Relay.{IsShape, relay};
-ghost use Rattle.semantics.specs.Relay.{relayed};
-ghost use Rattle.trial.specs.Slips.{note_of, reason_of, dotted, in_brackets, no_label, no_place, no_row, passed_over, past, place_of, says_none, slip_told, unheard, unit_told};
+ghost use Rattle.trial.specs.Notes.{dotted, full, no_label, no_place, no_row, not_passed, oral_reason, passed_over, past, reason_of, signed_reason, unheard, unsigned};
 
-use explain::helper_name;
+use crate::held_chains::HeldChains;
+use crate::helper_call::HelperCall;
+use crate::relayed_labels::labels_relayed;
 use helper::Helper;
 use label::{Shape, Space, unrank};
-use outbox::Outbox;
 use std::alloc::{AllocError, Global};
 
-/// A program's call of a helper: the unit of the call (units have 8 bytes and are counted from 0), the helper, and
-/// the numbers in r1, r2 and r3.
-#[derive(Clone, Copy)]
-pub struct HelperCall {
-    pub unit: usize,
-    pub helper: Helper,
-    pub first: u64,
-    pub second: u64,
-    pub third: u64,
-}
-
-/// Checks whether `r0`, which the helper returned, says that this call set no order. Returns false for a helper that
-/// can never set an order.
-pub fn says_none(helper: Helper, r0: u64) -> bool
-    ensures { result ≡ says_none helper r0 }
-{
-    match helper {
-        Helper::Send => r0 == 1,
-        Helper::SendRow | Helper::Sway | Helper::Honest => r0 == 0,
-        _ => false,
-    }
-}
-
-/// Appends a note that says where a call sets no order, and why. `places` has each unit's place in the source text.
+/// Appends the reason why a call has no effect. `held` says which chains the general holds, or that messages are oral.
 ///
 /// # Errors
 ///
 /// Fails with `AllocError` if there is no memory for the text.
-pub fn put_note(
+pub(crate) fn put_reason(
     alloc: Global,
     out: &mut String,
-    places: &[String],
-    outbox: &Outbox,
+    shape: Shape,
+    held: &HeldChains,
     call: HelperCall,
 ) -> Result<(), AllocError>
-    ensures { OnOk result (string_bytes out.new ≡ string_bytes out.old ++ note_of places.now outbox.now.relay call) }
+    requires { IsShape shape }
+    ensures { OnOk result (string_bytes out.new ≡ string_bytes out.old ++ reason_of held.now shape call) }
 {
-    out.push_str("note: at ")?;
-    put_unit(out, places, call.unit)?;
-    put_slip(out, call.helper)?;
-    put_reason(alloc, out, outbox, call)?;
-    out.push_str("\n")
-}
-
-/// Appends that a call of this helper sets no order, such as `, send sets no order: `.
-#[tactic(auto, unfolding(crate::specs::Slips::slip_told))]
-fn put_slip(out: &mut String, helper: Helper) -> Result<(), AllocError>
-    ensures { OnOk result (string_bytes out.new ≡ string_bytes out.old ++ slip_told helper) }
-{
-    let name = helper_name(helper);
-    write!(out, ", {name} sets no order: ")
-}
-
-/// Appends the number of a unit and, if `places` has it, its place in the source text in brackets.
-#[tactic(auto, unfolding(crate::specs::Slips::unit_told))]
-fn put_unit(out: &mut String, places: &[String], unit: usize) -> Result<(), AllocError>
-    ensures { OnOk result (string_bytes out.new ≡ string_bytes out.old ++ unit_told places.now unit) }
-{
-    write!(out, "{unit}")?;
-    put_in_brackets(out, place_of(places, unit))
-}
-
-/// Returns the place of a unit in the source text, or an empty text if `places` does not have it.
-fn place_of(places: &[String], unit: usize) -> &str
-    ensures { result.now ≡ place_of (slice_get places.now unit) }
-{
-    match places.get(unit) {
-        Some(place) => place.as_str(),
-        None => "",
+    match held.signers() {
+        None => put_oral_reason(alloc, out, shape, call),
+        Some(signers) => put_signed_reason(out, shape, signers, call),
     }
 }
 
-/// Appends a place in brackets after a space, or nothing if the place is empty.
-fn put_in_brackets(out: &mut String, place: &str) -> Result<(), AllocError>
-    ensures { OnOk result (string_bytes out.new ≡ string_bytes out.old ++ in_brackets place.now) }
-{
-    if place.is_empty() {
-        return Ok(());
-    }
-    out.push_str(" (")?;
-    out.push_str(place)?;
-    out.push_str(")")
-}
-
-/// Appends the reason why a call sets no order. Appends nothing for a helper that is not meant to set orders.
-fn put_reason(
+/// Appends the reason why a call has no effect in a campaign with oral messages. Appends nothing for a helper that
+/// sends no orders.
+fn put_oral_reason(
     alloc: Global,
     out: &mut String,
-    outbox: &Outbox,
+    shape: Shape,
     call: HelperCall,
 ) -> Result<(), AllocError>
-    ensures { OnOk result (string_bytes out.new ≡ string_bytes out.old ++ reason_of outbox.now.relay call) }
+    requires { IsShape shape }
+    ensures { OnOk result (string_bytes out.new ≡ string_bytes out.old
+        ++ oral_reason shape call.first call.second call.third call.helper) }
 {
     match call.helper {
-        Helper::Send => put_no_place(alloc, out, outbox, call.first, call.second),
-        Helper::SendRow => put_no_row(alloc, out, outbox, call.first, call.third),
-        Helper::Sway | Helper::Honest => put_no_label(out, outbox, call.first),
+        Helper::Send => put_no_place(alloc, out, shape, call.first, call.second),
+        Helper::SendRow => put_no_row(alloc, out, shape, call.first, call.third),
+        Helper::Sway | Helper::Honest => put_no_label(out, shape, call.first),
+        Helper::SignOrder | Helper::PassOn => out.push_str("messages are not signed"),
         _ => Ok(()),
     }
+}
+
+/// Appends the reason why a call has no effect in a campaign with signed messages. `held` has the signers of each chain
+/// that the general holds. Appends nothing for a helper that sends no orders.
+fn put_signed_reason(
+    out: &mut String,
+    shape: Shape,
+    held: &[u16],
+    call: HelperCall,
+) -> Result<(), AllocError>
+    requires { IsShape shape }
+    ensures { OnOk result (string_bytes out.new ≡ string_bytes out.old
+        ++ signed_reason shape held.now call.first call.helper) }
+{
+    match call.helper {
+        Helper::SignOrder => put_unsigned(out, shape),
+        Helper::PassOn => put_not_passed(out, shape.general, held, call.first),
+        Helper::Send | Helper::SendRow | Helper::Sway | Helper::Honest => {
+            out.push_str("messages are signed")
+        }
+        _ => Ok(()),
+    }
+}
+
+/// Appends that a general can send no more chains in a round.
+fn put_full(out: &mut String) -> Result<(), AllocError>
+    ensures { OnOk result (string_bytes out.new ≡ string_bytes out.old ++ full) }
+{
+    out.push_str("a general sends at most 8 chains in a round")
+}
+
+/// Appends the reason why `sign_order` signs nothing: the general is not the commander, or can send no more chains.
+fn put_unsigned(out: &mut String, shape: Shape) -> Result<(), AllocError>
+    ensures { OnOk result (string_bytes out.new ≡ string_bytes out.old ++ unsigned shape) }
+{
+    if shape.general == shape.commander {
+        return put_full(out);
+    }
+    out.push_str("only the commander signs orders")
+}
+
+/// Appends the reason why `pass_on` passes nothing on: the general holds no chain with this index, he has signed it, or
+/// he can send no more chains. `held` has the signers of each chain that he holds.
+fn put_not_passed(
+    out: &mut String,
+    general: u32,
+    held: &[u16],
+    index: u64,
+) -> Result<(), AllocError>
+    requires { general < 16 }
+    ensures { OnOk result (string_bytes out.new ≡ string_bytes out.old
+        ++ not_passed general index (length held.now) (slice_get held.now index)) }
+{
+    match held.get(index as usize) {
+        None => put_unheld(out, held.len(), index),
+        Some(signers) => put_signed_already(out, general, *signers, index),
+    }
+}
+
+/// Appends that a chain's index is too great, because only `count` chains are held, or that none is held.
+fn put_unheld(out: &mut String, count: usize, index: u64) -> Result<(), AllocError>
+    ensures { OnOk result (string_bytes out.new ≡ string_bytes out.old ++ not_passed 0 index count None) }
+{
+    if count == 0 {
+        return out.push_str("no chain is held");
+    }
+    let last = count - 1;
+    write!(out, "chain {index} is past the last, {last}")
+}
+
+/// Appends the reason why an existing chain with these signers is not passed on: the general is one of them, or he can
+/// send no more chains.
+fn put_signed_already(
+    out: &mut String,
+    general: u32,
+    signers: u16,
+    index: u64,
+) -> Result<(), AllocError>
+    requires { general < 16 }
+    ensures { (count : ℕ) → OnOk result (string_bytes out.new ≡ string_bytes out.old
+        ++ not_passed general index count (Some signers)) }
+{
+    if has_signed(signers, general) {
+        return write!(out, "general {general} has already signed chain {index}");
+    }
+    put_full(out)
+}
+
+/// Checks whether a general, below 16, is in a set of signers.
+fn has_signed(signers: u16, general: u32) -> bool
+    requires { general < 16 }
+    ensures { result ≡ (bit_at signers general == 1) }
+{
+    (signers >> general) & 1 == 1
 }
 
 /// Appends the reason why `send` sets no order for the label with this rank and this receiver: the label does not
@@ -116,20 +152,21 @@ fn put_reason(
 fn put_no_place(
     alloc: Global,
     out: &mut String,
-    outbox: &Outbox,
+    shape: Shape,
     rank: u64,
     receiver: u64,
 ) -> Result<(), AllocError>
+    requires { IsShape shape }
     ensures { OnOk result (string_bytes out.new ≡ string_bytes out.old
-        ++ no_place outbox.now.relay rank receiver (slice_get (relayed outbox.now.relay) rank)) }
+        ++ no_place shape rank receiver (slice_get (relay shape) rank)) }
 {
-    let labels = outbox.labels();
+    let labels = labels_relayed(shape);
     if rank >= u64::from(labels) {
         return put_past(out, rank, labels);
     }
-    let label = label_text(alloc, outbox, rank as u32)?;
+    let label = label_text(alloc, shape, rank as u32)?;
     let such = format!(in alloc; "the label {label}")?;
-    put_unheard(out, outbox.shape(), receiver, such.as_str())
+    put_unheard(out, shape, receiver, such.as_str())
 }
 
 /// Appends the reason why `send_row` sets no order for the label with this rank. `orders` is the number of orders
@@ -137,33 +174,35 @@ fn put_no_place(
 fn put_no_row(
     alloc: Global,
     out: &mut String,
-    outbox: &Outbox,
+    shape: Shape,
     rank: u64,
     orders: u64,
 ) -> Result<(), AllocError>
+    requires { IsShape shape }
     ensures { OnOk result (string_bytes out.new ≡ string_bytes out.old
-        ++ no_row outbox.now.relay rank orders (slice_get (relayed outbox.now.relay) rank)) }
+        ++ no_row shape rank orders (slice_get (relay shape) rank)) }
 {
-    let labels = outbox.labels();
+    let labels = labels_relayed(shape);
     if rank >= u64::from(labels) {
         return put_past(out, rank, labels);
     }
     if orders == 0 {
         return out.push_str("no orders were given");
     }
-    let label = label_text(alloc, outbox, rank as u32)?;
+    let label = label_text(alloc, shape, rank as u32)?;
     write!(out, "nobody receives the label {label}")
 }
 
 /// Appends the reason why `sway` or `honest` sets no order for a receiver: no label goes to him.
-fn put_no_label(out: &mut String, outbox: &Outbox, receiver: u64) -> Result<(), AllocError>
+fn put_no_label(out: &mut String, shape: Shape, receiver: u64) -> Result<(), AllocError>
+    requires { IsShape shape }
     ensures { OnOk result (string_bytes out.new ≡ string_bytes out.old
-        ++ no_label outbox.now.relay.shape receiver (length (relayed outbox.now.relay))) }
+        ++ no_label shape receiver (length (relay shape))) }
 {
-    if outbox.labels() == 0 {
+    if labels_relayed(shape) == 0 {
         return out.push_str("nothing is relayed in this round");
     }
-    put_unheard(out, outbox.shape(), receiver, "every label")
+    put_unheard(out, shape, receiver, "every label")
 }
 
 /// Appends that `rank` is too great, because there are only `labels` labels, or that there are none.
@@ -204,18 +243,9 @@ fn put_passed_over(
     write!(out, "general {receiver} is on {such}")
 }
 
-/// Returns the label with this rank among those that the outbox relays, as text such as `0.2`.
-fn label_text(alloc: Global, outbox: &Outbox, rank: u32) -> Result<String, AllocError>
-    requires { rank < length (relayed outbox.now.relay) }
-    ensures { IfOk result (λ text. (label : List ℕ) → slice_get (relayed outbox.now.relay) rank ≡ Some label →
-        string_bytes text ≡ dotted label) }
-{
-    relay_text(alloc, outbox.shape(), rank)
-}
-
 /// Returns the label with this rank among those that the general of `shape` relays in its round, as text such as
 /// `0.2`.
-fn relay_text(alloc: Global, shape: Shape, rank: u32) -> Result<String, AllocError>
+fn label_text(alloc: Global, shape: Shape, rank: u32) -> Result<String, AllocError>
     requires shape { IsShape shape }
     requires within { rank < length (relay shape) }
     ensures { IfOk result (λ text. (label : List ℕ) → slice_get (relay shape) rank ≡ Some label →
