@@ -1,7 +1,7 @@
 //! Prints what the object reader finds in ELF objects. checks/objects compares it with the output of its model.
 
 use anyhow::{Result, bail};
-use object::{Reordering, reorder};
+use object::{EntryError, Reordering, reorder};
 use std::fs;
 use std::rt::Files;
 
@@ -93,12 +93,13 @@ fn tell<R: Print + AllocGlobal>(
     object: &[u8],
     entry: Option<&[u8]>,
 ) -> Result<()> {
-    match object::entry(object, entry) {
+    match object::entry_code(rt.alloc(), object, entry) {
         Ok(code) => {
-            let code = hex::encode(rt.alloc(), code)?;
+            let code = hex::encode(rt.alloc(), code.as_slice())?;
             println!(rt; "{name}: {code}")?;
         }
-        Err(fault) => println!(rt; "{name}: refused {fault}")?,
+        Err(EntryError::Fault(fault)) => println!(rt; "{name}: refused {fault}")?,
+        Err(EntryError::Memory) => bail!("out of memory"),
     }
     let places = object::entry_places(rt.alloc(), object, entry)?;
     for (unit, place) in places.iter().enumerate() {

@@ -30,10 +30,11 @@ abbrev pub IsOrderError : List ℕ → EntryError → Type 0
 IsOrderError code (Fault fault) = IsLoop code fault
 IsOrderError code Memory = Unit {0}
 
--- States that there is no bytecode of the object's entry function because of this fault, or that memory ran out.
+-- States that there is no bytecode of the object's entry function because of this fault, or that there is an entry
+-- function, and memory ran out.
 abbrev pub IsEntryError : List ℕ → Option (List ℕ) → EntryError → Type 0
 IsEntryError object name (Fault fault) = IsEntryFault object name fault
-IsEntryError object name Memory = Unit {0}
+IsEntryError object name Memory = (code : List ℕ) × (entry_of object name ≡ Ok code)
 
 -- States that the function's code is returned as it is, or that memory ran out.
 abbrev pub IsUnordered : List ℕ → Result (Vec ℕ Global) EntryError → Type 0
