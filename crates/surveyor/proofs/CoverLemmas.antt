@@ -1,21 +1,22 @@
 -- Lemmas about whether each seed occurs exactly once.
-use Rattle.std.proofs.Common.{ℕ, ◌+◌, ◌<◌, ◌≤◌, ◌≡◌, ◌≢◌, Bool, true, false, cond, List, [], ◌∷◌, ◌++◌, length, refl, sym, ap, subst, ◌∙◌, arith, append_assoc, append-nil, Option, None, Some, Ok, Err, ◌⊎◌, ⊎_elim, inl, inr}
-use Rattle.std.specs.Prelude.{nat_le, min, max, ◌==◌, ◌&&◌, OnErr, OnOk}
-use Rattle.std.specs.List.{fold}
-use Rattle.std.proofs.lemmas.Bool.{and_parts, cases_lt, eq-eqb, eqb-true, le-leb, leb-true}
+use Rattle.std.proofs.Common.{ℕ, ◌+◌, ◌≤◌, ◌≡◌, ◌≢◌, Bool, true, false, cond, List, [], ◌∷◌, length, refl, sym, ap, subst, ◌∙◌, arith, Option, None, Some, Ok, Err, inl, inr}
+use Rattle.std.specs.Prelude.{nat_le, ◌==◌, ◌&&◌, IfOk, OnErr, OnOk}
+use Rattle.std.proofs.lemmas.Bool.{and_parts, eqb-true, le-leb, leb-true}
 use Rattle.std.proofs.lemmas.Bool.Decides.{nat_tests}
-use Rattle.std.proofs.lemmas.List.{map-append}
-use Rattle.std.proofs.lemmas.List.Sums.{sum_by_push}
 use Rattle.surveys.specs.declared.finding.Finding.{Finding}
 use Rattle.surveys.specs.Parts.{AreOf}
-use Rattle.surveys.specs.Covering.{AreApart, AreDoubles, AreEndsOf, AreHoles, AreLeastAndGreatest, is_in, seeds_in, times}
+use Rattle.surveys.specs.Covering.{AreApart, AreDoubles, AreEndsOf, AreHoles, AreLeastAndGreatest, HasSeen, Seen, is_in, seeds_in, times}
+use Rattle.surveys.specs.Running.{Counts}
 use Rattle.surveys.specs.declared.stretch.Stretch.{Stretch}
 use Rattle.surveys.proofs.Seeing.{times_more}
 use Rattle.std.specs.Io.KnownBytes.{Appends}
 use Rattle.std.specs.declared.result.Result.{Result}
 use Rattle.std.proofs.KnownBytes.{Appends-nil}
 use Rattle.surveyor.specs.Statuses.{IsReported}
-use Rattle.surveyor.specs.Summed.{IsAskedFor, IsCoveredBy, IsSeedReport, IsToldOf, report_text, span_of}
+use Rattle.surveyor.specs.Printed.{counts_text}
+use Rattle.surveyor.specs.Summed.{AreKept, IsAskedFor, IsCoveredBy, IsSeedReport, IsSummed, IsToldOf, report_text, span_of}
+use Rattle.surveyor.specs.declared.fault.SurveyFailure.{SurveyFailure}
+use Rattle.surveyor.specs.declared.task.Merge.{Merge}
 
 -- If no seed is missing and none occurs twice, each occurs once.
 told_once : (first last x t : ℕ) → first ≤ x → x ≤ last → false ≡ (nat_le first x && (nat_le x last && (t == 0))) → false ≡ nat_le 2 t → t ≡ 1
@@ -128,3 +129,18 @@ nothing_reported (Some s) found span Fails old asked is = absurd (let e : Some s
 pub put_reported : {T E : Type 0} (r : Result T E) (Fails : Type 0) (old new : Option (List ℕ)) (text told : List ℕ) → OnOk r (Appends old new text) → OnErr r Fails → text ≡ told → IsReported Fails old new (Some told)
 put_reported (Ok x) Fails old new text told ok err is = inr (subst (Appends old new) is ok)
 put_reported (Err e) Fails old new text told ok err is = inl err
+
+-- The summary is printed, and the seeds are reported.
+pub all_summed : (r : Result ℕ SurveyFailure) (m : Merge) (counts : Counts) (seen : Seen) (old new : Option (List ℕ)) (Reports : Option (List ℕ) → Type 0) → AreKept m counts seen → Appends old new (counts_text m.shape counts)
+    → IfOk r (λ status. (found : List Finding) → AreOf (span_of m.seeds).0 (span_of m.seeds).1 found → HasSeen seen (seeds_in found) → IsCoveredBy m.seeds found status)
+    → IfOk r (λ _. (found : List Finding) → HasSeen seen (seeds_in found) → IsSeedReport m.seeds found Reports) → IfOk r (IsSummed m old new Reports)
+all_summed (Ok status) m counts seen old new Reports kept written covered told =
+    record {
+      head = kept.head;
+      found = kept.found;
+      told = kept.told;
+      written = subst (λ (c : Counts). Appends old new (counts_text m.shape c)) kept.read.counted written;
+      reported = told kept.found kept.read.seen;
+      covered = covered kept.found kept.told.seeds kept.read.seen;
+    }
+all_summed (Err fault) m counts seen old new Reports kept written covered told = tt

@@ -1,6 +1,6 @@
 -- Lemmas about the campaigns of the files of `--sum`, of which only the counts and the seeds are kept.
-use Rattle.std.proofs.Common.{ℕ, ◌+◌, ◌-◌, ◌<◌, ◌≤◌, ◌^◌, ◌≡◌, ◌≢◌, List, [], ◌∷◌, ◌++◌, get_or, length, refl, sym, ap, subst, ◌∙◌, arith, append-nil, length-append, Option, None, Some}
-use Rattle.std.specs.Prelude.{map, String, string_bytes, flat_map}
+use Rattle.std.proofs.Common.{ℕ, ◌+◌, ◌-◌, ◌<◌, ◌≤◌, ◌^◌, ◌≡◌, ◌≢◌, List, [], ◌++◌, get_or, length, refl, sym, ap, subst, ◌∙◌, arith, length-append}
+use Rattle.std.specs.Prelude.{String, string_bytes}
 use Rattle.std.specs.Global.{Global}
 use Rattle.std.proofs.lemmas.List.{map-append}
 use Rattle.surveys.specs.declared.finding.Finding.{Finding}
@@ -10,7 +10,7 @@ use Rattle.surveys.specs.Covering.{HasSeen, Seen, seeds_in}
 use Rattle.surveys.specs.Parts.{IsFaulty, IsReadOn}
 use Rattle.surveys.specs.Running.{Counts, counts_of}
 use Rattle.surveyor.specs.Faults.{IsNoPart, IsUntold}
-use Rattle.surveyor.specs.Summed.{AreKept, HasRead, IsTold, span_of}
+use Rattle.surveyor.specs.Summed.{AreKept, HasRead, span_of}
 use Rattle.surveyor.specs.declared.fault.SurveyFailure.{SurveyFailure}
 use Rattle.surveyor.specs.declared.fault.SurveyFailure.TheVariants.{Memory}
 use Rattle.surveyor.specs.declared.task.Merge.{Merge}
