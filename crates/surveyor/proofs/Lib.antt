@@ -3,6 +3,7 @@ mod Going
 mod LeastLemmas
 mod AccountLemmas
 mod SumLemmas
+mod ReadLemmas
 mod CoverLemmas
 mod BrokenLemmas
 mod NumberLemmas

@@ -19,6 +19,7 @@ mod pieces;
 mod played_survey;
 mod printer;
 mod progress;
+mod read_campaigns;
 mod task;
 mod task_words;
 mod word_values;

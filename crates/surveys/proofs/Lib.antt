@@ -20,9 +20,10 @@ pub mod Searching
 pub mod Narrowing
 pub mod Reducing
 pub mod Comparing
-pub mod Rising
+pub mod Ascending
 pub mod Exactness
 pub mod Apart
+pub mod Seeing
 pub mod Pieces
 pub mod Spans
 pub mod PieceSearch

@@ -1,0 +1,7 @@
+use Rattle.std.proofs.Common.{◌≡◌, ◌<◌, ◌^◌, ◌++◌, drop}
+use Rattle.surveys.specs.Covering.{merged_from}
+use Rattle.surveys.proofs.coverage.merged_from.Given as goal
+
+abbrev pub invariant-loop-range : goal.invariant-loop-range
+invariant-loop-range l =
+    (l.found.items ++ merged_from l.open.first l.open.last (drop l.range-index l.ranges) ≡ merged_from l.fn.begun.first l.fn.begun.last l.ranges) × (l.open.last < 2 ^ 64)
