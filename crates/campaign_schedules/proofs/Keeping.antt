@@ -45,7 +45,7 @@ module _ (s : Scenario) (is : IsScenario s) (short : AreShort s) where
       let played : listed s (lines_by schedule) ≡ replayed oral_kind s f.example = laws.played s f.example is walks in
       record {
         schedule = schedule;
-        read = read_of s f.example schedule is short (omega arith) (walks, refl);
+        read = read_of oral_kind oral_campaigns s f.example schedule is short (omega arith) (walks, refl);
         outcome = ap (outcome_in oral_kind oral_outcome s) played ∙ real.outcome;
         order = ap (order_of oral_kind s) played ∙ (replay_has oral_kind oral_campaigns s f.example is real.example).1;
       }

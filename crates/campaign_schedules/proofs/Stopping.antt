@@ -1,19 +1,19 @@
 -- The first listed access that cannot be made.
 use Rattle.std.proofs.Common.{arith, length, length-append, ◌+◌, ◌<◌, ◌≡◌, ℕ, zero, suc, List, [], ◌∷◌, ◌++◌, true, false, Bool, cond, refl, sym, ap, subst, ◌∙◌, Option, Some, None, Result, Ok, Err, nat_lt, take}
-use Rattle.std.specs.Prelude.{slice_get}
+use Rattle.std.specs.Prelude.{slice_get, IfErr, IfOk}
+use Rattle.std.specs.Global.{Global}
+use Rattle.std.specs.String.{string_bytes, String}
 use Rattle.text.specs.Parts.{pieces}
 use Rattle.text.specs.Stop.{space}
 use Rattle.round.specs.Scenario.{Scenario, IsScenario}
 use Rattle.world.specs.declared.schedule.Repeat.{Repeat}
 use Rattle.board.specs.Board.{Access, words_after}
 use Rattle.round.specs.Letters.{Letter}
-use Rattle.world.specs.Campaigns.{IsCampaign}
+use Rattle.world.specs.Campaigns.{AreCampaigns, IsCampaign}
 use Rattle.world.specs.Kind.{Kind, World, begun, opening}
 use Rattle.world.specs.KindLists.{names_events}
 use Rattle.world.proofs.Lasting.{IsOnTime, names_moves, opening_due, round_done}
 use Rattle.campaign_orders.proofs.Winding.{wound, wound_so}
-use Rattle.world.specs.World.{oral_kind}
-use Rattle.world.proofs.Campaigns.{oral_campaigns}
 use Rattle.campaign_orders.specs.Orders.{past, behind, IsRoundFrom, IsFrom}
 use Rattle.campaign_orders.specs.Text.{schedule_text}
 use Rattle.campaign_orders.specs.Walks.{IsWalk, AreWalks, IsStuckAt, IsStuckIn}
@@ -22,7 +22,7 @@ use Rattle.campaign_orders.specs.declared.schedule_outcome.Scheduled.TheVariants
 use Rattle.campaign_orders.proofs.Deciding.{to_steps}
 use Rattle.campaign_orders.proofs.Leading.{replay_completes}
 use Rattle.campaign_schedules.specs.Accesses.{accesses_told, general_of, row_told, rows_told, slash, with_general, with_row}
-use Rattle.campaign_schedules.specs.Arranged.{BeginsSo, IfFault, IsArranged, IsFirstThatCannot, IsListedAt, IsNever, IsUnarranged, until}
+use Rattle.campaign_schedules.specs.Arranged.{BeginsSo, IfFault, IsArranged, IsArrangement, IsFirstThatCannot, IsListedAt, IsNever, IsUnarranged, IsUnmade, until}
 use Rattle.campaign_schedules.specs.Reading.{IsReadAs}
 use Rattle.campaign_schedules.specs.declared.fault.AccessFault.{AccessFault}
 use Rattle.campaign_schedules.specs.declared.fault.AccessesError.{AccessesError}
@@ -79,22 +79,40 @@ module _ (K : Kind) where
   stuck_there w (names ∷ rows) zero place s = line_there w names place s
   stuck_there w (names ∷ rows) (suc round) place s = stuck_there (behind K w names) rows round place s.1
 
-pub first_that_cannot : (s : Scenario) (rows : List (List ℕ)) (round place : ℕ) → IsScenario s → IsStuckIn oral_kind (opening oral_kind s) rows round place → IsFirstThatCannot s rows round place
-first_that_cannot s rows round place is h = record {
-  stuck = h;
-  before = replay_completes oral_kind s (until rows round place) (oral_campaigns s is) (before_stuck oral_kind (opening oral_kind s) rows round place h);
-  never = λ order o b. never_from oral_kind s (oral_campaigns s is) (suc s.bound) [] s.board [] rows order round place (opening_due oral_kind s (oral_campaigns s is)) (omega arith)
-      (to_steps oral_kind oral_campaigns s order is o) h b;
-}
+module _ (K : Kind) (good : AreCampaigns K) where
+  first_that_cannot : (s : Scenario) (rows : List (List ℕ)) (round place : ℕ) → IsScenario s → IsStuckIn K (opening K s) rows round place → IsFirstThatCannot K s rows round place
+  first_that_cannot s rows round place is h = record {
+    stuck = h;
+    before = replay_completes K s (until rows round place) (good s is) (before_stuck K (opening K s) rows round place h);
+    never = λ order o b. never_from K s (good s is) (suc s.bound) [] s.board [] rows order round place (opening_due K s (good s is)) (omega arith)
+        (to_steps K good s order is o) h b;
+  }
 
-pub arranged_by : (s : Scenario) (text : List ℕ) (rows : List (List ℕ)) (schedule : List (List Repeat)) (lines : List ℕ) → accesses_told text ≡ Ok rows
-    → IsScheduleOf oral_kind (opening oral_kind s) rows (By schedule) → IsPlan oral_kind s rows (By schedule) → IsReadAs (schedule_text schedule) schedule → lines ≡ schedule_text schedule → IsArranged s text lines
-arranged_by s text rows schedule lines told made plan read written = (rows, told, record { walks = made.0; schedule = schedule; entries = made.1; written = written; read = subst (λ (l : List ℕ). IsReadAs l schedule) (sym written) read; comes = plan.1 })
+  pub unmade_by : (s : Scenario) (rows : List (List ℕ)) (round place : ℕ) (fault : AccessFault) → IsScenario s
+      → IsStuckIn K (opening K s) rows round place → IsNever rows round place fault → IsUnmade K s rows fault
+  unmade_by s rows round place fault is stuck never = (round, (place, never, first_that_cannot s rows round place is stuck))
 
-pub unarranged_by : (s : Scenario) (text : List ℕ) (rows : List (List ℕ)) (round place : ℕ) (fault : AccessFault) → IsScenario s → accesses_told text ≡ Ok rows
-    → IsStuckIn oral_kind (opening oral_kind s) rows round place → IsNever rows round place fault → IsUnarranged s text fault
-unarranged_by s text rows round place (Text r p) is told stuck never = absurd never
-unarranged_by s text rows round place (Never r p general) is told stuck never = (rows, told, (round, (place, never, first_that_cannot s rows round place is stuck)))
+pub arrangement_by : (K : Kind) (s : Scenario) (rows : List (List ℕ)) (schedule : List (List Repeat)) (lines : List ℕ)
+    → IsScheduleOf K (opening K s) rows (By schedule) → IsPlan K s rows (By schedule) → IsReadAs (schedule_text schedule) schedule → lines ≡ schedule_text schedule → IsArrangement K s rows lines
+arrangement_by K s rows schedule lines made plan read written =
+    record { walks = made.0; schedule = schedule; entries = made.1; written = written; read = subst (λ (l : List ℕ). IsReadAs l schedule) (sym written) read; comes = plan.1 }
+
+-- The same for the text that lists the accesses.
+pub arranged_as : {E : Type 0} (result : Result (String Global) E) (K : Kind) (s : Scenario) (text : List ℕ) (rows given : List (List ℕ)) → accesses_told text ≡ Ok rows → given ≡ rows
+    → IfOk result (λ lines. IsArrangement K s given (string_bytes lines)) → IfOk result (λ lines. IsArranged K s text (string_bytes lines))
+arranged_as (Ok lines) K s text rows given told same is = (rows, told, subst (λ (l : List (List ℕ)). IsArrangement K s l (string_bytes lines)) same is)
+arranged_as (Err error) K s text rows given told same is = tt
+
+unarranged_by : (K : Kind) (s : Scenario) (text : List ℕ) (rows : List (List ℕ)) (error : AccessesError) → accesses_told text ≡ Ok rows
+    → IfFault error (IsUnmade K s rows) → IfFault error (IsUnarranged K s text)
+unarranged_by K s text rows (At (Text r p)) told (round, (place, never, first)) = absurd never
+unarranged_by K s text rows (At (Never r p general)) told unmade = (rows, told, unmade)
+unarranged_by K s text rows Memory told unmade = tt
+
+pub unarranged_as : {A : Type 0} (result : Result A AccessesError) (K : Kind) (s : Scenario) (text : List ℕ) (rows given : List (List ℕ)) → accesses_told text ≡ Ok rows → given ≡ rows
+    → IfErr result (λ e. IfFault e (IsUnmade K s given)) → IfErr result (λ e. IfFault e (IsUnarranged K s text))
+unarranged_as (Ok lines) K s text rows given told same is = tt
+unarranged_as (Err error) K s text rows given told same is = unarranged_by K s text rows error told (subst (λ (l : List (List ℕ)). IfFault error (IsUnmade K s l)) same is)
 
 -- ---- a text that is not a list of accesses has a fault in its text
 
@@ -130,7 +148,7 @@ module _ (r p g : ℕ) where
   unfolding accesses_told
   accesses_never text is = rows_never [] 1 (pieces slash text) is
 
-pub unlisted : (s : Scenario) (text : List ℕ) (error : AccessesError) → IfFault error (λ fault. accesses_told text ≡ Err fault) → IfFault error (IsUnarranged s text)
-unlisted s text (At (Text round place)) is = is
-unlisted s text (At (Never round place general)) is = absurd (accesses_never round place general text is)
-unlisted s text Memory is = tt
+pub unlisted : (K : Kind) (s : Scenario) (text : List ℕ) (error : AccessesError) → IfFault error (λ fault. accesses_told text ≡ Err fault) → IfFault error (IsUnarranged K s text)
+unlisted K s text (At (Text round place)) is = is
+unlisted K s text (At (Never round place general)) is = absurd (accesses_never round place general text is)
+unlisted K s text Memory is = tt

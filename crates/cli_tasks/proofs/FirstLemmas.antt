@@ -224,7 +224,7 @@ not_judged (task.Explore scenario most folder) bytes (Verifier fault) refuses is
 not_judged (task.Tree file general marked drawing depth folded) bytes (Verifier fault) refuses is none = absurd (no_tree (is_toml bytes) general marked.items bytes fault refuses)
 not_judged (task.Draw scenario course) bytes (Verifier fault) refuses is none = absurd (no_campaign true bytes fault refuses)
 not_judged (task.Page scenario course target) bytes (Verifier fault) refuses is none = absurd (no_campaign true bytes fault refuses)
-not_judged (task.Retrace scenario (accesses.OfChronicle own)) bytes (Verifier fault) refuses is none = absurd refuses
+not_judged (task.Retrace scenario (accesses.OfChronicle own)) bytes (Verifier fault) refuses is none = absurd (no_campaign true bytes fault refuses)
 not_judged (task.Retrace scenario (accesses.Listed own)) bytes (Verifier fault) refuses is none = absurd refuses
 not_judged task bytes (Codec error) refuses is none = tt
 not_judged task bytes (Object fault) refuses is none = tt

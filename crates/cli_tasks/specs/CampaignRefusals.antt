@@ -1,20 +1,23 @@
 -- Defines why listed accesses cannot happen in a campaign, and why a run with threads made no chronicle.
 use Rattle.std.specs.Prelude.{ℕ, ◌≢◌, List}
 use Rattle.campaign_schedules.specs.Arranged.{IsUnarranged}
-use Rattle.round.specs.Scenario.{Scenario as OralScenario}
-use Rattle.scenario.specs.Reading.{Tells}
+use Rattle.scenario.specs.Reading.{TellsAny}
+use Rattle.scenario.specs.declared.messages.Campaign.{Campaign}
 use Rattle.threads.specs.Outcomes.{IsErrorFor}
 use Rattle.threads.specs.declared.error.MusterError.TheVariants as muster
 use Rattle.threads.specs.declared.outcomes.Outcomes.{Outcomes}
 use Rattle.cli_tasks.specs.declared.refusal.InputRefusal.{InputRefusal}
 use Rattle.cli_tasks.specs.declared.refusal.InputRefusal.TheVariants.{Threads, Accesses, Memory}
-use Rattle.cli_tasks.specs.Refusals.{RefusesScenario}
+use Rattle.cli_tasks.specs.Explained.{scenario_of}
+use Rattle.cli_tasks.specs.Refusals.{RefusesCampaign}
+use Rattle.cli_tasks.specs.Retracing.{kind_of}
 
--- States why `schedule` rejects a campaign with the accesses in `list`: the text is not an oral campaign, the list or
+-- States why `schedule` rejects a campaign with the accesses in `list`: the text is not a campaign, the list or
 -- one of its accesses has this first fault, or memory ran out.
 abbrev pub RefusesListed : List ℕ → List ℕ → InputRefusal → Type 0
-RefusesListed list text (Accesses fault) = (s : OralScenario) × Tells text s × IsUnarranged s list fault
-RefusesListed list text refusal = RefusesScenario text refusal
+RefusesListed list text (Accesses fault) =
+    (c : Campaign) × TellsAny text c × IsUnarranged (kind_of c) (scenario_of c) list fault
+RefusesListed list text refusal = RefusesCampaign text refusal
 
 -- States that a run with threads made no chronicle, and that its threads ended so that the error is this one, or that
 -- memory ran out.

@@ -9,9 +9,7 @@ use Rattle.cli_words.specs.declared.tasks.Notation.{Notation}
 use Rattle.cli_words.specs.declared.tasks.Task.{Task}
 use Rattle.insn.specs.declared.insn.Insn.{Insn}
 use Rattle.label.specs.declared.shape.Shape.{Shape}
-use Rattle.round.specs.Scenario.{Scenario}
 use Rattle.scenario.specs.declared.messages.Campaign.{Campaign}
-use Rattle.scenario.specs.declared.messages.Campaign.TheVariants.{Oral}
 use Rattle.world.specs.declared.schedule.Repeat.{Repeat}
 use Rattle.cli_tasks.specs.declared.refusal.InputRefusal.{InputRefusal}
 use Rattle.cli_tasks.specs.declared.refusal.InputRefusal.TheVariants.{NotText, Memory}
@@ -102,8 +100,8 @@ abbrev pub IsPagedAs : Option (Option (List ℕ)) → Campaign → List ℕ → 
 IsPagedAs known c text page = (bytes : List ℕ) × AreSecondBytes known bytes × IsRecordTold c text bytes page
 
 -- States that `lines` are a schedule by which the campaign has the chronicle in the second file.
-abbrev pub IsRetracedBy : Option (Option (List ℕ)) → Scenario → List ℕ → Type 0
-IsRetracedBy known s lines = (bytes : List ℕ) × AreSecondBytes known bytes × IsScheduleFor s bytes lines
+abbrev pub IsRetracedBy : Option (Option (List ℕ)) → Campaign → List ℕ → Type 0
+IsRetracedBy known c lines = (bytes : List ℕ) × AreSecondBytes known bytes × IsScheduleFor c bytes lines
 
 -- States that `text` describes the program's trial in the setting that the second file describes, and that `place` says
 -- for which general and round the program ran.
@@ -125,7 +123,7 @@ IsTextAfter known (answer.Draw c) text = IsDrawnBy known c text
 IsTextAfter known (answer.DrawRecorded c) text = IsDrawnAs known c text
 IsTextAfter known (answer.Page c scenario) text = IsPagedBy known c (string_bytes scenario) text
 IsTextAfter known (answer.PageRecorded c scenario) text = IsPagedAs known c (string_bytes scenario) text
-IsTextAfter known (answer.Retrace s) text = IsRetracedBy known s text
+IsTextAfter known (answer.Retrace c) text = IsRetracedBy known c text
 IsTextAfter known _ text = ⊥
 
 -- States that `text` is what a task prints whose result on its first file is `more`. `known` are the bytes of its
@@ -201,7 +199,7 @@ IsRefusedLater (answer.Draw c) known refusal = IsScheduleRefused known refusal
 IsRefusedLater (answer.DrawRecorded c) known refusal = IsChronicleRefused c known refusal
 IsRefusedLater (answer.Page c text) known refusal = IsScheduleRefused known refusal
 IsRefusedLater (answer.PageRecorded c text) known refusal = IsChronicleRefused c known refusal
-IsRefusedLater (answer.Retrace s) known refusal = IsChronicleRefused (Oral s) known refusal
+IsRefusedLater (answer.Retrace c) known refusal = IsChronicleRefused c known refusal
 IsRefusedLater _ known refusal = ⊥
 
 -- States that `P` holds of the second file's bytes, if they are known. If there is no second file, `P` must hold of no

@@ -6,7 +6,7 @@ use Rattle.cli_words.specs.declared.tasks.Task.{Task}
 use Rattle.cli_words.specs.declared.tasks.Task.TheVariants.{Check, Assemble, AssemblePartly, Disassemble, DisassemblePartly, Book, ExplainDecisions, Form, Refute, Exhaust, Certify, Play, Muster, Audit, Explore, Tree, Draw, Page, Retrace}
 use Rattle.cli_words.specs.declared.tasks.Accesses.TheVariants.{OfChronicle, Listed}
 use Rattle.cli_words.specs.declared.tasks.Course.TheVariants.{Scheduled, Recorded}
-use Rattle.scenario.specs.Reading.{Tells, TellsAny}
+use Rattle.scenario.specs.Reading.{TellsAny}
 use Rattle.book.specs.Answers.{DecidesTable, ExplainsTable, IsFilled, IsFormOf}
 use Rattle.bounds.specs.Refutation.{Refutes}
 use Rattle.verify.specs.Judgement.{judged}
@@ -69,7 +69,7 @@ GoesOn (Page scenario (Scheduled file) target) first (answer.Page c text) =
     TellsAny first c × (string_bytes text ≡ first)
 GoesOn (Page scenario (Recorded file) target) first (answer.PageRecorded c text) =
     TellsAny first c × (string_bytes text ≡ first)
-GoesOn (Retrace scenario (OfChronicle file)) first (answer.Retrace s) = Tells first s
+GoesOn (Retrace scenario (OfChronicle file)) first (answer.Retrace c) = TellsAny first c
 GoesOn _ first _ = ⊥
 
 -- States that this is the task's result on a first file with these bytes: a text or bytes to print, or a program or a

@@ -40,5 +40,5 @@ Refuses (Tree file general traitors drawing depth folded) bytes refusal =
     RefusesText (RefusesTree general traitors.items) bytes refusal
 Refuses (Draw scenario course) bytes refusal = RefusesText RefusesCampaign bytes refusal
 Refuses (Page scenario course target) bytes refusal = RefusesText RefusesCampaign bytes refusal
-Refuses (Retrace scenario (OfChronicle file)) bytes refusal = RefusesText RefusesScenario bytes refusal
+Refuses (Retrace scenario (OfChronicle file)) bytes refusal = RefusesText RefusesCampaign bytes refusal
 Refuses (Retrace scenario (Listed list)) bytes refusal = RefusesText (RefusesListed (string_bytes list)) bytes refusal

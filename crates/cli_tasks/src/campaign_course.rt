@@ -12,7 +12,6 @@ use crate::reader::read_second;
 use crate::schedules::retraced;
 use crate::service::scheduled;
 use crate::whys::{FileRole, later};
-use round::Scenario;
 use scenario::Campaign;
 use std::alloc::Global;
 use streams::Source;
@@ -123,22 +122,22 @@ pub(crate) fn page_record<'a, R: Source>(
     }
 }
 
-/// Reads a chronicle of an oral campaign from the second file. Returns the text of a schedule by which the campaign has
-/// this chronicle.
+/// Reads a chronicle of the campaign from the second file. Returns the text of a schedule by which the campaign has this
+/// chronicle.
 pub(crate) fn retrace_of<'a, R: Source>(
     alloc: Global,
-    scenario: &Scenario,
+    campaign: &Campaign,
     reported: bool,
     file: &'a str,
     second: Option<R>,
 ) -> Result<Vec<u8>, TaskFailure<'a>>
-    ensures retraced { IfOk result (λ text. IsRetracedBy (option_map R.bytes second) scenario.now text.items) }
+    ensures retraced { IfOk result (λ text. IsRetracedBy (option_map R.bytes second) campaign.now text.items) }
     ensures fault { IfErr result
         (Stops (IsSomeAnd second R.fails)
-        (IsToldLater reported file.entry.now (option_map R.bytes second) (Retrace scenario.now)) file.entry.now) }
+        (IsToldLater reported file.entry.now (option_map R.bytes second) (Retrace campaign.now)) file.entry.now) }
 {
     let bytes = read_second(alloc, file, second)?;
-    match retraced(alloc, scenario, bytes.as_slice()) {
+    match retraced(alloc, campaign, bytes.as_slice()) {
         Ok(lines) => Ok(lines),
         Err(refusal) => {
             Err(later(

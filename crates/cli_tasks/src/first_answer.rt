@@ -1,7 +1,6 @@
 //! The result of a task on its first file: everything that it prints, or a program or a campaign that it needs for the
 //! second file.
 use cli_words::{Account, Lieutenants};
-use round::Scenario;
 use scenario::Campaign;
 use verify::Verified;
 
@@ -33,6 +32,6 @@ pub enum FirstAnswer {
     /// A campaign to write as an HTML page, in the course that the chronicle in the second file records, with the text
     /// of its scenario.
     PageRecorded(Campaign, String),
-    /// An oral campaign. The task prints a schedule that leads to the chronicle in the second file.
-    Retrace(Scenario),
+    /// A campaign for which the task prints a schedule that leads to the chronicle in the second file.
+    Retrace(Campaign),
 }

@@ -198,8 +198,8 @@ where
         FirstAnswer::PageRecorded(campaign, text) => {
             Ok(Answer::plain(page_record(alloc, campaign, text, told, file, second)?))
         }
-        FirstAnswer::Retrace(scenario) => {
-            Ok(Answer::plain(retrace_of(alloc, &scenario, told, file, second)?))
+        FirstAnswer::Retrace(campaign) => {
+            Ok(Answer::plain(retrace_of(alloc, &campaign, told, file, second)?))
         }
     }
 }

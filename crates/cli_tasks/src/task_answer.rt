@@ -198,7 +198,7 @@ pub fn answer(alloc: Global, task: &Task, bytes: &[u8]) -> Result<FirstAnswer, I
         Task::Retrace {
             accesses: Accesses::OfChronicle(_),
             ..
-        } => Ok(FirstAnswer::Retrace(campaign(alloc, bytes)?)),
+        } => Ok(FirstAnswer::Retrace(any_campaign(alloc, bytes)?)),
         Task::Retrace {
             accesses: Accesses::Listed(list),
             ..
