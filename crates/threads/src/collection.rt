@@ -7,7 +7,7 @@ ghost use Rattle.threads.specs.Inboxes.{AreOwn};
 ghost use Rattle.threads.specs.Outcomes.{LacksMemory, LacksAccount, LacksThread, LacksRoom, HasAnEndForEach, IsHaltOf};
 ghost use Rattle.threads.specs.Served.{IsGated};
 ghost use Rattle.threads.specs.declared.error.MusterError.TheVariants.{Memory, Unaccounted, Spawn, Post};
-ghost use Rattle.threads.specs.declared.halt.Halt.TheVariants.{Unstarted};
+ghost use Rattle.threads.specs.declared.halt.Halt.TheVariants.{Unstarted as NotStarted};
 
 use crate::answers::{Unstarted, kept};
 use crate::camp::{AllShut, Crew};
@@ -193,7 +193,7 @@ fn finish<R: Threads + Wait, G, J: Room, C: Claim, D: Delivered>(
     requires tally { scenario.now.generals ≤ camp.now.tally.generals }
     requires threads { length handles.items ≤ length camp.now.inboxes.items }
     requires few { length handles.items ≤ 13 }
-    ensures unstarted { IfSome unstarted (λ evidence. result.outcome ≡ Err (Unstarted evidence)) }
+    ensures unstarted { IfSome unstarted (λ evidence. result.outcome ≡ Err (NotStarted evidence)) }
     ensures all { length result.generals.items ≡ length handles.items }
     ensures ascending { AreAscending result.generals.items }
     ensures found { IfErr result.outcome (IsHaltOf D.kind scenario.now) }
@@ -224,7 +224,7 @@ fn conducted<R: Wait, G, J: Room, C: Claim, D: Delivered>(
     requires inboxes { scenario.now.generals ≤ length camp.now.inboxes.items }
     requires own { AreOwn camp.now.inboxes.items }
     requires tally { scenario.now.generals ≤ camp.now.tally.generals }
-    ensures unstarted { IfSome unstarted (λ evidence. result ≡ Err (Unstarted evidence)) }
+    ensures unstarted { IfSome unstarted (λ evidence. result ≡ Err (NotStarted evidence)) }
     ensures found { IfErr result (IsHaltOf D.kind scenario.now) }
     ensures rounds { IfOk result (λ r. length r.0.items ≡ suc scenario.now.bound) }
     ensures told { IfOk result (λ r. D.was_told scenario.now r.0.items r.1) }
