@@ -155,7 +155,7 @@ left_over answering program context relay steps k whole a b calls h is =
 pub slipped_went : {B : Type 0} (answering : Answering B) (program : List Insn) (context : List ℕ) (relay : Relay) (steps : ℕ) (whole : List HelperCall) (a t : Standing) (b : B) (calls longer : List HelperCall)
     → a.state.steps < steps → IsSlipped answering program context relay steps whole a b calls → HasGone program context a t calls longer → t.relay ≡ a.relay
     → IsSlipped answering program context relay steps whole t b longer
-slipped_went answering program context relay steps whole a t b calls longer few h gone same =
+slipped_went {B = B} answering program context relay steps whole a t b calls longer few h gone same =
     let counted = gone.counted in
     let left : steps - a.state.steps ≡ suc (steps - t.state.steps) = omega arith in
     let rest : Rest B = λ c u. slips_from answering program context relay (steps - t.state.steps) c u in
@@ -172,7 +172,7 @@ slipped_went answering program context relay steps whole a t b calls longer few 
 asked_rest : {B : Type 0} (answering : Answering B) (program : List Insn) (context : List ℕ) (rest : Rest B) (a : Standing) (m : Standing) (b : B) (request : Request) (found : Option (List ℕ × B)) (calls same : List HelperCall)
     → HasAsked program context request a m calls same → answering b request ≡ found
     → calls ++ slips_at answering program context a.relay rest b a.state ≡ same ++ answered rest request m.state found
-asked_rest answering program context rest a m b request found calls same asked is =
+asked_rest {B = B} answering program context rest a m b request found calls same asked is =
     ap (λ (o : Outcome). calls ++ (slip_next program context a ++ followed answering rest b o)) asked.outcome
     ∙ (ap (λ (l : List HelperCall). calls ++ (l ++ answered rest request m.state (answering b request))) asked.none
     ∙ (ap (λ (f : Option (List ℕ × B)). calls ++ answered rest request m.state f) is
@@ -182,7 +182,7 @@ pub slipped_asked : {B : Type 0} (answering : Answering B) (program : List Insn)
     (calls same : List HelperCall) → a.state.steps < steps → IsSlipped answering program context relay steps whole a b calls → HasAsked program context request a m calls same → m.relay ≡ a.relay
     → answering b request ≡ Some (answer, d) → t.relay ≡ m.relay → t.state ≡ resumed request answer m.state → IsOfRun program context t
     → IsSlipped answering program context relay steps whole t d same
-slipped_asked answering program context relay steps whole a m t b d request answer calls same few h asked kept answers held resumes run =
+slipped_asked {B = B} answering program context relay steps whole a m t b d request answer calls same few h asked kept answers held resumes run =
     let counted = asked.counted in
     let unchanged : t.state.steps ≡ m.state.steps = ap (λ (s : State). s.steps) resumes ∙ resumed_counts request answer m.state in
     let left : steps - a.state.steps ≡ suc (steps - t.state.steps) = omega arith in
@@ -199,7 +199,7 @@ slipped_asked answering program context relay steps whole a m t b d request answ
 pub slipped_cut : {B : Type 0} (answering : Answering B) (program : List Insn) (context : List ℕ) (relay : Relay) (steps : ℕ) (whole : List HelperCall) (a m : Standing) (b : B) (request : Request)
     (calls same : List HelperCall) → a.state.steps < steps → IsSlipped answering program context relay steps whole a b calls → HasAsked program context request a m calls same
     → answering b request ≡ None → same ≡ whole
-slipped_cut answering program context relay steps whole a m b request calls same few h asked unanswered =
+slipped_cut {B = B} answering program context relay steps whole a m b request calls same few h asked unanswered =
     let k = steps - a.state.steps - 1 in
     let left : steps - a.state.steps ≡ suc k = omega arith in
     let rest : Rest B = λ c u. slips_from answering program context relay k c u in
@@ -208,13 +208,15 @@ slipped_cut answering program context relay steps whole a m b request calls same
     ∙ left_over answering program context relay steps k whole a b calls h left)
 
 ends_none : {B : Type 0} (answering : Answering B) (rest : Rest B) (b : B) (o : Outcome) → EndsRun o → followed answering rest b o ≡ []
+ends_none answering rest b (Next t) ends = elim ends [ ]
+ends_none answering rest b (Ask request t) ends = elim ends [ ]
 ends_none answering rest b (Exit r0 t) ends = refl
 ends_none answering rest b (Trap cause) ends = refl
 
 -- Proves that the list is whole when the run ends.
 pub slipped_end : {B : Type 0} (answering : Answering B) (program : List Insn) (context : List ℕ) (relay : Relay) (steps : ℕ) (whole : List HelperCall) (a : Standing) (b : B)
     (calls same : List HelperCall) → a.state.steps < steps → IsSlipped answering program context relay steps whole a b calls → HasEnded program context a calls same → same ≡ whole
-slipped_end answering program context relay steps whole a b calls same few h ended =
+slipped_end {B = B} answering program context relay steps whole a b calls same few h ended =
     let k = steps - a.state.steps - 1 in
     let left : steps - a.state.steps ≡ suc k = omega arith in
     let rest : Rest B = λ c u. slips_from answering program context relay k c u in

@@ -12,7 +12,7 @@ use Rattle.semantics.specs.Entries.{is_entered}
 use Rattle.semantics.specs.Relay.{Kind, Oral, Signed, Relay}
 use Rattle.semantics.specs.State.{State, Outcome, Next, Ask, Exit, Trap, entry, value_at}
 use Rattle.semantics.specs.Outbox.{empty_outbox, places_set}
-use Rattle.semantics.specs.Call.{Effect, Puts, Enters, effect, fits, helper_of, resumed}
+use Rattle.semantics.specs.Call.{Effect, Puts, Enters, effect, helper_of, resumed, words_of}
 use Rattle.semantics.specs.Execution.{step}
 use Rattle.board.specs.Board.{Access, reply, next}
 use Rattle.mem.specs.ContextLayout.{at_kind, number_told}
@@ -73,11 +73,12 @@ Answering B = B → Request → Option (List ℕ × B)
 abbrev pub by_board : Answering (List ℕ)
 by_board words request = Some (reply words request, next words request)
 
--- The replies in a list of accesses answer requests in their order. One that does not fit is no answer.
+-- The replies in a list of accesses answer requests in their order. A reply of another length than the request asks for
+-- is no answer.
 abbrev pub by_replies : Answering (List Access)
 by_replies [] request = None
 by_replies (access ∷ accesses) request =
-    if fits request access.reply then Some (access.reply, accesses) else None
+    if length access.reply == words_of request then Some (access.reply, accesses) else None
 
 -- The type of a function that lists the slips of all further steps, from what answers requests and the state.
 abbrev pub Rest : Type 0 → Type 0
@@ -119,7 +120,7 @@ slips_on words program context r =
 -- order and its signers. There is room for 508 chains.
 abbrev pub signers_told : List ℕ → List ℕ
 signers_told context =
-    map (λ i. number_told context (9 + 2 * i) % 2 ^ 16) (range_with_len 0 (min 508 (number_told context 5)))
+    map (λ i. number_told context (9 + 2 * i) % 2 ^ 16) (range_with_len 0 (min (number_told context 5) 508))
 
 -- Returns the kind of messages in the campaign that a context describes.
 abbrev pub kind_told : List ℕ → Kind

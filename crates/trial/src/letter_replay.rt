@@ -1,10 +1,11 @@
 //! Lists the slips in the round of a letter: the calls of a traitor's program that should send orders, but have no
 //! effect.
-ghost use Rattle.std.specs.Prelude.{◌≡◌, [], true, IfOk, length};
-ghost use Rattle.semantics.specs.Call.{fits};
+ghost use Rattle.std.specs.Prelude.{◌≡◌, ◌==◌, [], IfOk, length};
+ghost use Rattle.semantics.specs.Call.{words_of};
 ghost use Rattle.semantics.specs.Outbox.{empty_outbox};
 ghost use Rattle.semantics.specs.Replies.{words_in};
 ghost use Rattle.semantics.specs.State.{entry};
+ghost use Rattle.round.specs.Runs.{AreFitting};
 ghost use Rattle.trial.specs.Slips.{by_replies, letter_slips, slips_from};
 
 use crate::held_chains::HeldChains;
@@ -53,6 +54,7 @@ fn replayed_slips(
 ) -> Result<Vec<HelperCall>, AllocError>
     requires empty { outbox.rows ≡ empty_outbox outbox.relay }
     requires unentered { outbox.entries ≡ [] }
+    requires fitting { AreFitting transcript.now }
     ensures { IfOk result (λ calls. calls.items ≡ slips_from by_replies verified.now context.now outbox.relay steps
         transcript.now (entry (empty_outbox outbox.relay))) }
 {
@@ -66,7 +68,7 @@ fn replayed_slips(
                 let [access, further @ ..] = rest else {
                     return Ok(calls);
                 };
-                if !fits(&request, access.reply()) {
+                if !has_its_length(&request, access.reply()) {
                     return Ok(calls);
                 }
                 activation.resume(&request, access.reply());
@@ -79,8 +81,8 @@ fn replayed_slips(
 }
 
 /// Checks whether a reply has as many words as the request asks for.
-fn fits(request: &Request, reply: &Reply) -> bool
-    ensures { result ≡ fits request.now (words_in reply.now) }
+fn has_its_length(request: &Request, reply: &Reply) -> bool
+    ensures { result ≡ (length (words_in reply.now) == words_of request.now) }
 {
     let count = match reply {
         Reply::Word(_) => 1,

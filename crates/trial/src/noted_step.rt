@@ -1,5 +1,5 @@
 //! Runs one step of a program, and notes it if it is a slip: a call that should send orders, but has no effect.
-ghost use Rattle.std.specs.Prelude.{◌≡◌, ◌<◌, ◌++◌, if◌then◌else◌, [], length, IfOk, OnOk};
+ghost use Rattle.std.specs.Prelude.{◌≡◌, ◌<◌, ◌≤◌, ◌++◌, length, IfOk, OnOk};
 ghost use Rattle.machine.specs.Advance.{IsOfRun};
 ghost use Rattle.trial.specs.Noted.{call_said, says_none};
 ghost use Rattle.trial.specs.Noting.{IsNoted};

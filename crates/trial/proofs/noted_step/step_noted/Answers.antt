@@ -32,7 +32,10 @@ returns-in_ok-put_slip-in-Limit-clause-noted c =
     (c.in-Limit.ensures.advances c.requires.answers c.requires.reached) in
     record {
       outcome = next.0;
-      noted = c.in_ok-put_slip-in-Limit.ensures;
+      noted = c.in_ok-put_slip-in-Limit.ensures
+          ∙ (ap (λ (r0 : ℕ). c.args.calls.now.items ++ call_said r0 c.call_at-call.result) c.number_at.ensures
+          ∙ (ap (λ (call : Option HelperCall). c.args.calls.now.items ++ call_said (number_at c.run.new.self.state 0) call) c.call_at-call.ensures
+          ∙ ap (λ (l : List HelperCall). c.args.calls.now.items ++ l) (sym (slip_said program c.args.context.now a c.in-Some.insn c.run.new.self.state here next.0))));
       counted = next.1;
       of_run = c.in-Limit.ensures.of_run;
     }
