@@ -5,10 +5,11 @@ use Rattle.std.proofs.lemmas.Bool.{and_parts, eqb-true, le-leb, leb-true}
 use Rattle.std.proofs.lemmas.Bool.Decides.{nat_tests}
 use Rattle.surveys.specs.declared.finding.Finding.{Finding}
 use Rattle.surveys.specs.Parts.{AreOf}
-use Rattle.surveys.specs.Covering.{AreApart, AreDoubles, AreEndsOf, AreHoles, AreLeastAndGreatest, HasSeen, Seen, is_in, seeds_in, times}
+use Rattle.surveys.specs.Covering.{AreApart, AreDoubles, AreHoles, is_in, seeds_in, times}
+use Rattle.surveyor.specs.Seeing.{AreEndsOf, AreLeastAndGreatest, HasSeen, Seen}
 use Rattle.surveys.specs.Running.{Counts}
 use Rattle.surveys.specs.declared.stretch.Stretch.{Stretch}
-use Rattle.surveys.proofs.Seeing.{times_more}
+use Rattle.surveyor.proofs.Seeing.{times_more}
 use Rattle.std.specs.Io.KnownBytes.{Appends}
 use Rattle.std.specs.declared.result.Result.{Result}
 use Rattle.std.proofs.KnownBytes.{Appends-nil}

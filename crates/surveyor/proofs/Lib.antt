@@ -2,6 +2,11 @@ mod KeptLemmas
 mod Going
 mod LeastLemmas
 mod AccountLemmas
+mod Comparing
+mod Ascending
+mod Exactness
+mod Apart
+mod Seeing
 mod SumLemmas
 mod ReadLemmas
 mod CoverLemmas

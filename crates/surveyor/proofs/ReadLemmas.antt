@@ -6,7 +6,8 @@ use Rattle.std.proofs.lemmas.List.{map-append}
 use Rattle.surveys.specs.declared.finding.Finding.{Finding}
 use Rattle.surveys.specs.declared.parts.PartError.{PartError}
 use Rattle.surveys.specs.declared.parts.PartError.TheVariants.{Memory as NoMemory}
-use Rattle.surveys.specs.Covering.{HasSeen, Seen, seeds_in}
+use Rattle.surveys.specs.Covering.{seeds_in}
+use Rattle.surveyor.specs.Seeing.{HasSeen, Seen}
 use Rattle.surveys.specs.Parts.{IsFaulty, IsReadOn}
 use Rattle.surveys.specs.Running.{Counts, counts_of}
 use Rattle.surveyor.specs.Faults.{IsNoPart, IsUntold}

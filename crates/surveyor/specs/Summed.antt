@@ -5,7 +5,8 @@ use Rattle.std.specs.List.{AllZip}
 use Rattle.std.specs.Io.KnownBytes.{Appends}
 use Rattle.surveys.specs.declared.finding.Finding.{Finding}
 use Rattle.surveys.specs.Parts.{AreOf, IsPart}
-use Rattle.surveys.specs.Covering.{AreDoubles, AreEndsOf, AreHoles, HasSeen, Seen, seeds_in, times}
+use Rattle.surveys.specs.Covering.{AreDoubles, AreHoles, seeds_in, times}
+use Rattle.surveyor.specs.Seeing.{AreEndsOf, HasSeen, Seen}
 use Rattle.surveys.specs.Running.{Counts, counts_of}
 use Rattle.surveys.specs.declared.stretch.Stretch.{Stretch}
 use Rattle.surveyor.specs.declared.task.Merge.{Merge}

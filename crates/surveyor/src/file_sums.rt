@@ -2,7 +2,8 @@
 //! missing or occur more than once.
 ghost use Rattle.std.specs.Prelude.{◌≡◌, ◌≢◌, [], ◌++◌, List, IfErr, IfOk, OnOk, flat_map, length, string_bytes};
 ghost use Rattle.surveys.specs.declared.finding.Finding.{Finding as Found};
-ghost use Rattle.surveys.specs.Covering.{HasSeen, seeds_in};
+ghost use Rattle.surveys.specs.Covering.{seeds_in};
+ghost use Rattle.surveyor.specs.Seeing.{HasSeen};
 ghost use Rattle.surveys.specs.Parts.{AreOf};
 ghost use Rattle.surveyor.specs.Faults.{IsNoPart, IsUnsummed, IsUntold};
 ghost use Rattle.surveyor.specs.Statuses.{IsReported};
@@ -12,10 +13,11 @@ use crate::fault::SurveyFailure;
 use crate::input::bytes_of;
 use crate::printer::put_summary;
 use crate::read_campaigns::ReadCampaigns;
+use crate::seen_seeds::SeenSeeds;
 use crate::task::Merge;
 use std::alloc::{AllocError, Global};
 use streams::{FileName, Output};
-use surveys::{PartError, Parts, SeenSeeds, Stretch, read_part};
+use surveys::{PartError, Parts, Stretch, read_part};
 
 /// Reads the lines that `--lines` printed into several files, and prints the summary of all their campaigns. Reports on
 /// `error`, which is standard error, which seeds are missing, and which occur more than once. Returns the exit status:

@@ -20,6 +20,8 @@ mod played_survey;
 mod printer;
 mod progress;
 mod read_campaigns;
+mod seed_ranges;
+mod seen_seeds;
 mod task;
 mod task_words;
 mod word_values;

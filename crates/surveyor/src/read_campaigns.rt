@@ -4,8 +4,9 @@ ghost use Rattle.surveys.specs.declared.finding.Finding.{Finding as Found};
 ghost use Rattle.surveyor.specs.Summed.{HasRead};
 
 use crate::fault::SurveyFailure;
+use crate::seen_seeds::SeenSeeds;
 use std::alloc::{AllocError, Global};
-use surveys::{Finding, RunningCounts, SeenSeeds, seeds_in};
+use surveys::{Finding, RunningCounts, seeds_in};
 
 /// What is kept of the campaigns that were read. Its size depends on how many ranges their seeds form, and not on the
 /// number of campaigns.

@@ -20,10 +20,9 @@ pub mod Searching
 pub mod Narrowing
 pub mod Reducing
 pub mod Comparing
-pub mod Ascending
+pub mod Rising
 pub mod Exactness
 pub mod Apart
-pub mod Seeing
 pub mod Pieces
 pub mod Spans
 pub mod PieceSearch

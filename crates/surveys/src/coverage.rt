@@ -1,8 +1,6 @@
-//! Lists the seeds of campaigns, and combines ranges of seeds: merges them, and finds their overlaps and gaps.
+//! Finds the seeds that are missing in a survey, and those that occur more than once.
 ghost use Rattle.std.specs.Prelude.{◌≡◌, ◌++◌, IfOk, OnOk};
-ghost use Rattle.std.specs.List.Sorted.{IsNonDecreasingBy, IsPermutation};
-ghost use Rattle.surveys.specs.Covering.{gaps, merged, merged_from, overlaps, overlaps_from, seeds_in, stretch};
-ghost use Rattle.surveys.specs.declared.stretch.Stretch.{Stretch as Range};
+ghost use Rattle.surveys.specs.Covering.{AreApart, AreAscending, AreDoubles, AreHoles, gaps, repeated, seeds_in, stretch, stretches, stretches_from};
 
 use crate::finding::Finding;
 use crate::stretch::Stretch;
@@ -23,13 +21,13 @@ pub fn seeds_in(alloc: Global, findings: &[Finding]) -> Result<Vec<u64>, AllocEr
     Ok(seeds)
 }
 
-/// Sorts ranges by their first seeds, ascending.
-pub(crate) fn by_first(mut ranges: Vec<Stretch>) -> Vec<Stretch>
-    ensures same { IsPermutation ranges.items result.items }
-    ensures ascending { IsNonDecreasingBy (λ (s : Range). s.first) result.items }
+/// Returns the seeds of these campaigns in ascending order. A repeated seed stays repeated.
+fn ascending(alloc: Global, findings: &[Finding]) -> Result<Vec<u64>, AllocError>
+    ensures { IfOk result (λ seeds. AreAscending (seeds_in findings.now) seeds.items) }
 {
-    ranges.sort_unstable_by_key(|range| range.first);
-    ranges
+    let mut seeds = seeds_in(alloc, findings)?;
+    seeds.sort_unstable();
+    Ok(seeds)
 }
 
 /// Appends the range of the seeds from `first` to `last`, unless `first` is greater than `last`.
@@ -45,82 +43,104 @@ fn push_stretch(found: &mut Vec<Stretch>, first: u128, last: u64) -> Result<(), 
     Ok(())
 }
 
-/// Returns the ranges of the seeds from `next` to `last` that are in none of `ranges`, which ascend.
-pub(crate) fn gaps(
-    alloc: Global,
-    next: u64,
-    ranges: &[Stretch],
-    last: u64,
-) -> Result<Vec<Stretch>, AllocError>
-    ensures { IfOk result (λ found. found.items ≡ gaps next ranges.now last) }
+/// Returns the ranges of the seeds from `next` to `last` that are missing in `seeds`, which are ascending.
+fn gaps(alloc: Global, next: u64, seeds: &[u64], last: u64) -> Result<Vec<Stretch>, AllocError>
+    ensures { IfOk result (λ found. found.items ≡ gaps next seeds.now last) }
 {
     let mut found = Vec::new(alloc);
     let mut next = u128::from(next);
-    for range in ranges {
-        if next < u128::from(range.first) {
-            push_stretch(&mut found, next, (range.first - 1).min(last))?;
+    for seed in seeds {
+        if next < u128::from(*seed) {
+            push_stretch(&mut found, next, (*seed - 1).min(last))?;
         }
-        next = next.max(u128::from(range.last) + 1);
+        next = next.max(u128::from(*seed) + 1);
     }
     push_stretch(&mut found, next, last)?;
     Ok(found)
 }
 
-/// Continues the range `begun` with `ranges`, which ascend, as far as no seed is between them, and puts later seeds into
-/// further ranges. Returns all these ranges.
-fn merged_from(
+/// Returns the ranges of the seeds from `first` to `last`, both included, for which there is no campaign. Between two
+/// ranges there is always a seed that has a campaign.
+///
+/// # Errors
+///
+/// Fails with `AllocError` if it runs out of memory.
+pub fn holes(
     alloc: Global,
-    begun: Stretch,
-    ranges: &[Stretch],
+    findings: &[Finding],
+    first: u64,
+    last: u64,
 ) -> Result<Vec<Stretch>, AllocError>
-    ensures { IfOk result (λ found. found.items ≡ merged_from begun.first begun.last ranges.now) }
+    ensures holes { IfOk result (λ found. AreHoles first last (seeds_in findings.now) found.items) }
+    ensures apart { IfOk result (λ found. AreApart found.items) }
+{
+    let seeds = ascending(alloc, findings)?;
+    gaps(alloc, first, seeds.as_slice(), last)
+}
+
+/// Returns each of the ascending `seeds` that equals the seed before it.
+fn repeated(alloc: Global, seeds: &[u64]) -> Result<Vec<u64>, AllocError>
+    ensures { IfOk result (λ found. found.items ≡ repeated seeds.now) }
+{
+    let mut found = Vec::new(alloc);
+    for place in 1..seeds.len() {
+        if seeds[place - 1] == seeds[place] {
+            found.push(seeds[place])?;
+        }
+    }
+    Ok(found)
+}
+
+/// Continues the range `begun` with the ascending `seeds` as far as they are consecutive, and puts later seeds into
+/// further ranges. Returns all these ranges.
+fn stretches_from(alloc: Global, begun: Stretch, seeds: &[u64]) -> Result<Vec<Stretch>, AllocError>
+    ensures { IfOk result (λ found. found.items ≡ stretches_from begun.first begun.last seeds.now) }
 {
     let mut found = Vec::new(alloc);
     let mut open = begun;
-    for range in ranges {
-        let (first, last) = (range.first, range.last);
-        if u128::from(first) <= u128::from(open.last) + 1 {
-            open.last = open.last.max(last);
+    for seed in seeds {
+        if u128::from(*seed) <= u128::from(open.last) + 1 {
+            open.last = open.last.max(*seed);
         } else {
             found.push(open)?;
-            open = Stretch { first, last };
+            open = Stretch {
+                first: *seed,
+                last: *seed,
+            };
         }
     }
     found.push(open)?;
     Ok(found)
 }
 
-/// Returns the seeds of `ranges`, which ascend, as ranges between which there is always a seed: 3 to 4, 4 to 6, 7 and 9
-/// give 3 to 7 and 9.
-pub(crate) fn merged(alloc: Global, ranges: &[Stretch]) -> Result<Vec<Stretch>, AllocError>
-    ensures { IfOk result (λ found. found.items ≡ merged ranges.now) }
+/// Returns the ascending `seeds` as ranges of consecutive seeds: `[3, 4, 8]` gives 3 to 4, and 8 to 8.
+fn stretches(alloc: Global, seeds: &[u64]) -> Result<Vec<Stretch>, AllocError>
+    ensures { IfOk result (λ found. found.items ≡ stretches seeds.now) }
 {
-    match ranges.split_first() {
-        Some((first, rest)) => merged_from(alloc, *first, rest),
+    match seeds.split_first() {
+        Some((first, rest)) => stretches_from(
+            alloc,
+            Stretch {
+                first: *first,
+                last: *first,
+            },
+            rest,
+        ),
         None => Ok(Vec::new(alloc)),
     }
 }
 
-/// Returns the parts of `ranges`, which ascend, that are also in an earlier one of them or have seeds of at most `last`.
-fn overlaps_from(alloc: Global, last: u64, ranges: &[Stretch]) -> Result<Vec<Stretch>, AllocError>
-    ensures { IfOk result (λ found. found.items ≡ overlaps_from last ranges.now) }
+/// Returns the ranges of the seeds for which there is more than one campaign. Between two ranges there is always a seed
+/// that has at most one.
+///
+/// # Errors
+///
+/// Fails with `AllocError` if it runs out of memory.
+pub fn doubles(alloc: Global, findings: &[Finding]) -> Result<Vec<Stretch>, AllocError>
+    ensures doubles { IfOk result (λ found. AreDoubles (seeds_in findings.now) found.items) }
+    ensures apart { IfOk result (λ found. AreApart found.items) }
 {
-    let mut found = Vec::new(alloc);
-    let mut last = last;
-    for range in ranges {
-        push_stretch(&mut found, u128::from(range.first), last.min(range.last))?;
-        last = last.max(range.last);
-    }
-    Ok(found)
-}
-
-/// Returns the parts of `ranges`, which ascend, that are also in an earlier one of them: 3 to 6, 5 to 9 and 5 give 5 to 6
-/// and 5.
-pub(crate) fn overlaps(alloc: Global, ranges: &[Stretch]) -> Result<Vec<Stretch>, AllocError>
-    ensures { IfOk result (λ found. found.items ≡ overlaps ranges.now) }
-{
-    match ranges.split_first() {
-        Some((first, rest)) => overlaps_from(alloc, first.last, rest),
-        None => Ok(Vec::new(alloc)),
-    }
+    let seeds = ascending(alloc, findings)?;
+    let twice = repeated(alloc, seeds.as_slice())?;
+    stretches(alloc, twice.as_slice())
 }

@@ -1,6 +1,6 @@
 use Rattle.std.proofs.Common.{◌≡◌, ◌<◌, ◌^◌, ◌++◌, drop}
-use Rattle.surveys.specs.Covering.{merged_from}
-use Rattle.surveys.proofs.coverage.merged_from.Given as goal
+use Rattle.surveyor.specs.Seeing.{merged_from}
+use Rattle.surveyor.proofs.seed_ranges.merged_from.Given as goal
 
 abbrev pub invariant-loop-range : goal.invariant-loop-range
 invariant-loop-range l =

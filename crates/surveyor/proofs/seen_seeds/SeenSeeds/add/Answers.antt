@@ -2,9 +2,9 @@ use Rattle.std.proofs.Common.{◌≡◌, ◌++◌, List, ap, subst, sym, ◌∙�
 use Rattle.std.specs.Prelude.{map}
 use Rattle.std.specs.List.Sorted.{IsPermutation}
 use Rattle.surveys.specs.declared.stretch.Stretch.{Stretch}
-use Rattle.surveys.specs.Covering.{HasSeen, Seen, merged, overlaps, single}
-use Rattle.surveys.proofs.Seeing.{seen_more}
-use Rattle.surveys.proofs.seen_seeds.SeenSeeds.add.Goals as goal
+use Rattle.surveyor.specs.Seeing.{HasSeen, Seen, merged, overlaps, single}
+use Rattle.surveyor.proofs.Seeing.{seen_more}
+use Rattle.surveyor.proofs.seen_seeds.SeenSeeds.add.Goals as goal
 
 pub returns-clause-added : goal.returns-clause-added
 returns-clause-added c = λ before h.

@@ -1,7 +1,7 @@
 use Rattle.std.proofs.Common.{sym, subst, ◌∙◌, vec_len}
-use Rattle.surveys.specs.Covering.{HasSeen, Seen}
-use Rattle.surveys.proofs.Seeing.{ends_at, no_seeds_at}
-use Rattle.surveys.proofs.seen_seeds.SeenSeeds.ends.Goals as goal
+use Rattle.surveyor.specs.Seeing.{HasSeen, Seen}
+use Rattle.surveyor.proofs.Seeing.{ends_at, no_seeds_at}
+use Rattle.surveyor.proofs.seen_seeds.SeenSeeds.ends.Goals as goal
 
 pub returns-then-is_empty : goal.returns-then-is_empty
 returns-then-is_empty c = λ seeds h.

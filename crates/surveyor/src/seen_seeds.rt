@@ -1,11 +1,12 @@
 //! The seeds of campaigns that were read, kept as ranges.
 ghost use Rattle.std.specs.Prelude.{◌≡◌, ◌++◌, ℕ, [], List, IfOk, OnErr, OnOk, map};
-ghost use Rattle.surveys.specs.Covering.{AreApart, AreDoubles, AreEndsOf, AreHoles, HasSeen, single};
+ghost use Rattle.surveys.specs.Covering.{AreApart, AreDoubles, AreHoles};
+ghost use Rattle.surveyor.specs.Seeing.{AreEndsOf, HasSeen, single};
 
-use crate::coverage::{by_first, gaps, merged, overlaps};
-use crate::stretch::Stretch;
+use crate::seed_ranges::{by_first, gaps, merged, overlaps};
 use std::alloc::{AllocError, Global};
 use std::marker::Model;
+use surveys::Stretch;
 
 /// The seeds of campaigns, to which further seeds can be added: which occur, and which occur more than once. Its size
 /// depends on the number of ranges that these seeds form, and not on the number of seeds.
@@ -18,7 +19,7 @@ pub struct SeenSeeds {
 }
 
 impl Model for SeenSeeds {
-    ghost use Rattle.surveys.specs.Covering.{Seen};
+    ghost use Rattle.surveyor.specs.Seeing.{Seen};
 
     ghost Value = { Seen };
 

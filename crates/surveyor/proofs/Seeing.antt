@@ -7,11 +7,12 @@ use Rattle.std.proofs.lemmas.List.Folds.{list_any-append}
 use Rattle.std.proofs.lemmas.List.Sums.{sum_by-append}
 use Rattle.std.proofs.lemmas.List.Sorted.{list_any-IsPermutation, sum_by-IsPermutation}
 use Rattle.surveys.specs.declared.stretch.Stretch.{Stretch}
-use Rattle.surveys.specs.Covering.{AreAll, AreApart, AreApartFrom, AreHoles, AreLeastAndGreatest, HasSeen, Seen, gaps, is_in, is_within, merged, overlaps, single, times}
-use Rattle.surveys.proofs.Comparing.{not_once, once_with, one_is, twice_with}
-use Rattle.surveys.proofs.Ascending.{HaveSeeds, apart_climb, apart_some, both_some, climb, covers, covers_more, in_covers, none_covers, apart_from, sorted_some}
-use Rattle.surveys.proofs.Apart.{all_apart, all_gaps_apart}
-use Rattle.surveys.proofs.Exactness.{all_merged, all_overlaps, all_some, gaps_have}
+use Rattle.surveys.specs.Covering.{AreApart, AreApartFrom, AreHoles, is_in, is_within, times}
+use Rattle.surveyor.specs.Seeing.{AreAll, AreLeastAndGreatest, HasSeen, Seen, gaps, merged, overlaps, single}
+use Rattle.surveyor.proofs.Comparing.{not_once, once_with, one_is, twice_with}
+use Rattle.surveyor.proofs.Ascending.{HaveSeeds, apart_climb, apart_some, both_some, climb, covers, covers_more, in_covers, none_covers, apart_from, sorted_some}
+use Rattle.surveyor.proofs.Apart.{all_apart, all_gaps_apart}
+use Rattle.surveyor.proofs.Exactness.{all_merged, all_overlaps, all_some, gaps_have}
 
 -- How often a number occurs in a list with one more seed.
 zero_plus : (t : ℕ) → 0 + t ≡ t

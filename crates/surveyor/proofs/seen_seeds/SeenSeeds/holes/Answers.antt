@@ -1,8 +1,9 @@
 use Rattle.std.proofs.Common.{ℕ, List, ◌≡◌, ap, subst, sym, ◌∙◌}
 use Rattle.std.proofs.lemmas.Result.{IfOk-weaker}
-use Rattle.surveys.specs.Covering.{AreApart, AreHoles, HasSeen, Seen, gaps}
-use Rattle.surveys.proofs.Seeing.{holes_apart, holes_seen}
-use Rattle.surveys.proofs.seen_seeds.SeenSeeds.holes.Goals as goal
+use Rattle.surveys.specs.Covering.{AreApart, AreHoles}
+use Rattle.surveyor.specs.Seeing.{HasSeen, Seen, gaps}
+use Rattle.surveyor.proofs.Seeing.{holes_apart, holes_seen}
+use Rattle.surveyor.proofs.seen_seeds.SeenSeeds.holes.Goals as goal
 
 pub returns-clause-holes : goal.returns-clause-holes
 returns-clause-holes c =
