@@ -5,7 +5,7 @@ use Rattle.serde_json.specs.Data.{Members}
 use Rattle.text.specs.Parts.{left}
 use Rattle.text.specs.Stop.{space}
 use Rattle.text.proofs.PartsLemmas.{pieces_is}
-use Rattle.cli_answers.specs.Objects.{found, told_by}
+use Rattle.cli_answers.specs.Shaped.{found, told_by}
 
 no_parts : {A B : Type 0} (f : A → B) (i : ℕ) (xs : List A) → length xs ≤ i → map f (drop i xs) ≡ []
 no_parts f zero [] l = refl
