@@ -90,37 +90,23 @@ fn unit_replaced(text: &[u8]) -> Option<u64>
 
 /// Returns the JSON object of an edit: the instructions, and the unit before which they are put, or in whose place if
 /// `instead` is true.
-fn edit(
-    alloc: Global,
-    instructions: Vec<Value>,
-    instead: bool,
-    unit: u64,
-) -> Result<Value, AllocError>
-    ensures { IfOk result (λ v. view v ≡ edit (items_view instructions.items) instead unit) }
+fn edit(alloc: Global, added: Vec<Value>, instead: bool, unit: u64) -> Result<Value, AllocError>
+    ensures { IfOk result (λ v. view v ≡ edit (items_view added.items) instead unit) }
 {
     let mut object = Map::new(alloc);
     put(&mut object, alloc, "instead", Value::Bool(instead))?;
-    put(
-        &mut object,
-        alloc,
-        "instructions",
-        Value::Array(instructions),
-    )?;
+    put(&mut object, alloc, "instructions", Value::Array(added))?;
     put(&mut object, alloc, "unit", Value::from(unit))?;
     Ok(Value::Object(object))
 }
 
 /// Returns the edit with these instructions, or `None` if `text`, the text after them, does not say where they are put.
-fn edit_by(
-    alloc: Global,
-    instructions: Vec<Value>,
-    text: &[u8],
-) -> Result<Option<Value>, AllocError>
-    ensures { IfOk result (λ o. option_map view o ≡ edit_by (items_view instructions.items) text.now) }
+fn edit_by(alloc: Global, added: Vec<Value>, text: &[u8]) -> Result<Option<Value>, AllocError>
+    ensures { IfOk result (λ o. option_map view o ≡ edit_by (items_view added.items) text.now) }
 {
     match (unit_before(text), unit_replaced(text)) {
-        (Some(unit), _) => Ok(Some(edit(alloc, instructions, false, unit)?)),
-        (None, Some(unit)) => Ok(Some(edit(alloc, instructions, true, unit)?)),
+        (Some(unit), _) => Ok(Some(edit(alloc, added, false, unit)?)),
+        (None, Some(unit)) => Ok(Some(edit(alloc, added, true, unit)?)),
         (None, None) => Ok(None),
     }
 }
