@@ -42,9 +42,10 @@ export const objects = (text) => text.trim().split("\n").map((line) => JSON.pars
 function refusal(text) {
   if (!text.startsWith("{")) return { refused: true, text, why: text.trim() };
   const [object] = objects(text);
-  const { code, fault, place = "", sentence = "", traitor } = object;
+  const { code, fault, place = "", traitor } = object;
+  const said = object.why?.sentence ?? object.sentence;
   const where = `${code ?? fault} ${place}`.trim();
-  return { refused: true, object, traitor, why: `${sentence ? capital(sentence) : "The program rejects this campaign"} (${where}).` };
+  return { refused: true, object, traitor, why: `${said ? capital(said) : "The program rejects this campaign"} (${where}).` };
 }
 
 /* Begins a sentence with a capital letter, unless a register is its first word. */
