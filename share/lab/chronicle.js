@@ -1,5 +1,6 @@
 /* Reads the lines of JSON by which the program reports a campaign. */
 import { all, isTraitor } from "./campaign.js";
+import { objects } from "./server.js";
 
 /* The lines of a chronicle that exercises ask for, by the kinds of their objects. */
 const spelled = (value) => ({ true: "yes", false: "no", null: "-" })[value] ?? String(value);
@@ -9,22 +10,31 @@ const LINES = {
   verdict: ({ alike, obeyed, bound }) => `verdict alike ${spelled(alike)} obeyed ${spelled(obeyed)} bound ${spelled(bound)}`,
 };
 
+/* The lines by which a lieutenant's decision is explained, after the line that names him. */
+const held = (order) => (order === null ? "nothing" : String(order));
+const REASONS = {
+  list: ({ label, received, orders, outcome }) =>
+    `${label.join(".")}: ${[`received ${held(received)}`, ...orders.map((entry) => `${entry.label.join(".")} ${held(entry.order)}`)].join(", ")}: ${outcome}`,
+  acceptance: ({ order, signers }) => `accepts ${order}, signed ${signers.join(".")}`,
+  decision: (line) => (line.sentence ? `${LINES.decision(line)}: ${line.sentence}` : LINES.decision(line)),
+};
+
 /* Returns the rounds with their accesses and messages, the decisions and explanations by general, and the verdict.
    A message has a label (who relayed the order, the commander first), its order (null for none), the order that a loyal general
    would send (`right`), and whether it is a lie. The program reports what was sent. What a loyal general would have sent is
    looked up here in the messages of the round before. */
 export function read(text, campaign) {
   const course = { rounds: [], decisions: new Map(), verdict: null, why: new Map(), byLabel: new Map(), lines: [] };
-  let explained = null;
-  for (const line of text.trim().split("\n").map((one) => JSON.parse(one))) {
+  for (const line of objects(text)) {
     if (Object.hasOwn(LINES, line.line)) course.lines.push(LINES[line.line](line));
     if (line.line === "round") course.rounds.push({ accesses: [], messages: [] });
     else if (line.line === "access") course.rounds.at(-1).accesses.push(line);
     else if (line.line === "row") addRow(course, campaign, line);
     else if (line.line === "chain") addChain(course, campaign, line);
-    else if (line.line === "decision") explained = addDecision(course, line, explained);
+    else if (line.line === "decision") course.decisions.set(line.general, line.decision);
     else if (line.line === "verdict") course.verdict = line;
-    else if (line.line === "text") explained = addExplanation(course, line.text, explained);
+    else if (line.line === "lieutenant") course.why.set(line.general, []);
+    if (Object.hasOwn(REASONS, line.line)) course.why.get(line.general)?.push(REASONS[line.line](line));
   }
   return course;
 }
@@ -56,25 +66,6 @@ function add(course, message) {
   round.messages.push({ ...message, round: course.rounds.length });
   const key = keyOf(message.label, message.to, message.signed);
   if (!course.byLabel.has(key)) course.byLabel.set(key, round.messages.at(-1));
-}
-
-/* Without signatures, the last line of an explanation is a decision too. */
-function addDecision(course, line, explained) {
-  course.decisions.set(line.general, line.decision);
-  if (explained !== null) course.why.get(explained).push(LINES.decision(line));
-  return null;
-}
-
-/* The lines about a lieutenant follow `lieutenant G` and end with his decision, with signatures as `decision 1 1: one order`. */
-function addExplanation(course, text, explained) {
-  const begun = /^lieutenant (\d+)$/.exec(text);
-  if (begun) {
-    course.why.set(Number(begun[1]), []);
-    return Number(begun[1]);
-  }
-  if (explained === null) return null;
-  course.why.get(explained).push(text);
-  return text.startsWith("decision ") ? null : explained;
 }
 
 /* The messages of a round, in groups of the same sender and receiver. */

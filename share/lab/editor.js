@@ -1,6 +1,6 @@
 /* The editor of a traitor's program: assembly with line numbers, checked as one types. */
 import { $, later, make } from "./dom.js";
-import { ask, capital } from "./server.js";
+import { ask, capital, objects } from "./server.js";
 
 const WAIT = 300; // milliseconds after the last key
 
@@ -78,62 +78,49 @@ export class Editor {
     const text = $("program").value;
     const answer = await ask("check", { text });
     if (this.general === null || text !== $("program").value) return;
-    const said = answer.ok ? accepted(answer.text) : answer.refused ? refused(answer.text) : { verdict: answer.why, fault: null, facts: "" };
+    const said = answer.ok ? accepted(objects(answer.text)) : answer.object ? refused(answer.object) : { verdict: answer.why, fault: null, facts: [] };
     this.fault = said.fault;
     $("verdict").textContent = said.verdict;
     this.checked(text, said.verdict);
     $("verdict").classList.toggle("refused", !answer.ok);
     $("program").setAttribute("aria-invalid", String(!answer.ok));
-    this.edit = said.fault ? editOf(said.fault.more, said.facts, text.split("\n")) : null;
+    this.edit = said.edit ? editIn(text.split("\n"), said.edit, said.facts) : null;
     $("apply").hidden = this.edit === null;
-    $("facts").hidden = said.facts === "";
-    $("facts").lastElementChild.textContent = said.facts;
+    $("facts").hidden = said.facts.length === 0;
+    $("facts").lastElementChild.textContent = said.facts.map(spelled).join("\n");
     const more = (said.fault?.more ?? []).map((line) => make("span", {}, line));
     $("under").replaceChildren(...(said.fault ? [make("b", {}, said.fault.sentence), ...more] : []));
     this.number();
   }
 }
 
-/* The edit of a help such as "with `and r2, 7` before unit 4 the program is accepted", or null. Facts say which line a unit has.
-   A line with a name is left to the writer. */
-function editOf(more, facts, lines) {
-  const found = more.map((line) => /^help: with (`.*`) (before|in place of) unit (\d+)/.exec(line)).find(Boolean);
-  const line = Number(found ? new RegExp(`^${found[3]} \\(line (\\d+)\\)`, "m").exec(facts)?.[1] : NaN);
+/* An edit of the program's help as an edit of lines, or null. Facts say which line a unit has. A line with a name is left to the
+   writer. */
+function editIn(lines, { unit, instructions, instead }, facts) {
+  const line = facts.find((fact) => fact.unit === unit)?.source_line;
   if (!line || /^\s*\w+:/.test(lines[line - 1])) return null;
   const indent = /^\s*/.exec(lines[line - 1])[0];
-  const added = [...found[1].matchAll(/`([^`]+)`/g)].map(([, instruction]) => indent + instruction);
-  return { line, removed: found[2] === "before" ? 0 : 1, added };
+  return { line, removed: Number(instead), added: instructions.map((instruction) => indent + instruction) };
 }
 
-function accepted(text) {
-  const [head, ran, ...facts] = text.trimEnd().split("\n");
-  const count = Number(/^accepted (\d+)/.exec(head)?.[1] ?? NaN);
-  return { verdict: count === 1 ? "Accepted: 1 instruction." : `Accepted: ${count} instructions.`, fault: null, facts: facts.join("\n"), ran };
+/* What is known at an instruction, as a line. */
+function spelled({ unit, place, instruction, reads, gives }) {
+  const given = gives.length ? ` -> ${gives.join(" ; ")}` : "";
+  return `${unit}${place ? ` (${place})` : ""} ${[instruction, ...reads].join(" ; ")}${given}`;
 }
 
-/* What the program says about a program that it rejects: the line at fault, the sentence, and notes and help. */
-function refused(text) {
-  const lines = text.trimEnd().split("\n");
-  const [, code, kind, number] = /^refused (\w+)(?: (line|unit) (\d+))?/.exec(lines[0]) ?? [];
-  const own = kind === "unit" ? byUnit(lines, Number(number)) : byLine(lines);
-  const line = kind === "line" ? Number(number) : own.line;
-  const sentence = own.sentence ?? `The program is rejected by ${code}.`;
-  const verdict = [`${line ? `Line ${line}: ` : ""}${sentence} (${code})`, ...own.more].join("\n");
-  return { verdict, fault: { line, sentence, more: own.more }, facts: own.facts.join("\n") };
+function accepted(lines) {
+  const count = lines.find(({ line }) => line === "accepted").instructions;
+  const verdict = count === 1 ? "Accepted: 1 instruction." : `Accepted: ${count} instructions.`;
+  return { verdict, fault: null, facts: lines.filter(({ line }) => line === "instruction") };
 }
 
-/* A refusal of the assembler: `error: SENTENCE`, the line with a mark below it, `= help: SENTENCE`. */
-function byLine(lines) {
-  const sentence = lines.find((line) => line.startsWith("error: "))?.slice("error: ".length);
-  const more = lines.filter((line) => /^\s*= (?:help|note): /.test(line)).map((line) => line.replace(/^\s*= /, ""));
-  return { sentence: sentence && capital(sentence), more, facts: [] };
-}
-
-/* A refusal of the verifier: facts about each unit, then `UNIT (line LINE) INSTRUCTION: SENTENCE`, and lines of note and help. */
-function byUnit(lines, unit) {
-  const line = Number(new RegExp(`^${unit} \\(line (\\d+)\\)`, "m").exec(lines.join("\n"))?.[1] ?? 0);
-  const at = lines.findLastIndex((one) => one.startsWith(`${unit} (line `) && !one.includes(" ; ") && !one.includes(" -> ") && one.includes(": "));
-  if (at < 0) return { line, more: [], facts: lines.slice(1) };
-  const sentence = lines[at].slice(lines[at].indexOf(": ") + 2);
-  return { line, sentence: capital(sentence), more: lines.slice(at + 1), facts: lines.slice(1, at) };
+/* What the program says about a program that it rejects: the line at fault, the sentence, notes, and a help with its edit. */
+function refused({ code, line_number, sentence, help, edit, why, notes = [], facts = [] }) {
+  const line = line_number ?? why?.source_line ?? 0;
+  const said = why?.sentence ?? sentence;
+  const shown = said ? capital(said) : `The program is rejected by ${code}.`;
+  const more = [...notes.map((note) => `note: ${note}`), ...(help ? [`help: ${help}`] : [])];
+  const verdict = [`${line ? `Line ${line}: ` : ""}${shown} (${code})`, ...more].join("\n");
+  return { verdict, fault: { line, sentence: shown, more }, facts, edit };
 }

@@ -58,10 +58,10 @@ async function play() {
 }
 const playSoon = later(WAIT, play);
 
-/* Says what went wrong (a failure with `why`, or null), and what can be done about it. */
+/* Says what went wrong (a failure with `why`, and `traitor` if his program is rejected, or null), and what can be done about it. */
 function complain(failure) {
-  const culprit = Number(/^traitor (\d+) /.exec(failure?.place ?? "")?.[1] ?? NaN);
-  const isProgram = isTraitor(page.campaign, culprit);
+  const culprit = failure?.traitor;
+  const isProgram = culprit !== undefined && isTraitor(page.campaign, culprit);
   const text = !failure ? "" : isProgram ? `The program of general ${culprit} is rejected. ${failure.why}` : failure.why;
   const kept = failure?.lost && main.course ? " The campaign below is the last one that it played." : "";
   $("fault").hidden = !failure;

@@ -35,12 +35,17 @@ function reason(text, status) {
   }
 }
 
-/* What the program says about a text that it refuses: a line of JSON, or lines of text. */
+/* The objects of an answer in JSON, one for each line. */
+export const objects = (text) => text.trim().split("\n").map((line) => JSON.parse(line));
+
+/* What the program says about a text that it refuses: an object, or lines of text. */
 function refusal(text) {
   if (!text.startsWith("{")) return { refused: true, text, why: text.trim() };
-  const { code, fault, place = "", sentence = "" } = JSON.parse(text.split("\n")[0]);
+  const [object] = objects(text);
+  const { code, fault, place = "", traitor } = object;
+  const said = object.why?.sentence ?? object.sentence;
   const where = `${code ?? fault} ${place}`.trim();
-  return { refused: true, text, place, sentence, why: `${sentence ? capital(sentence) : "The program rejects this campaign"} (${where}).` };
+  return { refused: true, object, traitor, why: `${said ? capital(said) : "The program rejects this campaign"} (${where}).` };
 }
 
 /* Begins a sentence with a capital letter, unless a register is its first word. */

@@ -129,7 +129,7 @@ KINDS_OF_CAMPAIGNS = {**MEDIAN, "signed": ["--signed", "--adversary", "-"]}
 REFUTED = {"generals": ("", 3, MOST_GENERALS - 1), "bound": ("", 1, 4), "commander": ("", 0, MOST_GENERALS - 2)}
 
 COMMANDS = {
-    "check": Command(["check", "--asm", "--explain"], TEXT, is_scenario=False),
+    "check": Command(["check", "--asm", "--json", "--explain"], LINES, is_scenario=False),
     "play": Command(["play", "--json", "--explain"], LINES, OF, files=SCHEDULE),
     "chronicle": Command(["play"], TEXT, files=SCHEDULE),
     "tree": Tree(["tree", "--svg"], SVG, {**OF, "depth": ("--depth", 0, 4)}, {"fold": ["--fold"]}, lists=TRAITORS),

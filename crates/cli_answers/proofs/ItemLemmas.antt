@@ -7,6 +7,11 @@ use Rattle.serde_json.specs.declared.value.Value.{Value, Array}
 use Rattle.serde_json.proofs.Views.{view-Array}
 use Rattle.text.specs.declared.stop.Stop.{Stop}
 use Rattle.text.specs.Parts.{GivesPieces, left, pieces}
+use Rattle.serde_json.specs.Data.{Members}
+use Rattle.text.specs.Parts.{before}
+use Rattle.text.specs.Stop.{semicolon}
+use Rattle.cli_answers.specs.Instructions.{arrow, each, with_instruction, with_parts}
+use Rattle.cli_answers.specs.Texts.{behind_stop}
 use Rattle.cli_answers.specs.Labels.{numbers}
 use Rattle.cli_answers.specs.Values.{Word, all}
 
@@ -34,7 +39,7 @@ onto_last vs v None = refl
 onto_last vs v (Some es) = ap Some (join_last vs v es)
 
 -- Proves that a text is its first piece followed by the remaining ones.
-given_left : (stop : Stop) (front : Word) (rest : Option (Bor (List ℕ))) (pieces : List Word) → GivesPieces stop front rest pieces → pieces ≡ front ∷ left stop rest
+pub given_left : (stop : Stop) (front : Word) (rest : Option (Bor (List ℕ))) (pieces : List Word) → GivesPieces stop front rest pieces → pieces ≡ front ∷ left stop rest
 given_left stop front None all h = h
 given_left stop front (Some r) all h = h
 
@@ -72,3 +77,46 @@ no_numbers (suc i) (n ∷ ns) l = no_numbers i ns (omega arith)
 
 pub numbers_done : (i : ℕ) (ns : List ℕ) (old total : Items) → length ns ≤ i → join old (numbers (drop i ns)) ≡ total → old ≡ total
 numbers_done i ns old total l so_far = sym (join_none old) ∙ rw (no_numbers i ns l) at so_far
+
+module _ (tells : Word → Option Data) where
+  -- Proves that one more word with a value is one more element.
+  pub more_each : (old new : List Value) (v : Value) (all more : List Word) (front : Word) (total : Items) → all ≡ front ∷ more → new ≡ old ++ v ∷ [] → Some (view v) ≡ tells front
+      → join (items_view old) (each tells all) ≡ total → join (items_view new) (each tells more) ≡ total
+  more_each old new v all more front total e pushed told so_far =
+      let first = rw e at so_far in
+      rw (pushed, join_last old v (each tells more)) (rw (← told) at first)
+
+  -- Proves that a word without a value is no element.
+  pub skip_each : (old : Items) (all more : List Word) (front : Word) (total : Items) → all ≡ front ∷ more → None ≡ tells front
+      → join old (each tells all) ≡ total → join old (each tells more) ≡ total
+  skip_each old all more front total e none so_far =
+      let first = rw e at so_far in
+      rw (← none) at first
+
+  -- Proves that a word without a value leaves all without a value.
+  pub none_all : (old : Items) (all_words more : List Word) (front : Word) (total : Option Items) → all_words ≡ front ∷ more → None ≡ tells front
+      → onto old (all tells all_words) ≡ total → None ≡ total
+  none_all old all_words more front total e none so_far =
+      let first = rw e at so_far in
+      rw (← none) at first
+
+-- Proves that the elements are complete if nothing follows.
+pub each_told : (old total : Items) → join old no_items ≡ total → old ≡ total
+each_told old total so_far = sym (join_none old) ∙ so_far
+
+-- Proves that all elements are complete if nothing follows.
+pub all_ended : (old : Items) (total : Option Items) → onto old (Some no_items) ≡ total → Some old ≡ total
+all_ended old total so_far = ap Some (sym (join_none old)) ∙ so_far
+
+-- Proves that the array is complete if nothing follows.
+pub array_told : (old : Vec Value Global) (total : Items) → join (items_view old.items) no_items ≡ total → view (Array old) ≡ array total
+array_told old total so_far = view-Array old ∙ ap array (each_told (items_view old.items) total so_far)
+
+-- Proves that the parts of a line about an instruction are those between its semicolons.
+pub instruction_cut : (text front gives instruction : Word) (reads : Option (Bor (List ℕ))) (ms : Members) → front ≡ before arrow text → gives ≡ behind_stop arrow text
+    → GivesPieces semicolon instruction reads (pieces semicolon front) → with_parts (instruction ∷ left semicolon reads) (pieces semicolon gives) ms ≡ with_instruction text ms
+unfolding with_instruction
+instruction_cut text front gives instruction reads ms cut behind given =
+    ap (λ (ws : List Word). with_parts ws (pieces semicolon gives) ms) (sym (given_left semicolon instruction reads (pieces semicolon front) given))
+    ∙ (ap (λ (f : Word). with_parts (pieces semicolon f) (pieces semicolon gives) ms) cut
+    ∙ ap (λ (g : Word). with_parts (pieces semicolon (before arrow text)) (pieces semicolon g) ms) behind)

@@ -7,7 +7,7 @@ use Rattle.serde_json.specs.Data.{Members}
 use Rattle.text.specs.Parts.{before, from, left, onto_first, pieces}
 use Rattle.text.specs.Stop.{space}
 use Rattle.text.proofs.PartsLemmas.{behind, pieces_is}
-use Rattle.cli_answers.specs.Objects.{found, told_by, with_name}
+use Rattle.cli_answers.specs.Shaped.{found, told_by, with_name}
 use Rattle.cli_answers.specs.Values.{spaced, text_of}
 
 no_parts : {A B : Type 0} (f : A → B) (i : ℕ) (xs : List A) → length xs ≤ i → map f (drop i xs) ≡ []

@@ -6,7 +6,7 @@ use Rattle.serde_json.specs.Data.{number, unsigned, array, Items, no_items, item
 use Rattle.serde_json.specs.Find.{get_member, as_number, as_u64}
 use Rattle.cli_answers.specs.declared.position.Held.{Held}
 use Rattle.cli_answers.specs.declared.shape.Within.{Within}
-use Rattle.cli_answers.specs.declared.shape.Within.TheVariants.{Nothing, Round, Letter, Outbox}
+use Rattle.cli_answers.specs.declared.shape.Within.TheVariants.{Nothing, Round, Letter, Outbox, General}
 
 -- Returns the number that the member `name` has, or None if there is no such number from 0 to 2^64 - 1.
 abbrev pub number_at : List ℕ → Members → Option ℕ
@@ -63,7 +63,8 @@ abbrev pub with_number : List ℕ → ℕ → Members → Members
 with_number name n ms = put name (number (unsigned n)) ms
 
 -- Adds to a line's object where the line belongs. For a line in a round this is the round, and for a line in a letter
--- the round, the general and the label with the line's rank. For a line in an outbox it is only that label.
+-- the round, the general and the label with the line's rank. For a line in an outbox it is only that label, and for a
+-- line about a lieutenant only the general.
 abbrev pub placed : Within → Held → Members → Members
 placed Nothing h ms = ms
 placed Round h ms = with_number (codes "round") h.round ms
@@ -71,3 +72,4 @@ placed Letter h ms =
     with_label (option_and_then (label_of h) (number_at (codes "rank") ms))
     (with_number (codes "general") h.general (with_number (codes "round") h.round ms))
 placed Outbox h ms = with_label (option_and_then (label_of h) (number_at (codes "rank") ms)) ms
+placed General h ms = with_number (codes "general") h.general ms

@@ -1,8 +1,13 @@
 pub mod Values
 pub mod Shapes
 pub mod Labels
+pub mod Texts
+pub mod Shaped
+pub mod Instructions
+pub mod Explanations
 pub mod Objects
 pub mod Lines
+pub mod Advice
 pub mod Refusals
 pub mod Printing
 pub mod Serving

@@ -1,16 +1,15 @@
 -- The JSON object that says why a task was not done: a file was rejected, or it could not be read (own).
-use Rattle.std.specs.Prelude.{ℕ, ◌==◌, ◌||◌, not, Bool, if◌then◌else◌, List, [], ◌∷◌, drop, find, reverse, take, slice_get, slice_index, Option, None, Some, option_and_then, option_map, bytes_eq, codes}
+use Rattle.std.specs.Prelude.{ℕ, ◌==◌, ◌&&◌, ◌||◌, not, Bool, if◌then◌else◌, List, [], ◌∷◌, drop, find, reverse, take, slice_get, slice_index, Option, None, Some, option_and_then, option_map, bytes_eq, codes}
 use Rattle.std.specs.Option.{option_or}
-use Rattle.std.specs.Str.Lossy.{utf8_lossy}
 use Rattle.serde_json.specs.Data.{string, Members, put}
-use Rattle.text.specs.declared.stop.Stop.{Stop}
-use Rattle.text.specs.Parts.{before, from, lines_of}
+use Rattle.text.specs.Parts.{before, lines_of, pieces}
 use Rattle.text.specs.Stop.{feed, space}
-use Rattle.cli_answers.specs.Objects.{called, unshaped}
-
--- Returns the bytes after the first stop, or none if there is no stop.
-abbrev pub behind_stop : Stop → List ℕ → List ℕ
-behind_stop stop bytes = drop 1 (from stop bytes)
+use Rattle.cli_answers.specs.Advice.{help_of, with_explanation, with_help}
+use Rattle.cli_answers.specs.Labels.{at_first}
+use Rattle.cli_answers.specs.Objects.{or, unshaped}
+use Rattle.cli_answers.specs.Shaped.{first_shaped}
+use Rattle.cli_answers.specs.Shapes.{error_places}
+use Rattle.cli_answers.specs.Texts.{behind_stop, called, with_text}
 
 -- Returns whether an error code says that the verifier rejects a program: it begins with V, or is S8, the code for a
 -- traitor's program.
@@ -66,10 +65,6 @@ second_of lines = slice_get lines 1
 abbrev pub namer_of : List ℕ → List (List ℕ) → Option (List ℕ)
 namer_of code lines = if slice_index code 0 == 79 then option_and_then namer (second_of lines) else None
 
--- Adds a text to an object as the member `name`.
-abbrev pub with_text : List ℕ → List ℕ → Members → Members
-with_text name t ms = put name (string (utf8_lossy t)) ms
-
 -- Adds a sentence to an object as its member `sentence`, or nothing for None.
 abbrev pub with_sentence : Option (List ℕ) → Members → Members
 with_sentence None ms = ms
@@ -80,15 +75,39 @@ abbrev pub with_namer : Option (List ℕ) → Members → Members
 with_namer None ms = ms
 with_namer (Some key) ms = with_text (codes "named_by") key ms
 
+-- Returns whether the place of an error code is a key of a scenario or a setting: the code begins with K, or with S and
+-- is none of those for a traitor's program.
+abbrev pub is_keyed : List ℕ → Bool
+is_keyed code =
+    slice_index code 0 == 75 || (slice_index code 0 == 83 && not (bytes_eq code (codes "S7") || bytes_eq code (codes "S8")))
+
+-- Returns the object of a place by its numbers: a line or unit, a traitor and his program's error code, or a general.
+abbrev pub numbered : List ℕ → Members
+numbered place = or (first_shaped at_first error_places (pieces space place)) (called (codes "refused"))
+
+-- Returns an object for a rejected file with the numbers of the place, unless this is a key.
+abbrev pub placed_refusal : List ℕ → List ℕ → Members
+placed_refusal code place = if is_keyed code then called (codes "refused") else numbered place
+
+-- Adds what the verifier's explanation says, if the verifier rejects a program.
+abbrev pub with_verified : List ℕ → List (List ℕ) → Members → Members
+with_verified code lines ms = if is_unsafe code then with_explanation (why lines) lines ms else ms
+
+-- Adds what an explanation says besides the sentence.
+abbrev pub with_advice : List ℕ → List (List ℕ) → Members → Members
+with_advice code lines ms = with_verified code lines (with_help (help_of lines) ms)
+
 -- Returns the object for a rejected file: its error code, the place of the error and its class. `lines` may add where
--- an object file is named, and why the file is rejected.
+-- an object file is named, why the file is rejected, and advice.
 abbrev pub refused_object : List ℕ → List (List ℕ) → Members
 refused_object told lines =
     let code = before space told in
-    with_sentence (sentence_of code lines)
+    with_advice code lines
+    (with_sentence (sentence_of code lines)
     (with_namer (namer_of code lines)
     (put (codes "class") (string (class_of code))
-    (with_text (codes "place") (behind_stop space told) (with_text (codes "code") code (called (codes "refused"))))))
+    (with_text (codes "place") (behind_stop space told)
+    (with_text (codes "code") code (placed_refusal code (behind_stop space told)))))))
 
 -- Returns the object for a file that could not be read: the fault, the file as its place, and its class. `lines` may
 -- add where the file is named, and a sentence that says why.

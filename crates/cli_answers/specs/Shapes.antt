@@ -6,7 +6,7 @@ use Rattle.board.specs.Wording as asking
 use Rattle.board.specs.Wording.{rows}
 use Rattle.cli_answers.specs.declared.shape.Shape.{Shape}
 use Rattle.cli_answers.specs.declared.shape.Within.{Within}
-use Rattle.cli_answers.specs.declared.shape.Within.TheVariants.{Nothing, Round, Letter, Outbox}
+use Rattle.cli_answers.specs.declared.shape.Within.TheVariants.{Nothing, Round, Letter, Outbox, General}
 
 -- A shape of lines: the kind of these lines, what each of their words may be with its name, and where the lines
 -- belong. Its mark is a member that is true, or false, for all of these lines.
@@ -82,11 +82,43 @@ shapes =
     ∷ plain (codes "table") (codes "generals N bound N commander N rule C")
     (codes "- generals - bound - commander - rule") Nothing
     ∷ plain (codes "message") (codes "tell S N N") (codes "- label receiver order") Nothing
-    ∷ marked (codes "call") (codes "note: round N general N unit N H has no effect: T")
+    ∷ marked (codes "call") (codes "note: round N general N unit N W has no effect: T")
     (codes "- - round - general - unit helper - - - reason") (codes "effect") false Nothing
     ∷ plain (codes "certified") (codes "certified generals N") (codes "- - generals") Nothing
     ∷ plain (codes "uncertified") (codes "uncertified majority N result N list *")
     (codes "- - majority - result - list") Nothing
     ∷ plain (codes "none") (codes "none of E") (codes "- - exponent") Nothing
     ∷ plain (codes "broken") (codes "broken traitors *") (codes "- - traitors") Nothing
+    ∷ plain (codes "lieutenant") (codes "lieutenant N") (codes "- general") Nothing
+    ∷ plain (codes "acceptance") (codes "accepts N, signed S") (codes "- order - signers") General
     ∷ []
+
+-- The shapes of what a line has before a colon and a reason.
+unfoldable pub reasons : List Row
+reasons =
+    marked (codes "decision") (codes "decision N N") (codes "- general decision") (codes "traitor") false Nothing
+    ∷ marked (codes "decision") (codes "decision N traitor N") (codes "- general - decision")
+    (codes "traitor") true Nothing
+    ∷ plain (codes "condition") (codes "bound A") (codes "condition holds") Nothing
+    ∷ plain (codes "condition") (codes "IC1 A") (codes "condition holds") Nothing
+    ∷ plain (codes "condition") (codes "IC2 A") (codes "condition holds") Nothing
+    ∷ []
+
+-- The shapes of where an error is: at a line or unit, in a traitor's program, or at a general.
+unfoldable pub error_places : List Row
+error_places =
+    plain (codes "refused") (codes "line N") (codes "- line_number") Nothing
+    ∷ plain (codes "refused") (codes "unit N") (codes "- unit") Nothing
+    ∷ plain (codes "refused") (codes "general N") (codes "- general") Nothing
+    ∷ plain (codes "refused") (codes "traitor N W line N") (codes "- traitor inner_code - line_number") Nothing
+    ∷ plain (codes "refused") (codes "traitor N W unit N") (codes "- traitor inner_code - unit") Nothing
+    ∷ plain (codes "refused") (codes "traitor N W") (codes "- traitor inner_code") Nothing
+    ∷ []
+
+-- The words of the first entry of a list, after a blank: the order that a lieutenant received, or `nothing`.
+abbrev pub received : List (List ℕ × List ℕ)
+received = (codes "", codes "-") ∷ (codes "received", codes "-") ∷ (codes "O", codes "received") ∷ []
+
+-- The words of another entry of a list, after a blank: a label, and the order that is held for it, or `nothing`.
+abbrev pub entry : List (List ℕ × List ℕ)
+entry = (codes "", codes "-") ∷ (codes "S", codes "label") ∷ (codes "O", codes "order") ∷ []

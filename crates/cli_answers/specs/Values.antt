@@ -1,5 +1,5 @@
 -- The JSON value of a word in a printed line (RFC 8259).
-use Rattle.std.specs.Prelude.{ℕ, drop, take, ◌^◌, nat_lt, true, false, if◌then◌else◌, List, [], ◌∷◌, ◌++◌, Option, None, Some, option_map, option_and_then, is_some, bytes_eq, codes}
+use Rattle.std.specs.Prelude.{ℕ, drop, take, length, ◌-◌, ◌^◌, nat_lt, true, false, if◌then◌else◌, List, [], ◌∷◌, ◌++◌, Option, None, Some, option_map, option_and_then, is_some, bytes_eq, codes}
 use Rattle.std.specs.Str.Lossy.{utf8_lossy}
 use Rattle.combine.specs.Names.{rule_named}
 use Rattle.serde_json.specs.Data.{Data, null, boolean, number, unsigned, string, array, Items, no_items, item}
@@ -27,6 +27,15 @@ number_of word = option_map (λ n. number (unsigned n)) (small word)
 -- Returns the JSON number that a word is, or null if it is a dash. Returns None for any other word.
 abbrev pub place_of : Word → Option Data
 place_of word = if bytes_eq word (codes "-") then Some null else number_of word
+
+-- Returns the JSON number that a word is, or null for `nothing`. Returns None for any other word.
+abbrev pub received_of : Word → Option Data
+received_of word = if bytes_eq word (codes "nothing") then Some null else number_of word
+
+-- Returns a word without the comma at its end, or None if it ends otherwise.
+abbrev pub before_comma : Word → Option Word
+before_comma word =
+    if bytes_eq (drop (length word - 1) word) (codes ",") then Some (take (length word - 1) word) else None
 
 -- Returns a JSON boolean for `yes` or `no`, or null for a dash. Returns None for any other word.
 abbrev pub yes_no_of : Word → Option Data
@@ -72,8 +81,9 @@ spaced (word ∷ []) = word
 spaced (word ∷ next ∷ words) = word ++ 32 ∷ spaced (next ∷ words)
 
 -- Returns the JSON value of a word, if it is what `kind` says. For N it is a number, for P a number or null, for A a
--- boolean or null, for S an array of numbers, for C the word of a rule, for E the exponent of a power of two, and for H
--- any word. Any other `kind` is the word itself.
+-- boolean or null, for S an array of numbers, for C the word of a rule, and for E the exponent of a power of two. For
+-- `N,` it is a number before a comma, for O a number, or null for `nothing`, and for W any word. Any other `kind` is the
+-- word itself.
 unfoldable pub told : Word → Word → Option Data
 told kind word =
     if bytes_eq kind (codes "N") then number_of word
@@ -82,6 +92,8 @@ told kind word =
     else if bytes_eq kind (codes "S") then joined word
     else if bytes_eq kind (codes "C") then rule_of word
     else if bytes_eq kind (codes "E") then power_of word
-    else if bytes_eq kind (codes "H") then Some (text_of word)
-    else if bytes_eq word kind then Some (text_of word)
+    else if bytes_eq kind (codes "N,") then option_and_then number_of (before_comma word)
+    else if bytes_eq kind (codes "O") then received_of word
+    else if bytes_eq kind (codes "W") then Some (string (utf8_lossy word))
+    else if bytes_eq word kind then Some (string (utf8_lossy word))
     else None

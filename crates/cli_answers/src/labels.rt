@@ -147,5 +147,6 @@ pub(crate) fn put_place(
             let rank = number_at(object, "rank");
             put_label_of(alloc, object, held, rank)
         }
+        Within::General => put(object, alloc, "general", Value::from(held.general)),
     }
 }

@@ -2,7 +2,10 @@
 //! If the task cannot be done, prints the reason in that form.
 #![tactic(auto)]
 
+mod advice;
+mod explanations;
 mod file_line;
+mod instructions;
 mod json_lines;
 mod labels;
 mod objects;
@@ -13,6 +16,8 @@ mod printer;
 mod refusals;
 mod service;
 mod shape;
+mod shaped;
+mod texts;
 mod values;
 
 pub use file_line::{answer_of, refusal_of};

@@ -3,26 +3,18 @@ ghost use Rattle.std.specs.Prelude.{◌≡◌, IfNone, IfOk, IfSome, OnOk, drop,
 ghost use Rattle.serde_json.specs.View.{members_view};
 ghost use Rattle.text.specs.Parts.{before, lines_of};
 ghost use Rattle.cli_answers.specs.Lines.{object_line};
-ghost use Rattle.cli_answers.specs.Refusals.{behind_stop, class_of, fault_object, is_reported, is_unsafe, is_why, namer, namer_behind, namer_of, refusal_object, refused_object, reported, said, second_of, sentence_of, why, with_namer, with_sentence, with_text};
+ghost use Rattle.cli_answers.specs.Refusals.{class_of, fault_object, is_keyed, is_reported, is_unsafe, is_why, namer, namer_behind, namer_of, numbered, placed_refusal, refusal_object, refused_object, reported, said, second_of, sentence_of, why, with_namer, with_sentence, with_verified};
 
+use crate::advice::{put_explanation, put_help};
 use crate::json_lines::push_object;
-use crate::objects::{called, unshaped};
-use crate::values::spelled;
+use crate::objects::unshaped;
+use crate::position::Held;
+use crate::shape::error_places;
+use crate::shaped::first_shaped;
+use crate::texts::{called, parted, put_text};
 use serde_json::{Map, Value, put};
 use std::alloc::{AllocError, Global};
-use text::{FEED, SPACE, Stop, cut, line};
-
-/// Cuts bytes at the first stop. The stop is in neither result, and the second result is empty if there is no stop.
-fn parted(stop: Stop, bytes: &[u8]) -> (&[u8], &[u8])
-    ensures front { result.0.now ≡ before stop bytes.now }
-    ensures back { result.1.now ≡ behind_stop stop bytes.now }
-{
-    let (front, back) = cut(stop, bytes);
-    match back {
-        [] => (front, back),
-        [_, behind @ ..] => (front, behind),
-    }
-}
+use text::{FEED, SPACE, line};
 
 /// Checks whether an error code says that the verifier rejects a program: it begins with `V`, or is `S8`, the code
 /// for a traitor's program.
@@ -201,26 +193,68 @@ fn put_sentence(
     }
 }
 
-/// Adds a text to the object as the member `name`. Bytes that are not UTF-8 become replacement characters.
-fn put_text(
+/// Checks whether the place of an error code is a key of a scenario or a setting: the code begins with `K`, or with `S`
+/// and is none of those for a traitor's program.
+fn is_keyed(code: &[u8]) -> bool
+    ensures { result ≡ is_keyed code.now }
+{
+    match code {
+        [first, ..] if *first == b'K' => true,
+        [first, ..] if *first == b'S' => code != b"S7".as_slice() && code != b"S8".as_slice(),
+        _ => false,
+    }
+}
+
+/// Returns the JSON object of a place by its numbers: a line or unit, a traitor and his program's error code, or a
+/// general.
+fn numbered(alloc: Global, place: &[u8]) -> Result<Map<String, Value>, AllocError>
+    ensures { IfOk result (λ object. members_view object.entries ≡ numbered place.now) }
+{
+    match first_shaped(alloc, Held::at_first(), error_places(), place)? {
+        Some(object) => Ok(object),
+        None => called(alloc, "refused"),
+    }
+}
+
+/// Returns a JSON object for a rejected file with the numbers of the place, unless this is a key.
+fn placed_refusal(
+    alloc: Global,
+    code: &[u8],
+    place: &[u8],
+) -> Result<Map<String, Value>, AllocError>
+    ensures { IfOk result (λ object. members_view object.entries ≡ placed_refusal code.now place.now) }
+{
+    if is_keyed(code) {
+        called(alloc, "refused")
+    } else {
+        numbered(alloc, place)
+    }
+}
+
+/// Adds to the object what the verifier's explanation says, if it rejects a program, as the error code says.
+fn put_verified(
     alloc: Global,
     object: &mut Map<String, Value>,
-    name: &str,
-    text: &[u8],
+    code: &[u8],
+    lines: &[u8],
 ) -> Result<(), AllocError>
     ensures { OnOk result (members_view object.new.entries
-        ≡ with_text name.now text.now (members_view object.old.entries)) }
+        ≡ with_verified code.now (lines_of lines.now) (members_view object.old.entries)) }
 {
-    put(object, alloc, name, spelled(alloc, text)?)
+    if is_unsafe(code) {
+        put_explanation(alloc, object, why(lines), lines)
+    } else {
+        Ok(())
+    }
 }
 
 /// Returns the JSON object for a rejected file: its error code, the place of the error (both from `told`), and its
-/// class. `lines` may add where an object file is named, and why the file is rejected.
+/// class. `lines` may add where an object file is named, why the file is rejected, and advice.
 fn refused(alloc: Global, told: &[u8], lines: &[u8]) -> Result<Map<String, Value>, AllocError>
     ensures { IfOk result (λ object. members_view object.entries ≡ refused_object told.now (lines_of lines.now)) }
 {
     let (code, place) = parted(SPACE, told);
-    let mut object = called(alloc, "refused")?;
+    let mut object = placed_refusal(alloc, code, place)?;
     put_text(alloc, &mut object, "code", code)?;
     put_text(alloc, &mut object, "place", place)?;
     put(
@@ -231,6 +265,8 @@ fn refused(alloc: Global, told: &[u8], lines: &[u8]) -> Result<Map<String, Value
     )?;
     put_namer(alloc, &mut object, namer_of(code, lines))?;
     put_sentence(alloc, &mut object, sentence_of(code, lines))?;
+    put_help(alloc, &mut object, lines)?;
+    put_verified(alloc, &mut object, code, lines)?;
     Ok(object)
 }
 

@@ -1,7 +1,7 @@
 //! Lists the shapes of the lines that are printed: patterns of words, and the names of these words in JSON.
 ghost use Rattle.std.specs.Prelude.{◌≡◌, map};
 ghost use Rattle.board.specs.Wording as asking;
-ghost use Rattle.cli_answers.specs.Shapes.{access_row, row_of, shapes};
+ghost use Rattle.cli_answers.specs.Shapes.{access_row, error_places, reasons, row_of, shapes};
 
 use board::Wording;
 
@@ -16,6 +16,8 @@ pub(crate) enum Within {
     Letter,
     /// The object gets the label with the line's rank.
     Outbox,
+    /// The object gets the general about whom the line is.
+    General,
 }
 
 /// A shape of lines: what each of their words is, and its name in JSON.
@@ -25,8 +27,9 @@ pub(crate) struct Shape {
     pub line: &'static str,
     /// For each word what it may be, and its name, or a dash if the object leaves the word out. `N` is a number, `P`
     /// a number or a dash, `A` yes, no or a dash, `S` numbers joined by dots or a dash, `C` the word of a rule, and `E`
-    /// a power of two, such as `2^18`. `H` is any word, such as a helper's name. `*` is any number of further words, each a
-    /// number or a dash, and `T` is the rest of the line, at least one word. Anything else is the word itself.
+    /// a power of two, such as `2^18`. `N,` is a number before a comma, `O` a number or `nothing`, and `W` any word. `*`
+    /// is any number of further words, each a number or a dash, and `T` is the rest of the line, at least one word. Anything
+    /// else is the word itself.
     pub parts: &'static [(&'static str, &'static str)],
     /// The mark: the name of a member that is true, or false, in the objects of all these lines. It is empty if there
     /// is no mark.
@@ -279,7 +282,7 @@ const SHAPES: &[Shape] = &[
             ("N", "general"),
             ("unit", "-"),
             ("N", "unit"),
-            ("H", "helper"),
+            ("W", "helper"),
             ("has", "-"),
             ("no", "-"),
             ("effect:", "-"),
@@ -325,6 +328,127 @@ const SHAPES: &[Shape] = &[
         holds: false,
         within: Within::Nothing,
     },
+    Shape {
+        line: "lieutenant",
+        parts: &[("lieutenant", "-"), ("N", "general")],
+        mark: "",
+        holds: false,
+        within: Within::Nothing,
+    },
+    Shape {
+        line: "acceptance",
+        parts: &[
+            ("accepts", "-"),
+            ("N,", "order"),
+            ("signed", "-"),
+            ("S", "signers"),
+        ],
+        mark: "",
+        holds: false,
+        within: Within::General,
+    },
+];
+
+/// The shapes of what a line has before a colon and a reason.
+const REASONS: &[Shape] = &[
+    Shape {
+        line: "decision",
+        parts: &[("decision", "-"), ("N", "general"), ("N", "decision")],
+        mark: "traitor",
+        holds: false,
+        within: Within::Nothing,
+    },
+    Shape {
+        line: "decision",
+        parts: &[
+            ("decision", "-"),
+            ("N", "general"),
+            ("traitor", "-"),
+            ("N", "decision"),
+        ],
+        mark: "traitor",
+        holds: true,
+        within: Within::Nothing,
+    },
+    Shape {
+        line: "condition",
+        parts: &[("bound", "condition"), ("A", "holds")],
+        mark: "",
+        holds: false,
+        within: Within::Nothing,
+    },
+    Shape {
+        line: "condition",
+        parts: &[("IC1", "condition"), ("A", "holds")],
+        mark: "",
+        holds: false,
+        within: Within::Nothing,
+    },
+    Shape {
+        line: "condition",
+        parts: &[("IC2", "condition"), ("A", "holds")],
+        mark: "",
+        holds: false,
+        within: Within::Nothing,
+    },
+];
+
+/// The shapes of where an error is: at a line or unit, in a traitor's program, or at a general.
+const ERROR_PLACES: &[Shape] = &[
+    Shape {
+        line: "refused",
+        parts: &[("line", "-"), ("N", "line_number")],
+        mark: "",
+        holds: false,
+        within: Within::Nothing,
+    },
+    Shape {
+        line: "refused",
+        parts: &[("unit", "-"), ("N", "unit")],
+        mark: "",
+        holds: false,
+        within: Within::Nothing,
+    },
+    Shape {
+        line: "refused",
+        parts: &[("general", "-"), ("N", "general")],
+        mark: "",
+        holds: false,
+        within: Within::Nothing,
+    },
+    Shape {
+        line: "refused",
+        parts: &[
+            ("traitor", "-"),
+            ("N", "traitor"),
+            ("W", "inner_code"),
+            ("line", "-"),
+            ("N", "line_number"),
+        ],
+        mark: "",
+        holds: false,
+        within: Within::Nothing,
+    },
+    Shape {
+        line: "refused",
+        parts: &[
+            ("traitor", "-"),
+            ("N", "traitor"),
+            ("W", "inner_code"),
+            ("unit", "-"),
+            ("N", "unit"),
+        ],
+        mark: "",
+        holds: false,
+        within: Within::Nothing,
+    },
+    Shape {
+        line: "refused",
+        parts: &[("traitor", "-"), ("N", "traitor"), ("W", "inner_code")],
+        mark: "",
+        holds: false,
+        within: Within::Nothing,
+    },
 ];
 
 /// Returns the shape of lines that describe an access, where `wording` gives the words of the request.
@@ -346,4 +470,20 @@ pub(crate) fn shapes() -> &'static [Shape]
     ensures { map row_of result.now ≡ shapes }
 {
     SHAPES
+}
+
+/// Returns the shapes of what a line has before a colon and a reason.
+#[tactic(auto, unfolding(crate::specs::Shapes::reasons))]
+pub(crate) fn reasons() -> &'static [Shape]
+    ensures { map row_of result.now ≡ reasons }
+{
+    REASONS
+}
+
+/// Returns the shapes of where an error is.
+#[tactic(auto, unfolding(crate::specs::Shapes::error_places))]
+pub(crate) fn error_places() -> &'static [Shape]
+    ensures { map row_of result.now ≡ error_places }
+{
+    ERROR_PLACES
 }

@@ -1,11 +1,11 @@
 //! Turns a word of a printed line into a JSON value.
-ghost use Rattle.std.specs.Prelude.{◌≡◌, IfOk, option_map};
+ghost use Rattle.std.specs.Prelude.{◌≡◌, IfOk, option_and_then, option_map};
 ghost use Rattle.std.specs.Str.Lossy.{utf8_lossy};
 ghost use Rattle.serde_json.specs.Data.{string};
 ghost use Rattle.serde_json.specs.View.{view};
 ghost use Rattle.text.specs.Parts.{left};
 ghost use Rattle.text.specs.Stop.{space};
-ghost use Rattle.cli_answers.specs.Values.{joined, number_of, numbers_of, place_of, places, power_of, rule_of, small, told, yes_no_of};
+ghost use Rattle.cli_answers.specs.Values.{before_comma, joined, number_of, numbers_of, place_of, places, power_of, received_of, rule_of, small, told, yes_no_of};
 
 use combine::Rule;
 use serde_json::Value;
@@ -14,7 +14,7 @@ use text::{DOT, SPACE, decimal, piece};
 
 /// Returns the number that `word` is: decimal, without leading zeros, and below 2^64. Returns `None` for any other
 /// word.
-fn small(word: &[u8]) -> Option<u64>
+pub(crate) fn small(word: &[u8]) -> Option<u64>
     ensures { result ≡ small word.now }
 {
     let number = decimal(word)?;
@@ -40,6 +40,31 @@ fn place(word: &[u8]) -> Option<Value>
     number(word)
 }
 
+/// Returns a number as a JSON value, or null for `nothing`. Returns `None` for any other word.
+fn received(word: &[u8]) -> Option<Value>
+    ensures { option_map view result ≡ received_of word.now }
+{
+    if word == b"nothing".as_slice() {
+        Some(Value::Null)
+    } else {
+        number(word)
+    }
+}
+
+/// Returns a word without the comma at its end, or `None` if it ends otherwise.
+fn before_comma(word: &[u8]) -> Option<&[u8]>
+    ensures { option_map (λ w. w.now) result ≡ before_comma word.now }
+{
+    word.strip_suffix(b",")
+}
+
+/// Returns the JSON number before the comma at the end of `word`, or `None` for any other word.
+fn before_comma_number(word: &[u8]) -> Option<Value>
+    ensures { option_map view result ≡ option_and_then number_of (before_comma word.now) }
+{
+    number(before_comma(word)?)
+}
+
 /// Returns a JSON boolean for `yes` or `no`, or null for a dash. Returns `None` for any other word.
 fn yes_no(word: &[u8]) -> Option<Value>
     ensures { option_map view result ≡ yes_no_of word.now }
@@ -56,7 +81,7 @@ fn yes_no(word: &[u8]) -> Option<Value>
 }
 
 /// Returns numbers joined by dots, such as `0.2`, as a JSON array, or `None` for any other word.
-fn numbers(alloc: Global, word: &[u8]) -> Result<Option<Value>, AllocError>
+pub(crate) fn numbers(alloc: Global, word: &[u8]) -> Result<Option<Value>, AllocError>
     ensures { IfOk result (λ o. option_map view o ≡ numbers_of word.now) }
 {
     let mut items = Vec::new(alloc);
@@ -120,8 +145,9 @@ fn power(word: &[u8]) -> Option<Value>
 }
 
 /// Returns the JSON value of a word, if it is what `kind` says. For `N` it is a number, for `P` a number or null, for
-/// `A` a boolean or null, for `S` an array of numbers, for `C` the word of a rule, for `E` the exponent of a power of
-/// two, and for `H` any word. Any other `kind` is the word itself. Returns `None` if the word does not fit.
+/// `A` a boolean or null, for `S` an array of numbers, for `C` the word of a rule, and for `E` the exponent of a power
+/// of two. For `N,` it is a number before a comma, for `O` a number, or null for `nothing`, and for `W` any word. Any
+/// other `kind` is the word itself. Returns `None` if the word does not fit.
 #[tactic(auto, unfolding(crate::specs::Values::told))]
 pub(crate) fn told(alloc: Global, kind: &[u8], word: &[u8]) -> Result<Option<Value>, AllocError>
     ensures { IfOk result (λ o. option_map view o ≡ told kind.now word.now) }
@@ -138,7 +164,11 @@ pub(crate) fn told(alloc: Global, kind: &[u8], word: &[u8]) -> Result<Option<Val
         rule(alloc, word)
     } else if kind == b"E".as_slice() {
         Ok(power(word))
-    } else if kind == b"H".as_slice() {
+    } else if kind == b"N,".as_slice() {
+        Ok(before_comma_number(word))
+    } else if kind == b"O".as_slice() {
+        Ok(received(word))
+    } else if kind == b"W".as_slice() {
         Ok(Some(spelled(alloc, word)?))
     } else if word == kind {
         Ok(Some(spelled(alloc, word)?))

@@ -2,7 +2,7 @@ use Rattle.std.proofs.Common.{◌≡◌, drop, map}
 use Rattle.text.specs.Parts.{pieces}
 use Rattle.text.specs.Stop.{space}
 use Rattle.board.specs.Wording as asking
-use Rattle.cli_answers.specs.Objects.{first_shaped}
+use Rattle.cli_answers.specs.Shaped.{first_shaped}
 use Rattle.cli_answers.specs.Shapes.{access_row}
 use Rattle.cli_answers.proofs.objects.access_object.Given as goal
 

@@ -2,8 +2,8 @@ use Rattle.std.proofs.Common.{◌≡◌, drop, map}
 use Rattle.serde_json.specs.View.{members_view}
 use Rattle.text.specs.Parts.{left, pieces}
 use Rattle.text.specs.Stop.{space}
-use Rattle.cli_answers.specs.Objects.{told_by}
-use Rattle.cli_answers.proofs.objects.put_told.Given as goal
+use Rattle.cli_answers.specs.Shaped.{told_by}
+use Rattle.cli_answers.proofs.shaped.put_told.Given as goal
 
 abbrev pub invariant-loop-kind : goal.invariant-loop-kind
 invariant-loop-kind l =

@@ -1,6 +1,6 @@
 use Rattle.serde_json.specs.View.{members_view}
 use Rattle.cli_answers.proofs.ValueLemmas.{all_fit}
-use Rattle.cli_answers.proofs.objects.put_told.Goals as goal
+use Rattle.cli_answers.proofs.shaped.put_told.Goals as goal
 
 pub returns : goal.returns
 returns c =
