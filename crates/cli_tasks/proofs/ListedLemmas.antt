@@ -8,7 +8,7 @@ use Rattle.scenario.specs.Reading.{Tells}
 use Rattle.cli_tasks.specs.CampaignRefusals.{RefusesListed}
 use Rattle.cli_tasks.specs.Refusals.{RefusesScenario, RefusesText, accesses_refusal}
 use Rattle.cli_tasks.specs.declared.refusal.InputRefusal.{InputRefusal}
-use Rattle.cli_tasks.specs.declared.refusal.InputRefusal.TheVariants.{Codec, Object, Verifier, Assembly, Table, Scenario, Setting, Trace, Threads, Accesses, Tolerated, RuleCall, LongSearch, Stranger, NotText, Memory}
+use Rattle.cli_tasks.specs.declared.refusal.InputRefusal.TheVariants.{Codec, Object, Verifier, Assembly, Table, Scenario, Setting, Trace, Threads, Accesses, Tolerated, RuleCall, LongSearch, LongScenario, Stranger, NotText, Memory}
 
 pub of_scenario : (list bytes : List ℕ) (refusal : InputRefusal) → RefusesText RefusesScenario bytes refusal → RefusesText (RefusesListed list) bytes refusal
 of_scenario list bytes (Codec error) refuses = refuses
@@ -24,6 +24,7 @@ of_scenario list bytes (Accesses fault) refuses = absurd refuses
 of_scenario list bytes Tolerated refuses = absurd refuses
 of_scenario list bytes (RuleCall unit) refuses = absurd refuses
 of_scenario list bytes (LongSearch steps) refuses = absurd refuses
+of_scenario list bytes LongScenario refuses = absurd refuses
 of_scenario list bytes (Stranger general generals) refuses = refuses
 of_scenario list bytes NotText refuses = refuses
 of_scenario list bytes Memory refuses = refuses

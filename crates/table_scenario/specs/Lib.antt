@@ -1,3 +1,2 @@
 pub mod Programs
 pub mod Scenarios
-pub mod ErrorText

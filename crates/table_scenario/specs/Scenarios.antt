@@ -32,5 +32,5 @@ abbrev pub traitors_text : MessageTable → List ℕ → List ℕ
 traitors_text t traitors = flat_map (traitor_text t) (filter (on traitors) (generals t.generals))
 
 -- Writes the scenario of a table in which these generals are traitors.
-unfoldable pub staged_text : MessageTable → List ℕ → List ℕ
-staged_text t traitors = numbers_text t ++ (rule_text t.rule ++ traitors_text t traitors)
+unfoldable pub scenario_text : MessageTable → List ℕ → List ℕ
+scenario_text t traitors = numbers_text t ++ (rule_text t.rule ++ traitors_text t traitors)

@@ -4,8 +4,6 @@
 
 mod dotted_label;
 mod programs;
-mod refusal;
 mod writer;
 
-pub use refusal::StagingError;
-pub use writer::staged;
+pub use writer::{is_short, scenario_of};

@@ -31,7 +31,8 @@ fn push_message(
         "mov r1, {rank}\nmov r2, {receiver}\nlddw r3, {order}\ncall send\n"
     )?;
     text.push_str(said.as_str())?;
-    text.push_str(sent.as_str())
+    text.push_str(sent.as_str())?;
+    Ok(())
 }
 
 /// Appends the instructions that send the orders about a label, whose last general is the traitor, by ascending
@@ -128,7 +129,8 @@ fn push_round<H: Heard>(
     text.push_str(head.as_str())?;
     push_relayed(alloc, text, table, general, round)?;
     let tail = format!(in alloc; "after{round}:\n")?;
-    text.push_str(tail.as_str())
+    text.push_str(tail.as_str())?;
+    Ok(())
 }
 
 /// Appends the instructions of all rounds in which the general relays orders.
@@ -167,5 +169,6 @@ pub(crate) fn push_traitor<H: Heard>(
     )?;
     text.push_str(head.as_str())?;
     push_rounds(alloc, text, table, general)?;
-    text.push_str("mov r0, 0\nexit\n\"\"\"\n")
+    text.push_str("mov r0, 0\nexit\n\"\"\"\n")?;
+    Ok(())
 }

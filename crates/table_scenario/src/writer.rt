@@ -1,15 +1,22 @@
 //! Writes a message table as a scenario in TOML.
-ghost use Rattle.std.specs.Prelude.{◌≡◌, ◌++◌, IfErr, IfOk, OnOk, false, string_bytes, true};
+ghost use Rattle.std.specs.Prelude.{◌≡◌, ◌++◌, IfOk, OnOk, string_bytes};
 ghost use Rattle.label.specs.Labels.{on};
-ghost use Rattle.table_scenario.specs.Scenarios.{first_order, is_short, numbers_text, rule_text, staged_text, traitors_text};
-ghost use Rattle.table_scenario.specs.declared.refusal.StagingError.TheVariants.{Long};
+ghost use Rattle.table_scenario.specs.Scenarios.{first_order, is_short, numbers_text, rule_text, scenario_text, traitors_text};
 
 use crate::programs::push_traitor;
-use crate::refusal::StagingError;
 use book::Heard;
 use combine::Rule;
 use label::Label;
 use std::alloc::{AllocError, Global};
+
+/// Returns whether a lieutenant relays at most 800 orders in a campaign of this many generals with the bound `bound`.
+/// This is so by a bound of at most 2, among at most 8 generals, and by the bound 3 among at most 11. Then the program
+/// that `scenario_of` writes for a traitor has fewer than 4,096 units.
+pub fn is_short(generals: u8, bound: u8) -> bool
+    ensures { result ≡ is_short generals bound }
+{
+    bound < 3 || generals < 9 || bound == 3 && generals < 12
+}
 
 /// Returns a message table as a scenario in TOML (docs/FORMATS.md, "Scenarios"). The generals in `traitors` are
 /// traitors: the program of each sends, in each round, the orders that the table says he sent, and nothing where the
@@ -17,30 +24,14 @@ use std::alloc::{AllocError, Global};
 ///
 /// # Errors
 ///
-/// Fails with `Long` if a lieutenant may relay over 800 orders: by the bound 3 among more than 11 generals, and by the
-/// bound 4 among more than 8. Fails with `Memory` if memory runs out.
-pub fn staged<H: Heard>(alloc: Global, table: &H, traitors: &[u8]) -> Result<String, StagingError>
-    ensures text { IfOk result (λ text. string_bytes text ≡ staged_text (H.seen table.now) traitors.now) }
-    ensures short { IfOk result (λ _. is_short (H.seen table.now).generals (H.seen table.now).bound ≡ true) }
-    ensures long { IfErr result (λ e. e ≡ Long →
-        is_short (H.seen table.now).generals (H.seen table.now).bound ≡ false) }
-{
-    if !is_short(table.generals(), table.bound()) {
-        return Err(StagingError::Long);
-    }
-    Ok(written(alloc, table, traitors)?)
-}
-
-/// Returns whether a lieutenant relays at most 800 orders in a campaign with these numbers.
-fn is_short(generals: u8, bound: u8) -> bool
-    ensures { result ≡ is_short generals bound }
-{
-    bound < 3 || generals < 9 || bound == 3 && generals < 12
-}
-
-/// Returns the scenario of a message table, with these traitors.
-fn written<H: Heard>(alloc: Global, table: &H, traitors: &[u8]) -> Result<String, AllocError>
-    ensures { IfOk result (λ text. string_bytes text ≡ staged_text (H.seen table.now) traitors.now) }
+/// `AllocError` if out of memory.
+#[tactic(auto, unfolding(crate::specs::Scenarios::scenario_text))]
+pub fn scenario_of<H: Heard>(
+    alloc: Global,
+    table: &H,
+    traitors: &[u8],
+) -> Result<String, AllocError>
+    ensures { IfOk result (λ text. string_bytes text ≡ scenario_text (H.seen table.now) traitors.now) }
 {
     let mut text = numbers(alloc, table)?;
     push_rule(alloc, &mut text, table.rule())?;
@@ -79,7 +70,8 @@ fn push_rule(alloc: Global, text: &mut String, rule: Rule) -> Result<(), AllocEr
     }
     let name = rule.name();
     let line = format!(in alloc; "rule = \"{name}\"\n")?;
-    text.push_str(line.as_str())
+    text.push_str(line.as_str())?;
+    Ok(())
 }
 
 /// Appends the TOML tables of the traitors, in ascending order.
