@@ -34,8 +34,8 @@ _byzlab() {
     *:dis:-*) offered="--elf --units --explain --partial --entry -h --help" ;;
     *:book:-*) offered="--explain --json --traitors -h --help" ;;
     *:table:-*) offered="--loyal --lie -h --help" ;;
-    *:refute:-*) offered="--rule --story -h --help" ;;
-    *:exhaust:-*) offered="--json --generals --bound --traitors --commander --rule -h --help" ;;
+    *:refute:-*) offered="--rule --story --scenario -h --help" ;;
+    *:exhaust:-*) offered="--json --generals --bound --traitors --commander --rule --scenario -h --help" ;;
     *:rule:-*) offered="--asm --elf --json --entry --generals -h --help" ;;
     *:tree:-*) offered="--text --ascii --dot --svg --fold --of --traitors --depth --no-files -h --help" ;;
     *:draw:-*) offered="--schedule --chronicle --no-files -h --help" ;;

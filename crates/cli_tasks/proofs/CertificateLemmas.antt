@@ -10,7 +10,7 @@ use Rattle.cli_tasks.specs.Programs.{HasProgram}
 use Rattle.cli_tasks.specs.ProgramRefusals.{RefusesCheckIn}
 use Rattle.cli_tasks.specs.RuleCertificates.{Certifies, IsCertificate, RefusesRule}
 use Rattle.cli_tasks.specs.declared.refusal.InputRefusal.{InputRefusal}
-use Rattle.cli_tasks.specs.declared.refusal.InputRefusal.TheVariants.{Codec, Object, Verifier, Assembly, Table, Scenario, Setting, Trace, Threads, Accesses, Tolerated, RuleCall, LongSearch, Stranger, NotText, Memory}
+use Rattle.cli_tasks.specs.declared.refusal.InputRefusal.TheVariants.{Codec, Object, Verifier, Assembly, Table, Scenario, Setting, Trace, Threads, Accesses, Tolerated, RuleCall, LongSearch, LongScenario, Stranger, NotText, Memory}
 
 -- Proves that `check` never rejects a file because of a call.
 no_call : (notation : Notation) (bytes : List ℕ) (unit : ℕ) → RefusesCheckIn notation bytes (RuleCall unit) → ⊥
@@ -34,6 +34,7 @@ of_check notation bytes (Accesses fault) refuses = refuses
 of_check notation bytes Tolerated refuses = refuses
 of_check notation bytes (RuleCall unit) refuses = absurd (no_call notation bytes unit refuses)
 of_check notation bytes (LongSearch steps) refuses = refuses
+of_check notation bytes LongScenario refuses = refuses
 of_check notation bytes (Stranger general generals) refuses = refuses
 of_check notation bytes NotText refuses = refuses
 of_check notation bytes Memory refuses = refuses

@@ -8,7 +8,7 @@ use Rattle.cli_tasks.specs.Refusals.{RefusesAsked, RefusesText}
 use Rattle.cli_tasks.specs.Schedules.{TellsCampaign}
 use Rattle.cli_tasks.specs.Strangers.{IsOf}
 use Rattle.cli_tasks.specs.declared.refusal.InputRefusal.{InputRefusal}
-use Rattle.cli_tasks.specs.declared.refusal.InputRefusal.TheVariants.{Codec, Object, Verifier, Assembly, Table, Scenario, Setting, Trace, Threads, Accesses, Stranger, Tolerated, RuleCall, LongSearch, NotText, Memory}
+use Rattle.cli_tasks.specs.declared.refusal.InputRefusal.TheVariants.{Codec, Object, Verifier, Assembly, Table, Scenario, Setting, Trace, Threads, Accesses, Stranger, Tolerated, RuleCall, LongSearch, LongScenario, NotText, Memory}
 
 -- A campaign is accepted if the general whose decision is explained is a lieutenant.
 pub told_asked : (any : Bool) (explained : Option Lieutenants) (bytes : List ℕ) (c : Campaign) → TellsCampaign any bytes c → stranger_asked (scenario_of c) explained ≡ None → TellsAsked any explained bytes c
@@ -31,6 +31,7 @@ unread_asked false explained bytes (Stranger g n) refuses = absurd refuses
 unread_asked any explained bytes Tolerated refuses = refuses
 unread_asked any explained bytes (RuleCall unit) refuses = refuses
 unread_asked any explained bytes (LongSearch steps) refuses = refuses
+unread_asked any explained bytes LongScenario refuses = refuses
 unread_asked any explained bytes NotText refuses = refuses
 unread_asked any explained bytes Memory refuses = refuses
 
@@ -51,6 +52,7 @@ strange_asked any explained bytes c (Stranger g n) tells strange = (c, tells, sy
 strange_asked any explained bytes c Tolerated tells strange = absurd strange
 strange_asked any explained bytes c (RuleCall unit) tells strange = absurd strange
 strange_asked any explained bytes c (LongSearch steps) tells strange = absurd strange
+strange_asked any explained bytes c LongScenario tells strange = absurd strange
 strange_asked any explained bytes c NotText tells strange = absurd strange
 strange_asked any explained bytes c Memory tells strange = absurd strange
 

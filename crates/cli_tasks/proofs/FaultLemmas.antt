@@ -39,6 +39,7 @@ refusal_told name tells (refusal.Accesses fault) hint other told = told
 refusal_told name tells refusal.Tolerated hint other told = told
 refusal_told name tells (refusal.RuleCall unit) hint other told = told
 refusal_told name tells (refusal.LongSearch steps) hint other told = told
+refusal_told name tells refusal.LongScenario hint other told = told
 refusal_told name tells (refusal.Stranger general generals) hint other told = told
 refusal_told name tells refusal.NotText hint other told = absurd (other refl)
 refusal_told name tells refusal.Memory hint other told = told

@@ -28,7 +28,7 @@ use Rattle.cli_tasks.specs.declared.failure.TaskFailure.TheVariants.{Read, Text,
 use Rattle.cli_tasks.specs.declared.hint.Hint.{Hint}
 use Rattle.cli_tasks.specs.declared.hint.Hint.TheVariants.{Explained}
 use Rattle.cli_tasks.specs.declared.refusal.InputRefusal.{InputRefusal}
-use Rattle.cli_tasks.specs.declared.refusal.InputRefusal.TheVariants.{Codec, Object, Verifier, Assembly, Table, Scenario, Setting, Trace, Threads, Accesses, Tolerated, RuleCall, LongSearch, Stranger, NotText, Memory}
+use Rattle.cli_tasks.specs.declared.refusal.InputRefusal.TheVariants.{Codec, Object, Verifier, Assembly, Table, Scenario, Setting, Trace, Threads, Accesses, Tolerated, RuleCall, LongSearch, LongScenario, Stranger, NotText, Memory}
 use Rattle.verify.specs.declared.error.VerifyError.{VerifyError}
 use Rattle.cli_tasks.proofs.WhyLemmas.{nothing_said}
 
@@ -60,6 +60,7 @@ stopped_first task known bytes own (Accesses fault) file are named refuses is = 
 stopped_first task known bytes own Tolerated file are named refuses is = ((λ e. cc), refused_first task known bytes Tolerated _ are refuses (λ e. cc) is)
 stopped_first task known bytes own (RuleCall unit) file are named refuses is = ((λ e. cc), refused_first task known bytes (RuleCall unit) _ are refuses (λ e. cc) is)
 stopped_first task known bytes own (LongSearch steps) file are named refuses is = ((λ e. cc), refused_first task known bytes (LongSearch steps) _ are refuses (λ e. cc) is)
+stopped_first task known bytes own LongScenario file are named refuses is = ((λ e. cc), refused_first task known bytes LongScenario _ are refuses (λ e. cc) is)
 stopped_first task known bytes own (Stranger general generals) file are named refuses is = ((λ e. cc), refused_first task known bytes (Stranger general generals) _ are refuses (λ e. cc) is)
 stopped_first task known bytes own NotText file are named refuses is = (refused_first task known bytes NotText _ are refuses (λ e. cc) is, named)
 stopped_first task known bytes own Memory file are named refuses is = tt
@@ -77,8 +78,8 @@ asks (task.DisassemblePartly file own explained) notation is = absurd cc
 asks (task.Book file) notation is = absurd cc
 asks (task.ExplainDecisions file traitors) notation is = absurd cc
 asks (task.Form n m c filling) notation is = absurd cc
-asks (task.Refute n m c rule story) notation is = absurd cc
-asks (task.Exhaust generals bound traitors commander rule) notation is = absurd cc
+asks (task.Refute n m c rule story staged) notation is = absurd cc
+asks (task.Exhaust generals bound traitors commander rule staged) notation is = absurd cc
 asks (task.Certify file own generals) notation is = absurd cc
 asks (task.Play scenario schedule account explained) notation is = absurd cc
 asks (task.Muster scenario explained) notation is = absurd cc
@@ -109,6 +110,7 @@ explained_first task notation known bytes (Accesses fault) text are refuses is w
 explained_first task notation known bytes Tolerated text are refuses is why = absurd cc
 explained_first task notation known bytes (RuleCall unit) text are refuses is why = absurd cc
 explained_first task notation known bytes (LongSearch steps) text are refuses is why = absurd cc
+explained_first task notation known bytes LongScenario text are refuses is why = absurd cc
 explained_first task notation known bytes (Stranger general generals) text are refuses is why = absurd cc
 explained_first task notation known bytes NotText text are refuses is why = absurd cc
 explained_first task notation known bytes Memory text are refuses is why = absurd cc
@@ -140,6 +142,7 @@ hint_told task bytes (Accesses fault) hint is not told = subst (λ (own : Bool).
 hint_told task bytes Tolerated hint is not told = subst (λ (own : Bool). IsHintBy own Tolerated task bytes (bytecode_in task bytes) hint) (sym is) told
 hint_told task bytes (RuleCall unit) hint is not told = subst (λ (own : Bool). IsHintBy own (RuleCall unit) task bytes (bytecode_in task bytes) hint) (sym is) told
 hint_told task bytes (LongSearch steps) hint is not told = subst (λ (own : Bool). IsHintBy own (LongSearch steps) task bytes (bytecode_in task bytes) hint) (sym is) told
+hint_told task bytes LongScenario hint is not told = subst (λ (own : Bool). IsHintBy own LongScenario task bytes (bytecode_in task bytes) hint) (sym is) told
 hint_told task bytes (Stranger general generals) hint is not told = subst (λ (own : Bool). IsHintBy own (Stranger general generals) task bytes (bytecode_in task bytes) hint) (sym is) told
 hint_told task bytes NotText hint is not told = subst (λ (own : Bool). IsHintBy own NotText task bytes (bytecode_in task bytes) hint) (sym is) told
 hint_told task bytes Memory hint is not told = subst (λ (own : Bool). IsHintBy own Memory task bytes (bytecode_in task bytes) hint) (sym is) told
@@ -214,8 +217,8 @@ not_judged (task.Book file) bytes (Verifier fault) refuses is none = absurd refu
 not_judged (task.ExplainDecisions file traitors) bytes (Verifier fault) refuses is none = absurd refuses
 not_judged (task.Form n m c None) bytes (Verifier fault) refuses is none = absurd refuses
 not_judged (task.Form n m c (Some filling)) bytes (Verifier fault) refuses is none = absurd refuses
-not_judged (task.Refute n m c rule story) bytes (Verifier fault) refuses is none = absurd refuses
-not_judged (task.Exhaust generals bound traitors commander rule) bytes (Verifier fault) refuses is none = absurd refuses
+not_judged (task.Refute n m c rule story staged) bytes (Verifier fault) refuses is none = absurd refuses
+not_judged (task.Exhaust generals bound traitors commander rule staged) bytes (Verifier fault) refuses is none = absurd refuses
 not_judged (task.Certify file own generals) bytes (Verifier fault) refuses is none = absurd cc
 not_judged (task.Play scenario schedule account explained) bytes (Verifier fault) refuses is none = absurd (no_campaign (is_chronicle account) bytes fault refuses)
 not_judged (task.Muster scenario explained) bytes (Verifier fault) refuses is none = absurd (no_campaign true bytes fault refuses)
@@ -238,6 +241,7 @@ not_judged task bytes (Accesses fault) refuses is none = tt
 not_judged task bytes Tolerated refuses is none = tt
 not_judged task bytes (RuleCall unit) refuses is none = tt
 not_judged task bytes (LongSearch steps) refuses is none = tt
+not_judged task bytes LongScenario refuses is none = tt
 not_judged task bytes (Stranger general generals) refuses is none = tt
 not_judged task bytes NotText refuses is none = tt
 not_judged task bytes Memory refuses is none = tt
@@ -265,6 +269,7 @@ asked_in task notation (Accesses fault) is = absurd cc
 asked_in task notation Tolerated is = absurd cc
 asked_in task notation (RuleCall unit) is = absurd cc
 asked_in task notation (LongSearch steps) is = absurd cc
+asked_in task notation LongScenario is = absurd cc
 asked_in task notation (Stranger general generals) is = absurd cc
 asked_in task notation NotText is = absurd cc
 asked_in task notation Memory is = absurd cc
@@ -285,6 +290,7 @@ unspelt code (Accesses fault) refuses = absurd refuses
 unspelt code Tolerated refuses = absurd refuses
 unspelt code (RuleCall unit) refuses = absurd refuses
 unspelt code (LongSearch steps) refuses = absurd refuses
+unspelt code LongScenario refuses = absurd refuses
 unspelt code (Stranger general generals) refuses = absurd refuses
 unspelt code NotText refuses = absurd refuses
 
@@ -306,6 +312,7 @@ by_notation Texts bytes (Accesses fault) refuses = absurd refuses
 by_notation Texts bytes Tolerated refuses = absurd refuses
 by_notation Texts bytes (RuleCall unit) refuses = absurd refuses
 by_notation Texts bytes (LongSearch steps) refuses = absurd refuses
+by_notation Texts bytes LongScenario refuses = absurd refuses
 by_notation Texts bytes (Stranger general generals) refuses = absurd refuses
 by_notation (Objects entry) bytes refusal (inl (fault, is, none)) = (inl (fault, is, none), subst (λ (r : InputRefusal). IsNotJudged r) (sym is) tt)
 by_notation (Objects entry) bytes refusal (inr (code, is, refuses)) = let both = unspelt code refusal refuses in (inr (code, is, both.0), both.1)
@@ -321,8 +328,8 @@ checks_in (task.DisassemblePartly file own explained) notation bytes refusal is 
 checks_in (task.Book file) notation bytes refusal is refuses = absurd cc
 checks_in (task.ExplainDecisions file traitors) notation bytes refusal is refuses = absurd cc
 checks_in (task.Form n m c filling) notation bytes refusal is refuses = absurd cc
-checks_in (task.Refute n m c rule story) notation bytes refusal is refuses = absurd cc
-checks_in (task.Exhaust generals bound traitors commander rule) notation bytes refusal is refuses = absurd cc
+checks_in (task.Refute n m c rule story staged) notation bytes refusal is refuses = absurd cc
+checks_in (task.Exhaust generals bound traitors commander rule staged) notation bytes refusal is refuses = absurd cc
 checks_in (task.Certify file own generals) notation bytes refusal is refuses = absurd cc
 checks_in (task.Play scenario schedule account explained) notation bytes refusal is refuses = absurd cc
 checks_in (task.Muster scenario explained) notation bytes refusal is refuses = absurd cc
@@ -370,6 +377,7 @@ quiet_first (Accesses fault) file own told other is e = (let z : FaultMemory ≡
 quiet_first Tolerated file own told other is e = (let z : FaultMemory ≡ Refused Tolerated (seems_behind Tolerated own) = sym e ∙ is in cc)
 quiet_first (RuleCall unit) file own told other is e = (let z : FaultMemory ≡ Refused (RuleCall unit) (seems_behind (RuleCall unit) own) = sym e ∙ is in cc)
 quiet_first (LongSearch steps) file own told other is e = (let z : FaultMemory ≡ Refused (LongSearch steps) (seems_behind (LongSearch steps) own) = sym e ∙ is in cc)
+quiet_first LongScenario file own told other is e = (let z : FaultMemory ≡ Refused LongScenario (seems_behind LongScenario own) = sym e ∙ is in cc)
 quiet_first (Stranger general generals) file own told other is e = (let z : FaultMemory ≡ Refused (Stranger general generals) (seems_behind (Stranger general generals) own) = sym e ∙ is in cc)
 quiet_first NotText file own told other is e = (let z : FaultMemory ≡ Text file = sym e ∙ is in cc)
 quiet_first Memory file own told other is e = other refl
@@ -388,6 +396,7 @@ asked_reports task (Accesses fault) notation is = absurd cc
 asked_reports task Tolerated notation is = absurd cc
 asked_reports task (RuleCall unit) notation is = absurd cc
 asked_reports task (LongSearch steps) notation is = absurd cc
+asked_reports task LongScenario notation is = absurd cc
 asked_reports task (Stranger general generals) notation is = absurd cc
 asked_reports task NotText notation is = absurd cc
 asked_reports task Memory notation is = absurd cc

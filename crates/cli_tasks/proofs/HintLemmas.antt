@@ -27,6 +27,7 @@ by_text (refusal.Accesses fault) file text tells t = (refl, (λ e. cc), (λ e. c
 by_text refusal.Tolerated file text tells t = (refl, (λ e. cc), (λ e. cc), t)
 by_text (refusal.RuleCall unit) file text tells t = (refl, (λ e. cc), (λ e. cc), t)
 by_text (refusal.LongSearch steps) file text tells t = (refl, (λ e. cc), (λ e. cc), t)
+by_text refusal.LongScenario file text tells t = (refl, (λ e. cc), (λ e. cc), t)
 by_text (refusal.Stranger general generals) file text tells t = (refl, (λ e. cc), (λ e. cc), t)
 by_text refusal.NotText file text tells t = (refl, refl)
 by_text refusal.Memory file text tells t = tt

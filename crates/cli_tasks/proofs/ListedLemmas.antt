@@ -10,7 +10,7 @@ use Rattle.cli_tasks.specs.Explained.{scenario_of}
 use Rattle.cli_tasks.specs.Refusals.{RefusesCampaign, RefusesText, accesses_refusal}
 use Rattle.cli_tasks.specs.Retracing.{kind_of}
 use Rattle.cli_tasks.specs.declared.refusal.InputRefusal.{InputRefusal}
-use Rattle.cli_tasks.specs.declared.refusal.InputRefusal.TheVariants.{Codec, Object, Verifier, Assembly, Table, Scenario, Setting, Trace, Threads, Accesses, Tolerated, RuleCall, LongSearch, Stranger, NotText, Memory}
+use Rattle.cli_tasks.specs.declared.refusal.InputRefusal.TheVariants.{Codec, Object, Verifier, Assembly, Table, Scenario, Setting, Trace, Threads, Accesses, Tolerated, RuleCall, LongSearch, LongScenario, Stranger, NotText, Memory}
 
 pub of_campaign : (list bytes : List ℕ) (refusal : InputRefusal) → RefusesText RefusesCampaign bytes refusal → RefusesText (RefusesListed list) bytes refusal
 of_campaign list bytes (Codec error) refuses = refuses
@@ -26,6 +26,7 @@ of_campaign list bytes (Accesses fault) refuses = absurd refuses
 of_campaign list bytes Tolerated refuses = absurd refuses
 of_campaign list bytes (RuleCall unit) refuses = absurd refuses
 of_campaign list bytes (LongSearch steps) refuses = absurd refuses
+of_campaign list bytes LongScenario refuses = absurd refuses
 of_campaign list bytes (Stranger general generals) refuses = refuses
 of_campaign list bytes NotText refuses = refuses
 of_campaign list bytes Memory refuses = refuses

@@ -3,7 +3,7 @@ use Rattle.std.proofs.Common.{ℕ, ◌≡◌, List, Ok}
 use Rattle.asm.specs.Reading.{bytes_said}
 use Rattle.cli_tasks.specs.ProgramRefusals.{RefusesSaid, RefusesUnits}
 use Rattle.cli_tasks.specs.declared.refusal.InputRefusal.{InputRefusal}
-use Rattle.cli_tasks.specs.declared.refusal.InputRefusal.TheVariants.{Codec, Object, Verifier, Assembly, Table, Scenario, Setting, Trace, Threads, Accesses, Tolerated, RuleCall, LongSearch, Stranger, NotText, Memory}
+use Rattle.cli_tasks.specs.declared.refusal.InputRefusal.TheVariants.{Codec, Object, Verifier, Assembly, Table, Scenario, Setting, Trace, Threads, Accesses, Tolerated, RuleCall, LongSearch, LongScenario, Stranger, NotText, Memory}
 
 pub cut_said : (text bytes : List ℕ) (refusal : InputRefusal) → bytes_said text ≡ Ok bytes → RefusesUnits bytes refusal → RefusesSaid text refusal
 cut_said text bytes (Codec error) said refuses = (bytes, said, refuses)
@@ -20,5 +20,6 @@ cut_said text bytes (Accesses fault) said refuses = absurd refuses
 cut_said text bytes Tolerated said refuses = absurd refuses
 cut_said text bytes (RuleCall unit) said refuses = absurd refuses
 cut_said text bytes (LongSearch steps) said refuses = absurd refuses
+cut_said text bytes LongScenario said refuses = absurd refuses
 cut_said text bytes (Stranger general generals) said refuses = absurd refuses
 cut_said text bytes NotText said refuses = absurd refuses

@@ -24,7 +24,7 @@ use Rattle.cli_tasks.specs.declared.failure.TaskFailure.TheVariants.{Read, Text,
 use Rattle.cli_tasks.specs.declared.hint.Hint.{Hint}
 use Rattle.cli_tasks.specs.declared.hint.Hint.TheVariants.{Seems}
 use Rattle.cli_tasks.specs.declared.refusal.InputRefusal.{InputRefusal}
-use Rattle.cli_tasks.specs.declared.refusal.InputRefusal.TheVariants.{Codec, Object, Verifier, Assembly, Table, Scenario, Setting, Trace, Threads, Accesses, Tolerated, RuleCall, LongSearch, Stranger, NotText, Memory as NoMemoryLeft}
+use Rattle.cli_tasks.specs.declared.refusal.InputRefusal.TheVariants.{Codec, Object, Verifier, Assembly, Table, Scenario, Setting, Trace, Threads, Accesses, Tolerated, RuleCall, LongSearch, LongScenario, Stranger, NotText, Memory as NoMemoryLeft}
 use Rattle.streams.specs.Names.{shown}
 use Rattle.streams.specs.Reading.{AreBytes}
 use Rattle.cli_report.specs.Bytecode.{bytecode_told, unit_told}
@@ -122,6 +122,7 @@ check_long unread file context explained traced known name (Refused (Accesses fa
 check_long unread file context explained traced known name (Refused Tolerated hint) stops = absurd stops.1
 check_long unread file context explained traced known name (Refused (RuleCall unit) hint) stops = absurd stops.1
 check_long unread file context explained traced known name (Refused (LongSearch steps) hint) stops = absurd stops.1
+check_long unread file context explained traced known name (Refused LongScenario hint) stops = absurd stops.1
 check_long unread file context explained traced known name (Refused (Stranger general generals) hint) stops = absurd stops.1
 check_long unread file context explained traced known name (Refused NotText hint) stops = absurd stops.1
 check_long unread file context explained traced known name (Refused NoMemoryLeft hint) stops = absurd stops.1
@@ -145,6 +146,7 @@ listing_long unread file units explained known name (Refused (Accesses fault) hi
 listing_long unread file units explained known name (Refused Tolerated hint) stops = absurd stops.1
 listing_long unread file units explained known name (Refused (RuleCall unit) hint) stops = absurd stops.1
 listing_long unread file units explained known name (Refused (LongSearch steps) hint) stops = absurd stops.1
+listing_long unread file units explained known name (Refused LongScenario hint) stops = absurd stops.1
 listing_long unread file units explained known name (Refused (Stranger general generals) hint) stops = absurd stops.1
 listing_long unread file units explained known name (Refused NotText hint) stops = absurd stops.1
 listing_long unread file units explained known name (Refused NoMemoryLeft hint) stops = absurd stops.1

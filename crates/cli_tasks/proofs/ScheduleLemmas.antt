@@ -66,6 +66,7 @@ front_says (refusal.Accesses fault) (Some n) front all text same refuses says = 
 front_says refusal.Tolerated (Some n) front all text same refuses says = absurd refuses
 front_says (refusal.RuleCall unit) (Some n) front all text same refuses says = absurd refuses
 front_says (refusal.LongSearch steps) (Some n) front all text same refuses says = absurd refuses
+front_says refusal.LongScenario (Some n) front all text same refuses says = absurd refuses
 front_says (refusal.Stranger general generals) (Some n) front all text same refuses says = absurd refuses
 
 pub front_refused : {R : Type 0} (bytes : R → Option (List ℕ)) (unread : Type 0) (explained : Bool) (second : Option R) (own : R) (front : List ℕ) (file : Bor (List ℕ)) (cause : InputRefusal) (fault : TaskFailure)

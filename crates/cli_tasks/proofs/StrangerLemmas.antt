@@ -13,7 +13,7 @@ use Rattle.cli_tasks.specs.TableRefusals.{RefusesFilled, RefusesForm, RefusesNam
 use Rattle.cli_tasks.specs.Refusals.{RefusesScenario, table_refusal}
 use Rattle.cli_tasks.specs.Strangers.{HasNumbers, IsStranger, IsStrangerToTree, KnowsAll, KnowsLiar, KnowsTree, liars, stranger_among, stranger_to_tree}
 use Rattle.cli_tasks.specs.declared.refusal.InputRefusal.{InputRefusal}
-use Rattle.cli_tasks.specs.declared.refusal.InputRefusal.TheVariants.{Codec, Object, Verifier, Assembly, Table, Scenario, Setting, Trace, Threads, Accesses, Tolerated, RuleCall, LongSearch, Stranger, NotText, Memory}
+use Rattle.cli_tasks.specs.declared.refusal.InputRefusal.TheVariants.{Codec, Object, Verifier, Assembly, Table, Scenario, Setting, Trace, Threads, Accesses, Tolerated, RuleCall, LongSearch, LongScenario, Stranger, NotText, Memory}
 
 pub of_table : (text named : List ℕ) (table : MessageTable) → table_told text ≡ Ok table → stranger_among table.generals named ≡ None → KnowsAll text named
 of_table text named table is none = (table.generals, (table, is, refl), none)
@@ -32,6 +32,7 @@ unread_table text named (Accesses fault) refuses = refuses
 unread_table text named Tolerated refuses = refuses
 unread_table text named (RuleCall unit) refuses = refuses
 unread_table text named (LongSearch steps) refuses = refuses
+unread_table text named LongScenario refuses = refuses
 unread_table text named (Stranger g n) refuses = absurd refuses
 unread_table text named NotText refuses = refuses
 unread_table text named Memory refuses = refuses
@@ -50,6 +51,7 @@ strange_to_table text named table (Accesses fault) is strange = absurd strange
 strange_to_table text named table Tolerated is strange = absurd strange
 strange_to_table text named table (RuleCall unit) is strange = absurd strange
 strange_to_table text named table (LongSearch steps) is strange = absurd strange
+strange_to_table text named table LongScenario is strange = absurd strange
 strange_to_table text named table (Stranger g n) is strange = ((table, is, sym strange.0), subst (λ (n : ℕ). stranger_among n named ≡ Some g) (sym strange.0) strange.1)
 strange_to_table text named table NotText is strange = absurd strange
 strange_to_table text named table Memory is strange = absurd strange
@@ -77,6 +79,7 @@ module _ (text : List ℕ) (general : ℕ) (traitors : List ℕ) where
   no_table_to_draw Tolerated refuses = refuses
   no_table_to_draw (RuleCall unit) refuses = refuses
   no_table_to_draw (LongSearch steps) refuses = refuses
+  no_table_to_draw LongScenario refuses = refuses
   no_table_to_draw (Stranger g n) refuses = absurd refuses
   no_table_to_draw NotText refuses = refuses
   no_table_to_draw Memory refuses = refuses
@@ -95,6 +98,7 @@ module _ (text : List ℕ) (general : ℕ) (traitors : List ℕ) where
   no_campaign_to_draw Tolerated refuses = refuses
   no_campaign_to_draw (RuleCall unit) refuses = refuses
   no_campaign_to_draw (LongSearch steps) refuses = refuses
+  no_campaign_to_draw LongScenario refuses = refuses
   no_campaign_to_draw (Stranger g n) refuses = absurd refuses
   no_campaign_to_draw NotText refuses = refuses
   no_campaign_to_draw Memory refuses = refuses
@@ -113,6 +117,7 @@ module _ (text : List ℕ) (general : ℕ) (traitors : List ℕ) where
   strange_in toml generals commander Tolerated has strange = absurd strange
   strange_in toml generals commander (RuleCall unit) has strange = absurd strange
   strange_in toml generals commander (LongSearch steps) has strange = absurd strange
+  strange_in toml generals commander LongScenario has strange = absurd strange
   strange_in toml generals commander (Stranger g n) has strange = (
     commander,
     subst (λ (k : ℕ). HasNumbers toml text k commander) (sym strange.0) has,
@@ -146,6 +151,7 @@ unfilled n m c liar (Accesses fault) refuses = refuses
 unfilled n m c liar Tolerated refuses = refuses
 unfilled n m c liar (RuleCall unit) refuses = refuses
 unfilled n m c liar (LongSearch steps) refuses = refuses
+unfilled n m c liar LongScenario refuses = refuses
 unfilled n m c liar (Stranger g all) refuses = absurd refuses
 unfilled n m c liar NotText refuses = refuses
 unfilled n m c liar Memory refuses = refuses
@@ -164,6 +170,7 @@ strange_liar n m c liar generals (Accesses fault) are strange = absurd strange
 strange_liar n m c liar generals Tolerated are strange = absurd strange
 strange_liar n m c liar generals (RuleCall unit) are strange = absurd strange
 strange_liar n m c liar generals (LongSearch steps) are strange = absurd strange
+strange_liar n m c liar generals LongScenario are strange = absurd strange
 strange_liar n m c liar generals (Stranger g all) are strange =
     (subst (λ (k : ℕ). AreNumbersOf n m c k) (sym strange.0) are, subst (λ (k : ℕ). stranger_among k (liars liar) ≡ Some g) (sym strange.0) strange.1)
 strange_liar n m c liar generals NotText are strange = absurd strange
@@ -183,6 +190,7 @@ named_stranger generals named (Accesses fault) strange = absurd strange
 named_stranger generals named Tolerated strange = absurd strange
 named_stranger generals named (RuleCall unit) strange = absurd strange
 named_stranger generals named (LongSearch steps) strange = absurd strange
+named_stranger generals named LongScenario strange = absurd strange
 named_stranger generals named (Stranger g all) strange = λ e. cc
 named_stranger generals named NotText strange = absurd strange
 named_stranger generals named Memory strange = absurd strange

@@ -57,6 +57,7 @@ plain unread known R of (refusal.Accesses fault) file refused = ((λ e. cc), (re
 plain unread known R of refusal.Tolerated file refused = ((λ e. cc), (refused (λ e. cc), refl))
 plain unread known R of (refusal.RuleCall unit) file refused = ((λ e. cc), (refused (λ e. cc), refl))
 plain unread known R of (refusal.LongSearch steps) file refused = ((λ e. cc), (refused (λ e. cc), refl))
+plain unread known R of refusal.LongScenario file refused = ((λ e. cc), (refused (λ e. cc), refl))
 plain unread known R of (refusal.Stranger general generals) file refused = ((λ e. cc), (refused (λ e. cc), refl))
 plain unread known R of refusal.NotText file refused = ((refused (λ e. cc), refl), refl)
 plain unread known R of refusal.Memory file refused = tt
@@ -125,5 +126,6 @@ unmustered unread true known c who (refusal.Accesses own) file fault refused tol
 unmustered unread true known c who refusal.Tolerated file fault refused told = absurd (refused (λ e. cc)).1
 unmustered unread true known c who (refusal.RuleCall unit) file fault refused told = absurd (refused (λ e. cc)).1
 unmustered unread true known c who (refusal.LongSearch steps) file fault refused told = absurd (refused (λ e. cc)).1
+unmustered unread true known c who refusal.LongScenario file fault refused told = absurd (refused (λ e. cc)).1
 unmustered unread true known c who (refusal.Stranger general generals) file fault refused told = absurd (refused (λ e. cc)).1
 unmustered unread true known c who refusal.NotText file fault refused told = absurd (refused (λ e. cc)).1

@@ -11,7 +11,7 @@ use Rattle.trace.specs.ErrorText as trace
 use Rattle.verify.specs.ErrorText as verify
 use Rattle.cli_report.specs.ShownErrors.{scenario_text, setting_text}
 use Rattle.cli_tasks.specs.declared.refusal.InputRefusal.{InputRefusal}
-use Rattle.cli_tasks.specs.declared.refusal.InputRefusal.TheVariants.{Codec, Object, Verifier, Assembly, Table, Scenario, Setting, Trace, Threads, Accesses, Tolerated, RuleCall, LongSearch, Stranger, NotText, Memory}
+use Rattle.cli_tasks.specs.declared.refusal.InputRefusal.TheVariants.{Codec, Object, Verifier, Assembly, Table, Scenario, Setting, Trace, Threads, Accesses, Tolerated, RuleCall, LongSearch, LongScenario, Stranger, NotText, Memory}
 
 -- Returns the text of a refusal: the code of the fault and, as far as there is one, where the fault is.
 abbrev pub refusal_text : InputRefusal → List ℕ
@@ -30,5 +30,6 @@ refusal_text Tolerated = codes "B5 more than 3m generals tolerate m traitors: no
 refusal_text (RuleCall unit) = codes "R1 unit " ++ decimal unit
 refusal_text (LongSearch steps) =
     codes "B6 the search takes some " ++ decimal steps ++ codes " steps, and at most 100000000 are allowed"
+refusal_text LongScenario = codes "B7 the program of a traitor could have more than 4096 units"
 refusal_text NotText = codes "not UTF-8"
 refusal_text Memory = codes "out of memory"

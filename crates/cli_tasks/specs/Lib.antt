@@ -24,6 +24,7 @@ pub mod AuditLines
 pub mod CampaignRefusals
 pub mod Retracing
 pub mod RuleCertificates
+pub mod Staging
 pub mod Searches
 pub mod Diagrams
 pub mod Pages

@@ -8,7 +8,6 @@ use Rattle.cli_words.specs.declared.tasks.Accesses.TheVariants.{OfChronicle, Lis
 use Rattle.cli_words.specs.declared.tasks.Course.TheVariants.{Scheduled, Recorded}
 use Rattle.scenario.specs.Reading.{TellsAny}
 use Rattle.book.specs.Answers.{DecidesTable, ExplainsTable, IsFilled, IsFormOf}
-use Rattle.bounds.specs.Refutation.{Refutes}
 use Rattle.verify.specs.Judgement.{judged}
 use Rattle.cli_tasks.specs.Exploring.{Explores}
 use Rattle.cli_tasks.specs.Programs.{HasProgram}
@@ -19,6 +18,7 @@ use Rattle.cli_tasks.specs.Picturing.{Pictures, is_toml}
 use Rattle.cli_tasks.specs.Retracing.{Arranges}
 use Rattle.cli_tasks.specs.RuleCertificates.{Certifies}
 use Rattle.cli_tasks.specs.Searches.{Exhausts}
+use Rattle.cli_tasks.specs.Staging.{ShowsRefutation}
 use Rattle.cli_tasks.specs.Strangers.{KnowsAll, KnowsLiar, KnowsTree}
 use Rattle.cli_tasks.specs.declared.first_answer.FirstAnswer.{FirstAnswer}
 use Rattle.cli_tasks.specs.declared.first_answer.FirstAnswer.TheVariants as answer
@@ -40,10 +40,10 @@ Prints (Form n m c None) first text = IsFormOf (string_bytes n) (string_bytes m)
 Prints (Form n m c (Some filling)) first text =
     KnowsLiar (string_bytes n) (string_bytes m) (string_bytes c) filling.liar
     × IsFilled (string_bytes n) (string_bytes m) (string_bytes c) filling.order filling.liar text
-Prints (Refute n m c rule story) first text =
-    Refutes (string_bytes n) (string_bytes m) (string_bytes c) rule story text
-Prints (Exhaust generals bound traitors commander rule) first text =
-    Exhausts generals bound traitors commander rule text
+Prints (Refute n m c rule story staged) first text =
+    ShowsRefutation staged (string_bytes n) (string_bytes m) (string_bytes c) rule story text
+Prints (Exhaust generals bound traitors commander rule staged) first text =
+    Exhausts generals bound traitors commander rule staged text
 Prints (Certify file notation generals) first text = Certifies notation generals first text
 Prints (Explore scenario most folder) first text = Explores most first text
 Prints (Tree file general traitors drawing depth folded) first text =

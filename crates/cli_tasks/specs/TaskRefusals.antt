@@ -6,12 +6,13 @@ use Rattle.cli_words.specs.declared.tasks.Task.TheVariants.{Check, Assemble, Ass
 use Rattle.cli_tasks.specs.Schedules.{is_chronicle}
 use Rattle.cli_tasks.specs.declared.refusal.InputRefusal.{InputRefusal}
 use Rattle.cli_tasks.specs.ProgramRefusals.{RefusesAssembly, RefusesCheckIn, RefusesNotation, RefusesLines, RefusesParts}
-use Rattle.cli_tasks.specs.TableRefusals.{RefusesForm, RefusesFilled, RefusesRefutation, RefusesTable, RefusesNaming, RefusesTree}
+use Rattle.cli_tasks.specs.TableRefusals.{RefusesForm, RefusesFilled, RefusesTable, RefusesNaming, RefusesTree}
 use Rattle.cli_tasks.specs.Refusals.{RefusesScenario, RefusesCampaign, RefusesText}
 use Rattle.cli_tasks.specs.Explained.{RefusesExplained}
 use Rattle.cli_tasks.specs.CampaignRefusals.{RefusesListed}
 use Rattle.cli_tasks.specs.RuleCertificates.{RefusesRule}
 use Rattle.cli_tasks.specs.Searches.{RefusesSearch}
+use Rattle.cli_tasks.specs.Staging.{RefusesShown}
 
 -- States that the task rejects its only or first file, which has the bytes `bytes`, with this refusal.
 abbrev pub Refuses : Task → List ℕ → InputRefusal → Type 0
@@ -25,10 +26,10 @@ Refuses (ExplainDecisions file traitors) bytes refusal = RefusesText (RefusesNam
 Refuses (Form n m c None) bytes refusal = RefusesForm (string_bytes n) (string_bytes m) (string_bytes c) refusal
 Refuses (Form n m c (Some filling)) bytes refusal =
     RefusesFilled (string_bytes n) (string_bytes m) (string_bytes c) filling.liar refusal
-Refuses (Refute n m c rule story) bytes refusal =
-    RefusesRefutation (string_bytes n) (string_bytes m) (string_bytes c) refusal
-Refuses (Exhaust generals bound traitors commander rule) bytes refusal =
-    RefusesSearch generals bound traitors commander refusal
+Refuses (Refute n m c rule story staged) bytes refusal =
+    RefusesShown staged (string_bytes n) (string_bytes m) (string_bytes c) refusal
+Refuses (Exhaust generals bound traitors commander rule staged) bytes refusal =
+    RefusesSearch generals bound traitors commander staged refusal
 Refuses (Certify file notation generals) bytes refusal = RefusesRule notation bytes refusal
 Refuses (Play scenario schedule account explained) bytes refusal =
     RefusesText (RefusesExplained (is_chronicle account) explained) bytes refusal

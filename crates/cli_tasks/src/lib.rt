@@ -71,7 +71,7 @@ pub use program_check::{Checked, accepted, accepted_in, accepted_text, check};
 pub use program_explanation::explanation;
 pub use reasons::reason;
 pub use refusal::InputRefusal;
-pub use refutations::refuted;
+pub use refutations::{refuted, shown_refutation};
 pub use rule_certificates::certificate;
 pub use schedules::{arranged, retraced};
 pub use searches::exhausted;

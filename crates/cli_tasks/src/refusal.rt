@@ -50,6 +50,8 @@ pub enum InputRefusal {
     RuleCall { unit: usize },
     /// The search for a break is out of reach: it takes this many steps by its estimate.
     LongSearch { steps: u64 },
+    /// The message table is not written as a scenario, since the program of a traitor could be too long.
+    LongScenario,
     /// The bytes are not UTF-8 text.
     NotText,
     /// Memory ran out.
@@ -83,6 +85,9 @@ impl fmt::Display for InputRefusal {
                 f,
                 "B6 the search takes some {steps} steps, and at most 100000000 are allowed"
             ),
+            InputRefusal::LongScenario => {
+                f.write_str("B7 the program of a traitor could have more than 4096 units")
+            }
             InputRefusal::NotText => f.write_str("not UTF-8"),
             InputRefusal::Memory => f.write_str("out of memory"),
         }

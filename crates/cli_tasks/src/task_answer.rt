@@ -14,7 +14,7 @@ use crate::forms::{filled, formed};
 use crate::parts::{assembled_partly, assembled_partly_raw, disassembled_partly};
 use crate::program_check::accepted_in;
 use crate::refusal::InputRefusal;
-use crate::refutations::refuted;
+use crate::refutations::shown_refutation;
 use crate::rule_certificates::certificate;
 use crate::schedules::arranged;
 use crate::searches::exhausted;
@@ -108,13 +108,15 @@ pub fn answer(alloc: Global, task: &Task, bytes: &[u8]) -> Result<FirstAnswer, I
             commander,
             rule,
             story,
-        } => Ok(FirstAnswer::Text(refuted(
+            staged,
+        } => Ok(FirstAnswer::Text(shown_refutation(
             alloc,
             generals.as_str(),
             bound.as_str(),
             commander.as_str(),
             *rule,
             *story,
+            *staged,
         )?)),
         Task::Exhaust {
             generals,
@@ -122,8 +124,9 @@ pub fn answer(alloc: Global, task: &Task, bytes: &[u8]) -> Result<FirstAnswer, I
             traitors,
             commander,
             rule,
+            staged,
         } => Ok(FirstAnswer::Text(exhausted(
-            alloc, *generals, *bound, *traitors, *commander, *rule,
+            alloc, *generals, *bound, *traitors, *commander, *rule, *staged,
         )?)),
         Task::Certify {
             notation,

@@ -158,6 +158,7 @@ fn told_by(
         InputRefusal::Tolerated => Ok(String::new(alloc)),
         InputRefusal::RuleCall { .. } => Ok(String::new(alloc)),
         InputRefusal::LongSearch { .. } => Ok(String::new(alloc)),
+        InputRefusal::LongScenario => Ok(String::new(alloc)),
         InputRefusal::NotText => Ok(String::new(alloc)),
         InputRefusal::Memory => Ok(String::new(alloc)),
     }

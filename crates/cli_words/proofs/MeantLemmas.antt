@@ -8,7 +8,7 @@ use Rattle.combine.specs.Names.{rule_named}
 use Rattle.combine.specs.declared.campaign_rule.Rule.{Rule}
 use Rattle.bounds.specs.Stories.{story_numbered}
 use Rattle.bounds.specs.declared.story.Story.{Story}
-use Rattle.cli_words.specs.Asked.{has_filling, excludes, has_notation, has_search, has_tree, has_turns, if_of, is_meant, reads, wants}
+use Rattle.cli_words.specs.Asked.{has_filling, excludes, has_notation, has_numbers, has_search, has_tree, has_turns, if_of, is_meant, reads, wants}
 use Rattle.cli_words.specs.Generals.{bound_in, count_in, depth_in, general_in, generals_in, order_in, seed_in, size_in, traitors_in}
 use Rattle.cli_words.specs.Tasks.{AreExplained, AreTurns, IsCourse, IsDrawing, IsFilling, IsMisused, IsNotation, NamesCount, NamesGeneral, NamesSeed, NamesStory, Says, Told, are_two, campaigns, coursed, has, is_of, levels_in, named, rule_in, size_given, is_text, of_one, of_traitors, programs, ruled, sized, word_of}
 use Rattle.cli_words.specs.declared.tasks.Course.{Course}
@@ -25,7 +25,7 @@ use Rattle.cli_words.specs.declared.tasks.Task.TheVariants.{Check, Assemble, Ass
 use Rattle.cli_words.specs.declared.tasks.Turns.{Turns}
 use Rattle.cli_words.specs.declared.tasks.Turns.TheVariants.{OfFile, OfSeed}
 use Rattle.cli_words.specs.declared.errors.Misuse.{Misuse}
-use Rattle.cli_words.specs.declared.errors.Misuse.TheVariants.{Traitors, Of, Lie, Loyal, Most, Depth, NobodyNamed, TwoDrawings, TwoNotations, UnitsOfParts, TwoCourses, EntryAlone, OfAlone, LieAlone, Seed, Rule as BadRule, Story as BadStory, Generals as BadSize, Bound as BadBound, TraitorCount, Commander, NoGenerals, NoBound, NoTraitors, TwoSchedules, OutAlone}
+use Rattle.cli_words.specs.declared.errors.Misuse.TheVariants.{Traitors, Of, Lie, Loyal, Most, Depth, NobodyNamed, TwoDrawings, TwoNotations, UnitsOfParts, TwoForms, TwoCourses, EntryAlone, OfAlone, LieAlone, Seed, Rule as BadRule, Story as BadStory, Generals as BadSize, Bound as BadBound, TraitorCount, Commander, NoGenerals, NoBound, NoTraitors, TwoSchedules, OutAlone}
 
 -- ---- words that name a task
 
@@ -138,14 +138,15 @@ module _ (told : Told) where
 
   search_holds : (generals bound traitors : ℕ) (commander : Option ℕ) → (word_of (codes "generals") told >>= size_in) ≡ Some generals
       → (word_of (codes "bound") told >>= bound_in) ≡ Some bound → (word_of (codes "traitors") told >>= traitors_in) ≡ Some traitors
-      → NamesGeneral (codes "commander") told commander → has_search told ≡ true
-  search_holds generals bound traitors commander size limit most named = rw (
+      → NamesGeneral (codes "commander") told commander → (has (codes "json") told && has (codes "scenario") told) ≡ false → has_search told ≡ true
+  search_holds generals bound traitors commander size limit most named one = rw (
     value_there size_in (word_of (codes "generals") told) generals size,
     value_there bound_in (word_of (codes "bound") told) bound limit,
     value_there traitors_in (word_of (codes "traitors") told) traitors most,
     read_where bound_in (word_of (codes "bound") told) bound limit,
     read_where traitors_in (word_of (codes "traitors") told) traitors most,
     general_holds told (codes "commander") commander named,
+    one,
   ) refl
 
 pub says_meant : (told : Told) (task : Task) → Says told task → is_meant told ≡ true
@@ -158,12 +159,12 @@ says_meant told (Book file) says = rw says.0 (rw says.3 refl)
 says_meant told (ExplainDecisions file traitors) says =
     rw says.0 (rw (traitors_hold told (has (codes "explain") told) (word_of (codes "traitors") told) traitors.items says.2) refl)
 says_meant told (Form n m c filling) says = rw says.0 (rw (filling_holds told filling says.4) refl)
-says_meant told (Refute n m c rule story) says =
+says_meant told (Refute n m c rule story staged) says =
     rw says.0 (rw (rule_holds told (word_of (codes "rule") told) rule says.4, story_holds told story says.5) refl)
-says_meant told (Exhaust generals bound traitors commander rule) says = rw says.0 (rw (
+says_meant told (Exhaust generals bound traitors commander rule staged) says = rw says.0 (rw (
   read_where size_in (word_of (codes "generals") told) generals says.1,
   rule_holds told (word_of (codes "rule") told) rule says.5,
-  search_holds told generals bound traitors commander says.1 says.2 says.3 says.4,
+  search_holds told generals bound traitors commander says.1 says.2 says.3 says.4 says.6.1,
 ) refl)
 says_meant told (Certify file notation generals) says =
     rw says.0 (rw (notation_holds told notation says.2, size_holds told (word_of (codes "generals") told) generals says.3) refl)
@@ -357,26 +358,32 @@ module _ (told : Told) where
   abbrev are_used : Bool
   are_used = has (codes "generals") told && has (codes "bound") told && has (codes "traitors") told
 
-  no_commander : reads general_in (codes "commander") told ≡ false → has_search told ≡ false
+  no_commander : reads general_in (codes "commander") told ≡ false → has_numbers told ≡ false
   no_commander fails = and_right (are_used && reads bound_in (codes "bound") told && reads traitors_in (codes "traitors") told) (reads general_in (codes "commander") told) fails
 
-  no_count : reads traitors_in (codes "traitors") told ≡ false → has_search told ≡ false
+  no_count : reads traitors_in (codes "traitors") told ≡ false → has_numbers told ≡ false
   no_count fails = and_left (are_used && reads bound_in (codes "bound") told && reads traitors_in (codes "traitors") told) (reads general_in (codes "commander") told)
       (and_right (are_used && reads bound_in (codes "bound") told) (reads traitors_in (codes "traitors") told) fails)
 
-  unread_here : are_used && reads bound_in (codes "bound") told ≡ false → has_search told ≡ false
+  unread_here : are_used && reads bound_in (codes "bound") told ≡ false → has_numbers told ≡ false
   unread_here fails = and_left (are_used && reads bound_in (codes "bound") told && reads traitors_in (codes "traitors") told) (reads general_in (codes "commander") told)
       (and_left (are_used && reads bound_in (codes "bound") told) (reads traitors_in (codes "traitors") told) fails)
 
-  no_bound : reads bound_in (codes "bound") told ≡ false → has_search told ≡ false
+  no_bound : reads bound_in (codes "bound") told ≡ false → has_numbers told ≡ false
   no_bound fails = unread_here (and_right are_used (reads bound_in (codes "bound") told) fails)
 
-  lacks_traitors : has (codes "traitors") told ≡ false → has_search told ≡ false
+  lacks_traitors : has (codes "traitors") told ≡ false → has_numbers told ≡ false
   lacks_traitors lacks = unread_here (and_left are_used (reads bound_in (codes "bound") told) (and_right (has (codes "generals") told && has (codes "bound") told) (has (codes "traitors") told) lacks))
 
-  lacks_bound : has (codes "bound") told ≡ false → has_search told ≡ false
+  lacks_bound : has (codes "bound") told ≡ false → has_numbers told ≡ false
   lacks_bound lacks = unread_here (and_left are_used (reads bound_in (codes "bound") told)
       (and_left (has (codes "generals") told && has (codes "bound") told) (has (codes "traitors") told) (and_right (has (codes "generals") told) (has (codes "bound") told) lacks)))
+
+  numbers_broken : is_of (codes "exhaust" ∷ []) told ≡ true → has_numbers told ≡ false → is_meant told ≡ false
+  numbers_broken of fails = search_broken of (and_left (has_numbers told) (excludes (codes "json") (codes "scenario") told) fails)
+
+  two_forms : has (codes "json") told ≡ true → has (codes "scenario") told ≡ true → has_search told ≡ false
+  two_forms lines scenario = and_right (has_numbers told) (excludes (codes "json") (codes "scenario") told) (rw (lines, scenario) refl)
 
   two_drawn : are_two (is_text told) (has (codes "dot") told) (has (codes "svg") told) ≡ true → has_tree told ≡ false
   two_drawn are =
@@ -397,16 +404,17 @@ misused_not_meant told (Depth word) is = tree_broken told is.0 (no_depth told (n
 misused_not_meant told (BadRule word) is = rule_broken told is.0 (not_read rule_named told (codes "rule") (string_bytes word) is.1 is.2)
 misused_not_meant told (BadStory word) is = story_broken told is.0 (not_read story_numbered told (codes "story") (string_bytes word) is.1 is.2)
 misused_not_meant told (BadSize word) is = size_broken told is.0 (not_read size_in told (codes "generals") (string_bytes word) is.1 is.2)
-misused_not_meant told (BadBound word) is = search_broken told is.0 (no_bound told (not_read bound_in told (codes "bound") (string_bytes word) is.1 is.2))
-misused_not_meant told (TraitorCount word) is = search_broken told is.0 (no_count told (not_read traitors_in told (codes "traitors") (string_bytes word) is.1 is.2))
-misused_not_meant told (Commander word) is = search_broken told is.0 (no_commander told (not_read general_in told (codes "commander") (string_bytes word) is.1 is.2))
+misused_not_meant told (BadBound word) is = numbers_broken told is.0 (no_bound told (not_read bound_in told (codes "bound") (string_bytes word) is.1 is.2))
+misused_not_meant told (TraitorCount word) is = numbers_broken told is.0 (no_count told (not_read traitors_in told (codes "traitors") (string_bytes word) is.1 is.2))
+misused_not_meant told (Commander word) is = numbers_broken told is.0 (no_commander told (not_read general_in told (codes "commander") (string_bytes word) is.1 is.2))
 misused_not_meant told NoGenerals is = search_broken told is.0 (rw is.1 refl)
-misused_not_meant told NoBound is = search_broken told is.0 (lacks_bound told is.1)
-misused_not_meant told NoTraitors is = search_broken told is.0 (lacks_traitors told is.1)
+misused_not_meant told NoBound is = numbers_broken told is.0 (lacks_bound told is.1)
+misused_not_meant told NoTraitors is = numbers_broken told is.0 (lacks_traitors told is.1)
 misused_not_meant told NobodyNamed is = tree_broken told is.0 (nobody told is.1)
 misused_not_meant told TwoDrawings is = tree_broken told is.0 (two_drawn told is.1)
 misused_not_meant told TwoNotations is = program_broken told is.0 (rw (is.1, is.2) refl)
 misused_not_meant told UnitsOfParts is = listing_broken told is.0 (rw (is.1, is.2) refl)
+misused_not_meant told TwoForms is = search_broken told is.0 (two_forms told is.1 is.2)
 misused_not_meant told TwoCourses is = course_broken told is.0 (rw (is.1, is.2) refl)
 misused_not_meant told EntryAlone is = program_broken told is.0 (and_right (not (has (codes "asm") told && has (codes "elf") told)) (wants (codes "entry") (codes "elf") told) (not_wanted told (codes "entry") (codes "elf") is.1 is.2))
 misused_not_meant told OfAlone is = explanation_broken told is.0 (not_wanted told (codes "of") (codes "explain") is.1 is.2)

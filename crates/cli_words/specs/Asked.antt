@@ -47,21 +47,25 @@ has_filling told = reads order_in (codes "loyal") told && reads general_in (code
     && wants (codes "lie") (codes "loyal") told
 
 -- Checks whether `--generals`, `--bound` and `--traitors` are used, and the values of the last two and of `--commander`
+-- Checks whether the words do not have both `name` and `other`.
+abbrev pub excludes : Text → Text → Told → Bool
+excludes name other told = not (has name told && has other told)
+
 -- are a bound, a number of traitors and a general.
-abbrev pub has_search : Told → Bool
-has_search told = has (codes "generals") told && has (codes "bound") told && has (codes "traitors") told
+abbrev pub has_numbers : Told → Bool
+has_numbers told = has (codes "generals") told && has (codes "bound") told && has (codes "traitors") told
     && reads bound_in (codes "bound") told && reads traitors_in (codes "traitors") told
     && reads general_in (codes "commander") told
+
+-- Checks whether the words are those of a search, whose answer is printed in one form.
+abbrev pub has_search : Told → Bool
+has_search told = has_numbers told && excludes (codes "json") (codes "scenario") told
 
 -- Checks whether `--of` is used, the value of `--depth` is a number of levels, and the words name at most one way to
 -- draw the tree.
 abbrev pub has_tree : Told → Bool
 has_tree told = has (codes "of") told && reads depth_in (codes "depth") told
     && not (are_two (is_text told) (has (codes "dot") told) (has (codes "svg") told))
-
--- Checks whether the words do not have both `name` and `other`.
-abbrev pub excludes : Text → Text → Told → Bool
-excludes name other told = not (has name told && has other told)
 
 -- Checks whether the words name at most one schedule for a campaign, and only a random schedule is written to a file.
 abbrev pub has_turns : Told → Bool

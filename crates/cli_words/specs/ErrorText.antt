@@ -5,7 +5,7 @@ use Rattle.std.specs.Fmt.{debug_str}
 use Rattle.cli_words.specs.declared.errors.TaskError.{TaskError}
 use Rattle.cli_words.specs.declared.errors.TaskError.TheVariants as error
 use Rattle.cli_words.specs.declared.errors.Misuse.{Misuse}
-use Rattle.cli_words.specs.declared.errors.Misuse.TheVariants.{Traitors, Of, Lie, Loyal, Most, Depth, NobodyNamed, TwoDrawings, TwoNotations, UnitsOfParts, TwoCourses, EntryAlone, OfAlone, LieAlone, Seed, Rule, Story, Generals, Bound, TraitorCount, Commander, NoGenerals, NoBound, NoTraitors, TwoSchedules, OutAlone}
+use Rattle.cli_words.specs.declared.errors.Misuse.TheVariants.{Traitors, Of, Lie, Loyal, Most, Depth, NobodyNamed, TwoDrawings, TwoNotations, UnitsOfParts, TwoForms, TwoCourses, EntryAlone, OfAlone, LieAlone, Seed, Rule, Story, Generals, Bound, TraitorCount, Commander, NoGenerals, NoBound, NoTraitors, TwoSchedules, OutAlone}
 
 -- Returns the text for an option with a wrong value. `wanted` says which values the option accepts.
 abbrev pub invalid : List ℕ → List ℕ → List ℕ → Option (List ℕ)
@@ -42,6 +42,7 @@ misuse_text TwoDrawings =
     Some (codes "the arguments '--dot' and '--svg' cannot be used with each other, or with '--text' or '--ascii'")
 misuse_text TwoNotations = Some (codes "the argument '--elf' cannot be used with '--asm'")
 misuse_text UnitsOfParts = Some (codes "the argument '--units' cannot be used with '--partial'")
+misuse_text TwoForms = Some (codes "the argument '--json' cannot be used with '--scenario'")
 misuse_text TwoCourses = Some (codes "the argument '--schedule <FILE>' cannot be used with '--chronicle <FILE>'")
 misuse_text EntryAlone = Some (codes "the argument '--entry <NAME>' cannot be used without '--elf'")
 misuse_text OfAlone = Some (codes "the argument '--of <G>' cannot be used without '--explain'")

@@ -34,7 +34,7 @@ use Rattle.cli_words.specs.declared.tasks.Task.TheVariants.{Check, Assemble, Ass
 use Rattle.cli_words.specs.declared.tasks.Turns.{Turns}
 use Rattle.cli_words.specs.declared.tasks.Turns.TheVariants.{OfFile, OfSeed}
 use Rattle.cli_words.specs.declared.errors.Misuse.{Misuse}
-use Rattle.cli_words.specs.declared.errors.Misuse.TheVariants.{Traitors, Of, Lie, Loyal, Most, Depth, NobodyNamed, TwoDrawings, TwoNotations, UnitsOfParts, TwoCourses, EntryAlone, OfAlone, LieAlone, Seed, Rule as BadRule, Story as BadStory, Generals as BadSize, Bound as BadBound, TraitorCount, Commander, NoGenerals, NoBound, NoTraitors, TwoSchedules, OutAlone}
+use Rattle.cli_words.specs.declared.errors.Misuse.TheVariants.{Traitors, Of, Lie, Loyal, Most, Depth, NobodyNamed, TwoDrawings, TwoNotations, UnitsOfParts, TwoForms, TwoCourses, EntryAlone, OfAlone, LieAlone, Seed, Rule as BadRule, Story as BadStory, Generals as BadSize, Bound as BadBound, TraitorCount, Commander, NoGenerals, NoBound, NoTraitors, TwoSchedules, OutAlone}
 use Rattle.cli_words.specs.declared.errors.TaskError.{TaskError}
 use Rattle.cli_words.specs.declared.errors.TaskError.TheVariants as error
 
@@ -94,6 +94,11 @@ IsNotation told Assembly =
     (has (codes "asm") told ≡ true) × (has (codes "elf") told ≡ false) × (word_of (codes "entry") told ≡ None)
 IsNotation told (Object entry) = (has (codes "asm") told ≡ false) × (has (codes "elf") told ≡ true)
     × (word_of (codes "entry") told ≡ option_map string_bytes entry)
+
+-- States that the words say whether a break is printed as a scenario, and do not also ask for JSON then.
+abbrev pub IsStaged : Told → Bool → Type 0
+IsStaged told staged =
+    (has (codes "scenario") told ≡ staged) × ((has (codes "json") told && has (codes "scenario") told) ≡ false)
 
 -- Checks whether bytecode is written as its bytes, and not in hex digits.
 abbrev pub is_raw : Spelling → Bool
@@ -235,14 +240,15 @@ Says told (ExplainDecisions file traitors) = (told.name ≡ codes "book")
 Says told (Form n m c filling) = (told.name ≡ codes "table")
     × (word_of (codes "GENERALS") told ≡ Some (string_bytes n)) × (word_of (codes "BOUND") told ≡ Some (string_bytes m))
     × (word_of (codes "COMMANDER") told ≡ Some (string_bytes c)) × IsFilling told filling
-Says told (Refute n m c rule story) = (told.name ≡ codes "refute")
+Says told (Refute n m c rule story staged) = (told.name ≡ codes "refute")
     × (word_of (codes "GENERALS") told ≡ Some (string_bytes n)) × (word_of (codes "BOUND") told ≡ Some (string_bytes m))
     × (word_of (codes "COMMANDER") told ≡ Some (string_bytes c))
-    × (rule_in (word_of (codes "rule") told) ≡ Some rule) × NamesStory told story
-Says told (Exhaust generals bound traitors commander rule) = (told.name ≡ codes "exhaust")
+    × (rule_in (word_of (codes "rule") told) ≡ Some rule) × NamesStory told story × (has (codes "scenario") told ≡ staged)
+Says told (Exhaust generals bound traitors commander rule staged) = (told.name ≡ codes "exhaust")
     × HasValue size_in (codes "generals") told generals × HasValue bound_in (codes "bound") told bound
     × HasValue traitors_in (codes "traitors") told traitors
     × NamesGeneral (codes "commander") told commander × (rule_in (word_of (codes "rule") told) ≡ Some rule)
+    × IsStaged told staged
 Says told (Certify file notation generals) = (told.name ≡ codes "rule")
     × (word_of (codes "FILE") told ≡ Some (string_bytes file)) × IsNotation told notation
     × (size_given (word_of (codes "generals") told) ≡ Some generals)
@@ -288,8 +294,8 @@ file_of (DisassemblePartly file notation explained) = Some (string_bytes file)
 file_of (Book file) = Some (string_bytes file)
 file_of (ExplainDecisions file traitors) = Some (string_bytes file)
 file_of (Form n m c filling) = None
-file_of (Refute n m c rule story) = None
-file_of (Exhaust generals bound traitors commander rule) = None
+file_of (Refute n m c rule story staged) = None
+file_of (Exhaust generals bound traitors commander rule staged) = None
 file_of (Certify file notation generals) = Some (string_bytes file)
 file_of (Play scenario turns account explained) = Some (string_bytes scenario)
 file_of (Muster scenario explained) = Some (string_bytes scenario)
@@ -405,6 +411,8 @@ IsMisused told TwoNotations =
     (is_of programs told ≡ true) × (has (codes "asm") told ≡ true) × (has (codes "elf") told ≡ true)
 IsMisused told UnitsOfParts =
     (is_of (codes "dis" ∷ []) told ≡ true) × (has (codes "units") told ≡ true) × (has (codes "partial") told ≡ true)
+IsMisused told TwoForms =
+    (is_of (codes "exhaust" ∷ []) told ≡ true) × (has (codes "json") told ≡ true) × (has (codes "scenario") told ≡ true)
 IsMisused told TwoCourses = (is_of coursed told ≡ true)
     × (has (codes "schedule") told ≡ true) × (has (codes "chronicle") told ≡ true)
 IsMisused told EntryAlone =

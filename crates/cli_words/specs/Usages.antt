@@ -44,7 +44,7 @@ abbrev pub refute : Usage
 refute = record {
   name = codes "refute";
   places = codes "GENERALS" ∷ codes "BOUND" ∷ codes "COMMANDER" ∷ [];
-  flags = option (codes "rule") ∷ option (codes "story") ∷ [];
+  flags = option (codes "rule") ∷ option (codes "story") ∷ switch (codes "scenario") ∷ [];
 }
 
 abbrev pub exhaust : Usage
@@ -53,7 +53,7 @@ exhaust = record {
   places = [];
   flags = switch (codes "json") ∷ option (codes "generals") ∷ option (codes "bound") ∷ option (codes "traitors") ∷ option
       (codes "commander")
-      ∷ option (codes "rule") ∷ [];
+      ∷ option (codes "rule") ∷ switch (codes "scenario") ∷ [];
 }
 
 abbrev pub rule : Usage

@@ -55,6 +55,8 @@ pub enum Misuse {
     /// `--units` and `--partial` are used together. With `--partial`, some units are no instructions, and a unit is
     /// printed only before an instruction.
     UnitsOfParts,
+    /// `--json` and `--scenario` are used together, so that a break would be printed in two forms.
+    TwoForms,
     /// `--schedule` and `--chronicle` are used together, so that a campaign would follow two files.
     TwoCourses,
     /// `--entry`, the name of a function, is used without `--elf`.
@@ -160,6 +162,9 @@ impl fmt::Display for Misuse {
             }
             Misuse::UnitsOfParts => {
                 f.write_str("the argument '--units' cannot be used with '--partial'")
+            }
+            Misuse::TwoForms => {
+                f.write_str("the argument '--json' cannot be used with '--scenario'")
             }
             Misuse::TwoCourses => f.write_str(
                 "the argument '--schedule <FILE>' cannot be used with '--chronicle <FILE>'",

@@ -5,7 +5,7 @@ ghost use Rattle.cli_words.specs.Generals.{bound_in, size_in, traitors_in};
 ghost use Rattle.cli_words.specs.Lab.{is_given, task_met};
 ghost use Rattle.cli_words.specs.Tasks.{IsDrawing, levels_in, named};
 ghost use Rattle.cli_words.specs.Met.{has_places, told_by};
-ghost use Rattle.cli_words.specs.Tasks.{AreExplained, AreTurns, Asks, HasValue, IsCourse, IsErrorOf, IsFilling, IsNotation, NamesCount, NamesGeneral, NamesSeed, NamesStory, Says, campaigns, coursed, has, is_of, is_raw, is_table, programs, rule_in, ruled, size_given, word_of};
+ghost use Rattle.cli_words.specs.Tasks.{AreExplained, AreTurns, Asks, HasValue, IsCourse, IsErrorOf, IsFilling, IsNotation, IsStaged, NamesCount, NamesGeneral, NamesSeed, NamesStory, Says, campaigns, coursed, has, is_of, is_raw, is_table, programs, rule_in, ruled, size_given, word_of};
 
 use crate::errors::{Misuse, TaskError};
 use crate::generals::{
@@ -265,6 +265,7 @@ impl<'m, 'a> ParsedWords<'m, 'a> {
             commander: self.required(alloc, "COMMANDER")?,
             rule: self.rule(alloc)?,
             story: self.story(alloc)?,
+            staged: self.has("scenario"),
         })
     }
 
@@ -280,7 +281,23 @@ impl<'m, 'a> ParsedWords<'m, 'a> {
             traitors: self.traitor_count(alloc)?,
             commander: self.commander(alloc)?,
             rule: self.rule(alloc)?,
+            staged: self.staged()?,
         })
+    }
+
+    /// Returns whether a break is printed as a scenario: whether the words have `--scenario`. Fails if they also have
+    /// `--json`.
+    fn staged(self) -> Result<bool, TaskError>
+        requires { is_of (codes "exhaust" ∷ []) (told_by self) ≡ true }
+        ensures staged { IfOk result (IsStaged (told_by self.entry)) }
+        ensures refused { IfErr result (IsErrorOf (told_by self.entry)) }
+        ensures memory { IfErr result (λ error. error ≢ TaskError.Memory) }
+    {
+        let staged = self.has("scenario");
+        if staged && self.has("json") {
+            return Err(TaskError::Misuse(Misuse::TwoForms));
+        }
+        Ok(staged)
     }
 
     /// Returns the value of `--generals`, how many generals there are. Fails if it is missing, or is not a number of

@@ -290,6 +290,10 @@ fn refute() -> Subcommand<'static>
                 value: "K",
                 help: "Prints this story, 1 to 3; by default the first that breaks the rule",
             },
+            Flag::Switch {
+                name: "scenario",
+                help: "Prints the campaign as a scenario",
+            },
         ],
     }
 }
@@ -331,6 +335,10 @@ fn exhaust() -> Subcommand<'static>
                 name: "rule",
                 value: "RULE",
                 help: "The rule of combination, majority or median; by default the majority",
+            },
+            Flag::Switch {
+                name: "scenario",
+                help: "Prints the campaign as a scenario",
             },
         ],
     }

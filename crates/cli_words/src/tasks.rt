@@ -71,22 +71,26 @@ pub enum Task {
         filling: Option<Filling>,
     },
     /// Print the message table of this story (one of three campaigns with too few generals) for a campaign with these
-    /// numbers. Without a story, it is the first one that breaks the rule.
+    /// numbers. Without a story, it is the first one that breaks the rule. If `staged` is true, it is printed as a
+    /// scenario.
     Refute {
         generals: String,
         bound: String,
         commander: String,
         rule: Rule,
         story: Option<Story>,
+        staged: bool,
     },
     /// Find out whether any traitors, at most this many, break IC1 or IC2 among this many generals, whatever they send.
-    /// `bound` is the m of OM(m), 0 to 4. Without a commander, each general commands in turn.
+    /// `bound` is the m of OM(m), 0 to 4. Without a commander, each general commands in turn. If `staged` is true, a
+    /// break is printed as a scenario.
     Exhaust {
         generals: u8,
         bound: u8,
         traitors: u8,
         commander: Option<u8>,
         rule: Rule,
+        staged: bool,
     },
     /// Find out whether a program is a rule that keeps majorities among this many generals, 2 to 13.
     Certify {
