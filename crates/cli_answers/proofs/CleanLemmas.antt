@@ -1,7 +1,7 @@
 -- The JSON objects of printed lines have no floats.
 use Rattle.std.proofs.Common.{◌≡◌, ℕ, Bool, true, false, List, [], ◌∷◌, Option, None, Some, Ordering, Less, Equal, Greater, option_map, option_and_then, bytes_eq, codes, refl}
 use Rattle.std.specs.Option.{option_or}
-use Rattle.std.specs.Prelude.{drop, take, not, if◌then◌else◌, ◌||◌, ◌==◌, is_some, length, slice_get}
+use Rattle.std.specs.Prelude.{drop, take, if◌then◌else◌, ◌||◌, ◌==◌, is_some, length, slice_get}
 use Rattle.std.specs.Str.Lossy.{utf8_lossy}
 use Rattle.std.specs.Cmp.Lexicographic.{slice_cmp}
 use Rattle.std.specs.Ordering.{match_ordering, nat_cmp}
@@ -17,7 +17,7 @@ use Rattle.cli_answers.specs.Labels.{at_first, label_of, number_at, numbers, pla
 use Rattle.cli_answers.specs.Lines.{with_file}
 use Rattle.cli_answers.specs.Advice.{edit, edit_by, edit_of, fact_of, help_of, instructions, is_fact, judged_at, judged_of, last_piece, note_of, quote, unit_before, unit_replaced, with_edit, with_explanation, with_help, with_judged, with_judgement}
 use Rattle.cli_answers.specs.Explanations.{entry_of, labelled, list_object, reason_in, reasoned, with_entries}
-use Rattle.cli_answers.specs.Instructions.{behind_place, each, instruction_at, instruction_object, line_in, place_in, shown, trimmed, unit_of, with_instruction, with_item, with_parts, with_source, with_source_line, with_unit}
+use Rattle.cli_answers.specs.Instructions.{arrow, behind_place, each, instruction_at, instruction_object, line_in, place_in, shown, trimmed, unit_of, with_instruction, with_item, with_parts, with_source, with_source_line, with_unit}
 use Rattle.cli_answers.specs.Objects.{explanation_object, line_object, or, other_object, unshaped}
 use Rattle.cli_answers.specs.Shaped.{first_by, first_shaped, shaped, told_by, with_mark, with_name}
 use Rattle.cli_answers.specs.Refusals.{class_of, fault_object, is_keyed, is_unsafe, namer, namer_of, numbered, placed_refusal, refusal_object, refused_object, reported, sentence_of, why, with_advice, with_namer, with_sentence, with_verified}
@@ -222,7 +222,7 @@ parts_clean (w ∷ reads) gives ms b =
 
 instruction_clean : (text : List ℕ) (ms : Members) → NoFloat ms → NoFloat (with_instruction text ms)
 unfolding with_instruction
-instruction_clean text ms b = parts_clean _ _ ms b
+instruction_clean text ms b = parts_clean (pieces semicolon (before arrow text)) (pieces semicolon (behind_stop arrow text)) ms b
 
 source_line_clean : (o : Option ℕ) (ms : Members) → NoFloat ms → NoFloat (with_source_line o ms)
 source_line_clean None ms b = b
@@ -293,7 +293,8 @@ listed_clean h outcome (Some ms) a = placed_clean General h (with_text (codes "o
 list_clean : (h : Held) (line : List ℕ) → HaveClean (list_object h line)
 list_clean h line =
     let entries = behind_stop colon line in
-    listed_clean h (drop 1 (behind_stop colon entries)) _
+    listed_clean h (drop 1 (behind_stop colon entries))
+    (option_and_then (λ label. with_entries (pieces comma (before colon entries)) (labelled label)) (numbers_of (before colon line)))
     (labelled_clean (numbers_of (before colon line)) (pieces comma (before colon entries)) (numbers_of_clean (before colon line)))
 
 explanation_clean : (h : Held) (line : List ℕ) → HaveClean (explanation_object h line)

@@ -1,7 +1,7 @@
 -- The elements of a JSON array, one word after another.
 use Rattle.std.proofs.Common.{◌≡◌, ℕ, zero, suc, ◌+◌, ◌<◌, ◌≤◌, arith, length, drop, get_or, List, [], ◌∷◌, ◌++◌, Option, None, Some, Bor, Vec, Global, option_map, refl, sym, ap, ◌∙◌}
 use Rattle.std.proofs.lemmas.List.{drop_more}
-use Rattle.serde_json.specs.Data.{Data, array, number, unsigned, Items, no_items, item}
+use Rattle.serde_json.specs.Data.{Data, array, number, string, unsigned, Items, no_items, item}
 use Rattle.serde_json.specs.View.{items_view, view}
 use Rattle.serde_json.specs.declared.value.Value.{Value, Array}
 use Rattle.serde_json.proofs.Views.{view-Array}
@@ -10,6 +10,9 @@ use Rattle.text.specs.Parts.{GivesPieces, left, pieces}
 use Rattle.serde_json.specs.Data.{Members}
 use Rattle.text.specs.Parts.{before}
 use Rattle.text.specs.Stop.{semicolon}
+use Rattle.std.specs.Str.Lossy.{utf8_lossy}
+use Rattle.text.proofs.PartsLemmas.{pieces_is}
+use Rattle.cli_answers.specs.Advice.{instructions, last_piece}
 use Rattle.cli_answers.specs.Instructions.{arrow, each, with_instruction, with_parts}
 use Rattle.cli_answers.specs.Texts.{behind_stop}
 use Rattle.cli_answers.specs.Labels.{numbers}
@@ -93,13 +96,6 @@ module _ (tells : Word → Option Data) where
       let first = rw e at so_far in
       rw (← none) at first
 
-  -- Proves that a word without a value leaves all without a value.
-  pub none_all : (old : Items) (all_words more : List Word) (front : Word) (total : Option Items) → all_words ≡ front ∷ more → None ≡ tells front
-      → onto old (all tells all_words) ≡ total → None ≡ total
-  none_all old all_words more front total e none so_far =
-      let first = rw e at so_far in
-      rw (← none) at first
-
 -- Proves that the elements are complete if nothing follows.
 pub each_told : (old total : Items) → join old no_items ≡ total → old ≡ total
 each_told old total so_far = sym (join_none old) ∙ so_far
@@ -120,3 +116,24 @@ instruction_cut text front gives instruction reads ms cut behind given =
     ap (λ (ws : List Word). with_parts ws (pieces semicolon gives) ms) (sym (given_left semicolon instruction reads (pieces semicolon front) given))
     ∙ (ap (λ (f : Word). with_parts (pieces semicolon f) (pieces semicolon gives) ms) cut
     ∙ ap (λ (g : Word). with_parts (pieces semicolon (before arrow text)) (pieces semicolon g) ms) behind)
+
+-- Proves what the pieces are if two stops follow.
+pub two_given : (stop : Stop) (front quoted instruction : Word) (all : List Word) (behind : Option (Bor (List ℕ))) → all ≡ front ∷ pieces stop quoted
+    → GivesPieces stop instruction behind (pieces stop quoted) → all ≡ front ∷ instruction ∷ left stop behind
+two_given stop front quoted instruction all behind e given =
+    e ∙ ap (λ (ws : List Word). front ∷ ws) (given_left stop instruction behind (pieces stop quoted) given)
+
+-- Proves that one more instruction is one more element.
+pub quoted_more : (old new : List Value) (v : Value) (all more : List Word) (front quoted : Word) (total : Items) → all ≡ front ∷ quoted ∷ more → new ≡ old ++ v ∷ []
+    → view v ≡ string (utf8_lossy quoted) → join (items_view old) (instructions all) ≡ total → join (items_view new) (instructions more) ≡ total
+quoted_more old new v all more front quoted total e pushed seen so_far =
+    let first = rw e at so_far in
+    rw (pushed, join_last old v (instructions more), seen) first
+
+-- Proves that the last piece is one after the first stop.
+pub last_further : (stop : Stop) (front rest : Word) (all : List Word) → all ≡ front ∷ pieces stop rest → last_piece all ≡ last_piece (pieces stop rest)
+last_further stop front rest all e = rw (e, pieces_is stop rest) refl
+
+-- Proves that a text without a stop is its last piece.
+pub last_alone : (front text : Word) (all : List Word) → all ≡ front ∷ [] → front ≡ text → text ≡ last_piece all
+last_alone front text all e same = rw (e, same) refl

@@ -8,7 +8,7 @@ ghost use Rattle.cli_answers.specs.Instructions.{each};
 
 use crate::instructions::{behind_place, behind_two, instruction_object, put_unit, unit_of};
 use crate::texts::{parted, put_text};
-use crate::values::{small, spelled};
+use crate::values::spelled;
 use serde_json::{Map, Value, put};
 use std::alloc::{AllocError, Global};
 use text::{SPACE, Stop, cut, line, piece};

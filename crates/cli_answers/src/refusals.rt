@@ -1,7 +1,7 @@
 //! Turns the text that says why a task was not done into a JSON object: a file was rejected, or it could not be read.
 ghost use Rattle.std.specs.Prelude.{◌≡◌, IfNone, IfOk, IfSome, OnOk, drop, false, option_and_then, option_map, slice_get, true};
 ghost use Rattle.serde_json.specs.View.{members_view};
-ghost use Rattle.text.specs.Parts.{before, lines_of};
+ghost use Rattle.text.specs.Parts.{lines_of};
 ghost use Rattle.cli_answers.specs.Lines.{object_line};
 ghost use Rattle.cli_answers.specs.Refusals.{class_of, fault_object, is_keyed, is_reported, is_unsafe, is_why, namer, namer_behind, namer_of, numbered, placed_refusal, refusal_object, refused_object, reported, said, second_of, sentence_of, why, with_namer, with_sentence, with_verified};
 

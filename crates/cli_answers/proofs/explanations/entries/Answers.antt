@@ -1,7 +1,6 @@
-use Rattle.text.specs.Parts.{left, pieces}
 use Rattle.text.specs.Stop.{comma}
 use Rattle.cli_answers.specs.Explanations.{entry_of}
-use Rattle.cli_answers.proofs.ItemLemmas.{all_ended, given_left, more_told, none_all}
+use Rattle.cli_answers.proofs.ItemLemmas.{all_ended, more_told}
 use Rattle.cli_answers.proofs.explanations.entries.Goals as goal
 
 pub loop-rest-preserved : goal.loop-rest-preserved
