@@ -81,3 +81,11 @@ also_more g xs now new i b inside is first then =
     ∙ (ap (λ ys. ys ++ signed_also b.now g ∷ []) first
     ∙ sym (ap (λ ys. map (λ ch. signed_also ch g) (lent ys)) (take_more xs i b inside ∙ ap (λ y. take i xs ++ y ∷ []) (sym is))
     ∙ (ap (map (λ ch. signed_also ch g)) (map-append (λ (c : Bor Chain). c.now) (take i xs) (b ∷ [])) ∙ map-append (λ ch. signed_also ch g) (lent (take i xs)) (b.now ∷ []))))
+
+-- One more chain is copied.
+pub one_more : (xs : List (Bor Chain)) (now new : List Chain) (i : ℕ) (b : Bor Chain) → i < length xs → b ≡ get_or xs i b → now ≡ lent (take i xs) → new ≡ now ++ b.now ∷ []
+    → new ≡ lent (take (i + 1) xs)
+one_more xs now new i b inside is first then =
+    then
+    ∙ (ap (λ ys. ys ++ b.now ∷ []) first
+    ∙ sym (ap (λ (ys : List (Bor Chain)). lent ys) (take_more xs i b inside ∙ ap (λ y. take i xs ++ y ∷ []) (sym is)) ∙ map-append (λ (c : Bor Chain). c.now) (take i xs) (b ∷ [])))

@@ -5,4 +5,5 @@ pub mod Bands
 pub mod Legend
 pub mod Foot
 pub mod Svg
+pub mod Unaccepted
 pub mod Laws

@@ -13,6 +13,7 @@ mod signed_order;
 mod stroke;
 mod strokes;
 mod svg;
+mod unaccepted;
 mod words;
 
 pub use foot::bound_words;
@@ -20,3 +21,4 @@ pub use laws::{
     only_traitors_differ, rows_are_exact, signed_diagrams_are_elements, strokes_are_exact,
 };
 pub use svg::{put_signed_words, signed_campaign_svg};
+pub use unaccepted::put_unaccepted;

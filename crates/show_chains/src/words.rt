@@ -33,7 +33,7 @@ fn put_further_signers(out: &mut String, generals: &[u8]) -> Result<(), AllocErr
 }
 
 /// Appends a chain's order and signers, such as `1 signed 0.2`. Fails with `AllocError` if memory runs out.
-fn put_chain(out: &mut String, chain: &SignedOrder) -> Result<(), AllocError>
+pub(crate) fn put_chain(out: &mut String, chain: &SignedOrder) -> Result<(), AllocError>
     ensures { OnOk result (string_bytes out.new ≡ string_bytes out.old ++ chain_words chain.now) }
 {
     let order = chain.order();

@@ -1,5 +1,5 @@
 -- The pages of signed campaigns are XML elements.
-use Rattle.std.proofs.Common.{ℕ, ◌==◌, false, List, [], Option}
+use Rattle.std.proofs.Common.{ℕ, ◌==◌, false, List, [], ◌++◌, Option}
 use Rattle.std.specs.List.{range_with_len}
 use Rattle.std.proofs.lemmas.Bool.{cond_both}
 use Rattle.html.specs.Grammar.{IsContent, joined, no_text, text}
@@ -9,6 +9,7 @@ use Rattle.html.proofs.PageLaws.{proved_pages_are_elements, proved_parts_are_con
 use Rattle.signed.specs.Explained.{acceptance_of}
 use Rattle.show_chains.specs.Foot.{bound_words}
 use Rattle.show_chains.specs.Svg.{signed_svg, signed_words}
+use Rattle.show_chains.specs.Unaccepted.{unaccepted_lines}
 use Rattle.show_chains.proofs.PictureLaws.{proved_signed_diagrams_are_elements}
 use Rattle.trace.specs.SignedText.{signed_text}
 use Rattle.world.specs.Chronicle.{Chronicle}
@@ -24,7 +25,8 @@ diagram_filled c = let drawn = proved_signed_diagrams_are_elements c in picture_
 lieutenant_content : (c : Chronicle) (g : ℕ) → IsContent (lieutenant_part c g)
 lieutenant_content c g =
     cond_both (g == c.scenario.commander) [] (lieutenant_told c g) IsContent (λ _. text [] no_text)
-    (λ _. proved_parts_are_content.fold (lieutenant_heading c g) (lines (acceptance_of c g)) (proved_parts_are_content.lines (acceptance_of c g)))
+    (λ _.
+    let told : List ℕ = acceptance_of c g ++ unaccepted_lines c g in proved_parts_are_content.fold (lieutenant_heading c g) (lines told) (proved_parts_are_content.lines told))
 
 lieutenants_content : (c : Chronicle) → IsContent (each_lieutenant c)
 lieutenants_content c = all (lieutenant_part c) (range_with_len 0 c.scenario.generals) (lieutenant_content c)

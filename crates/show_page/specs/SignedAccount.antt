@@ -9,6 +9,7 @@ use Rattle.round.specs.Scenario.{Scenario, is_traitor}
 use Rattle.signed.specs.Explained.{acceptance_of}
 use Rattle.show_chains.specs.Foot.{bound_words}
 use Rattle.show_chains.specs.Svg.{signed_svg, signed_words}
+use Rattle.show_chains.specs.Unaccepted.{unaccepted_lines}
 use Rattle.trace.specs.SignedText.{signed_text}
 use Rattle.world.specs.Chronicle.{Chronicle}
 use Rattle.world.specs.declared.schedule.Repeat.{Repeat}
@@ -34,8 +35,9 @@ abbrev pub lieutenant_heading : Chronicle → ℕ → List ℕ
 lieutenant_heading c g =
     deciding_words g (is_traitor c.scenario g) (slice_get c.decisions (place_of c.scenario.commander g))
 
+-- Writes by which chains a lieutenant accepts orders, by which he accepts none, and why.
 abbrev pub lieutenant_told : Chronicle → ℕ → List ℕ
-lieutenant_told c g = fold (lieutenant_heading c g) (lines (acceptance_of c g))
+lieutenant_told c g = fold (lieutenant_heading c g) (lines (acceptance_of c g ++ unaccepted_lines c g))
 
 abbrev pub lieutenant_part : Chronicle → ℕ → List ℕ
 lieutenant_part c g = if g == c.scenario.commander then [] else lieutenant_told c g

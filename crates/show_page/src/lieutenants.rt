@@ -5,6 +5,7 @@ ghost use Rattle.show_page.specs.SignedAccount.{deciding_words, each_lieutenant,
 
 use crate::sections::{lieutenant_name, lieutenants_roomed};
 use html::{Section, put_fold_end, put_fold_start, put_lines};
+use show_chains::put_unaccepted;
 use show_diagram::foot::place_of;
 use signed::{SignedChronicle, explain_one_signed};
 use std::alloc::{AllocError, Global};
@@ -35,7 +36,8 @@ fn put_each_lieutenant(
     Ok(())
 }
 
-/// Appends which orders a general accepted, and why he decides so. Appends nothing for the commander.
+/// Appends which orders a general accepted and by which chains, by which chains he accepted none, and why. Appends nothing
+/// for the commander.
 fn put_lieutenant_of(
     alloc: Global,
     out: &mut String,
@@ -51,9 +53,10 @@ fn put_lieutenant_of(
     }
     let is_traitor = scenario.is_traitor(general);
     let name = deciding_name(alloc, general, is_traitor, decision_of(chronicle, general))?;
-    let accepted = explain_one_signed(alloc, chronicle, general)?;
+    let mut told = explain_one_signed(alloc, chronicle, general)?;
+    put_unaccepted(alloc, &mut told, chronicle, general)?;
     put_fold_start(out, name.as_str())?;
-    put_lines(out, accepted.as_str())?;
+    put_lines(out, told.as_str())?;
     put_fold_end(out)
 }
 
