@@ -1,6 +1,7 @@
 -- The last element is removed from a list: what holds for all elements holds for it and for the remaining ones. Also,
 -- the handles of started threads are kept.
-use Rattle.std.proofs.Common.{◌≡◌, ℕ, ◌<◌, ◌+◌, List, [], ◌∷◌, ◌++◌, length, get_or, false, ap, sym, subst, ◌∙◌, length-append, arith}
+use Rattle.std.proofs.Common.{◌≡◌, ℕ, zero, suc, ◌<◌, ◌+◌, List, [], ◌∷◌, ◌++◌, length, take, drop, get_or, false, refl, ap, sym, subst, ◌∙◌, length-append, arith}
+use Rattle.std.specs.List.{refill}
 use Rattle.std.specs.Prelude.{All, Option, None, Some, is_some, IsSome, MatchResult, Result, Ok, Err}
 use Rattle.std.proofs.lemmas.List.Elements.{All-append, All-cons, All-nil}
 use Rattle.std.proofs.Math.ListN.{get_or-append}
@@ -34,9 +35,27 @@ pub kept_more : {H E : Type 0} (started : Result H E) (unstarted : Option Unstar
     → MatchResult started (λ h. (unstarted ≡ None) × (new ≡ old ++ h ∷ [])) (λ _. IsSome unstarted × (new ≡ old))
     → is_some unstarted ≡ false → length new ≡ length old + 1
 kept_more (Ok h) unstarted old new is none = (let long = ap length is.1 in omega (arith, length-append old (h ∷ [])))
-kept_more (Err e) None old new is none = absurd is.0
+kept_more (Err e) None old new is none =
+    let some = is.0 in
+    absurd cc
 kept_more (Err e) (Some r) old new is none = absurd cc
 
 -- One more element is appended for which the property holds.
 pub more_all : {X : Type 0} (P : X → Type 0) (old new : List X) (x : X) → All P old → P x → new ≡ old ++ x ∷ [] → All P new
 more_all {X} P old new x all it is = subst (λ (l : List X). All P l) (sym is) (All-append P old (x ∷ []) all (All-cons P x [] it (All-nil P)))
+
+gone : {X : Type 0} (xs : List X) (n : ℕ) → n ≡ length xs → drop n xs ≡ []
+gone [] zero e = refl
+gone [] (suc n) e = absurd (omega arith)
+gone (x ∷ xs) zero e = absurd (omega arith)
+gone (x ∷ xs) (suc n) e = gone xs n (omega arith)
+
+all_taken : {X : Type 0} (ws : List X) (n : ℕ) → n ≡ length ws → take n (ws ++ []) ≡ ws
+all_taken [] zero e = refl
+all_taken [] (suc n) e = absurd (omega arith)
+all_taken (x ∷ ws) zero e = absurd (omega arith)
+all_taken (x ∷ ws) (suc n) e = ap (λ l. x ∷ l) (all_taken ws n (omega arith))
+
+-- A list into which as many elements are written as it has contains just these.
+pub refilled : {X : Type 0} (xs ws : List X) → length ws ≡ length xs → refill (length xs) xs ws ≡ ws
+refilled xs ws long = (λ i. take (length xs) (ws ++ gone xs (length ws) long i)) ∙ all_taken ws (length xs) (sym long)

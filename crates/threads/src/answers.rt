@@ -1,5 +1,5 @@
 //! Turns what threads and checks report into evidence and into the errors of `muster`.
-ghost use Rattle.std.specs.Prelude.{◌≡◌, ◌<◌, ◌++◌, ◌∷◌, [], None, Ok, Err, length, vec_capacity, IsSome, MatchBool, MatchOption, MatchResult};
+ghost use Rattle.std.specs.Prelude.{◌≡◌, ◌<◌, ◌≤◌, ◌++◌, ◌∷◌, [], None, Ok, Err, length, vec_capacity, IsSome, MatchBool, MatchOption, MatchResult};
 ghost use Rattle.threads.specs.declared.error.MusterError.TheVariants.{Unaccounted};
 
 use crate::error::MusterError;
@@ -45,7 +45,7 @@ pub(crate) fn kept<H: Drop>(handles: &mut Vec<H>, started: io::Result<H>) -> Opt
     ensures handle { MatchResult started
         (λ handle. (result ≡ None) × (handles.new.items ≡ handles.old.items ++ handle ∷ []))
         (λ _. IsSome result × (handles.new.items ≡ handles.old.items)) }
-    ensures room { vec_capacity handles.new ≡ vec_capacity handles.old }
+    ensures room { vec_capacity handles.old ≤ vec_capacity handles.new }
 {
     match started {
         Err(_) => Some(Unstarted(())),

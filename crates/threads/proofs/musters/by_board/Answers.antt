@@ -4,8 +4,10 @@ use mathlib.Core.List.{IsPrefix}
 use Rattle.board.specs.Board.{Access}
 use Rattle.threads.proofs.musters.by_board.Goals as goal
 
-pub judge-requires-clause-all : goal.judge-requires-clause-all
-judge-requires-clause-all g c κs within = ?
+pub judge-judged-requires-clause-all : goal.judge-judged-requires-clause-all
+judge-judged-requires-clause-all g c κs within =
+    let laws = g.met.D.Delivered g.world.𝓛 g.world.𝓜 g.world.𝓡 ((λ s x. x), (λ x. x), (λ x. x), λ x. x) in
+    laws.counted c.args.scenario.now c.in_ok-rounds.rounds.items c.in_ok-rounds.told c.in_ok-rounds.ensures.told ∙ c.in_ok-rounds.ensures.rounds
 
 pub returns-clause-history : goal.returns-clause-history
 returns-clause-history g c =

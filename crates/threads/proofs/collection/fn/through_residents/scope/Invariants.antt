@@ -1,4 +1,4 @@
-use Rattle.std.proofs.Common.{◌≡◌, ◌<◌, ◌≤◌, ◌+◌, ℕ, length, vec_len, slice_index_or}
+use Rattle.std.proofs.Common.{◌≡◌, ◌<◌, ◌≤◌, ◌+◌, ℕ, [], length, vec_len, slice_index_or}
 use Rattle.std.specs.Prelude.{All, vec_capacity}
 use Rattle.threads.specs.Seen.{PosterSeen, poster_seen}
 use Rattle.threads.specs.Inboxes.{AreOwn}
