@@ -1,10 +1,10 @@
--- The reason in the note on a call of `send_row`.
+-- The reasons in the notes on calls of `send` and `send_row`.
 use Rattle.std.proofs.Common.{◌≡◌, ℕ, ◌<◌, ◌≤◌, List, ◌++◌, length, Bool, false, arith, get_or, inl, inr, ◌⊎◌}
 use Rattle.std.proofs.lemmas.Option.{slice_get_cases}
 use Rattle.std.specs.Prelude.{None, Some, codes, slice_get, ◌==◌}
 use Rattle.label.specs.declared.shape.Shape.{Shape}
 use Rattle.label.specs.Relay.{relay}
-use Rattle.trial.specs.Notes.{dotted, no_row}
+use Rattle.trial.specs.Notes.{dotted, no_place, no_row, unheard}
 
 -- Proves what is written if there is a label with this rank that nobody receives.
 unreceived_by : (r : Shape) (rank orders : ℕ) (old new text : List ℕ)
@@ -18,3 +18,16 @@ pub unreceived : (r : Shape) (rank orders : ℕ) (old new text : List ℕ) → r
     → ((label : List ℕ) → slice_get (relay r) rank ≡ Some label → text ≡ dotted label)
     → new ≡ old ++ (codes "nobody receives the label " ++ text) → new ≡ old ++ no_row r rank orders (slice_get (relay r) rank)
 unreceived r rank orders old new text = unreceived_by r rank orders old new text (slice_get_cases (relay r) rank).1
+
+-- Proves what is written if there is a label with this rank that does not go to the receiver.
+unplaced_by : (s : Shape) (rank receiver : ℕ) (old new text such : List ℕ)
+    → (((x : List ℕ) × (rank < length (relay s)) × (slice_get (relay s) rank ≡ Some x) × (get_or (relay s) rank x ≡ x)) ⊎ ((length (relay s) ≤ rank) × (slice_get (relay s) rank ≡ None)))
+    → rank < length (relay s) → ((label : List ℕ) → slice_get (relay s) rank ≡ Some label → text ≡ dotted label)
+    → such ≡ codes "the label " ++ text → new ≡ old ++ unheard s receiver such → new ≡ old ++ no_place s rank receiver (slice_get (relay s) rank)
+unplaced_by s rank receiver old new text such (inl (x, within, is, same)) lt told made e = rw (is, ← told x is, ← made) e
+unplaced_by s rank receiver old new text such (inr (past, none)) lt told made e = absurd (omega (arith, past, lt))
+
+pub unplaced : (s : Shape) (rank receiver : ℕ) (old new text such : List ℕ) → rank < length (relay s)
+    → ((label : List ℕ) → slice_get (relay s) rank ≡ Some label → text ≡ dotted label)
+    → such ≡ codes "the label " ++ text → new ≡ old ++ unheard s receiver such → new ≡ old ++ no_place s rank receiver (slice_get (relay s) rank)
+unplaced s rank receiver old new text such = unplaced_by s rank receiver old new text such (slice_get_cases (relay s) rank).1
