@@ -33,6 +33,7 @@ fn put_named(
 
 /// Adds the values of a line's words to the object. Each of `parts` is what a word may be, and its name in the
 /// object. Returns whether all words fit.
+#[tactic(auto, using(crate::proofs::ValueLemmas::text_fits))]
 pub(crate) fn put_told(
     alloc: Global,
     object: &mut Map<String, Value>,

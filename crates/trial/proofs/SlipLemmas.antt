@@ -1,7 +1,8 @@
 -- Steps that are slips (calls that should send orders, but have no effect), and the slips of a whole run.
 use Rattle.std.proofs.Common.{◌≡◌, ◌∙◌, ℕ, zero, suc, ◌+◌, ◌-◌, ◌<◌, ◌≤◌, List, [], ◌∷◌, ◌++◌, length, Bool, true, false, not, refl, sym, ap, subst, append_assoc, append-nil, arith}
 use Rattle.std.proofs.lemmas.Bool.{ne_eqb}
-use Rattle.std.specs.Prelude.{Option, Some, None, Result, Ok, Err, if◌then◌else◌, ◌==◌}
+use Rattle.std.specs.Prelude.{Option, Some, None, Result, Ok, Err, if◌then◌else◌, ◌==◌, ◌&&◌, nat_lt, ◌^◌}
+use Rattle.std.specs.List.{list_all}
 use Rattle.insn.specs.declared.insn.Insn.{Insn}
 use Rattle.insn.specs.declared.insn.Insn.TheVariants as i
 use Rattle.insn.specs.Program.{instruction_at}
@@ -13,14 +14,15 @@ use Rattle.semantics.specs.declared.request.Request.{Request}
 use Rattle.semantics.specs.Entries.{is_entered}
 use Rattle.semantics.specs.State.{Cause, State, Outcome, Next, Ask, Exit, Trap, entry}
 use Rattle.semantics.specs.Outbox.{Choice, empty_outbox, places_set}
-use Rattle.semantics.specs.Call.{Told, Puts, Enters, attempted, called, helper_of, honest_in, pass_in, resumed, send_in, send_row_in, sent, sign_in, sway_in, told, WhetherNone, HowMany}
+use Rattle.semantics.specs.Call.{Told, Puts, Enters, attempted, called, fits, helper_of, honest_in, pass_in, resumed, send_in, send_row_in, sent, sign_in, sway_in, told, words_of, WhetherNone, HowMany}
 use Rattle.semantics.specs.Execution.{executed, fetched, step}
 use Rattle.semantics.proofs.StepLaws.{resumed_counts}
+use Rattle.board.specs.Board.{Access}
 use Rattle.machine.specs.Standing.{Standing}
 use Rattle.machine.specs.Advance.{IsOfRun}
 use Rattle.trial.specs.Noted.{call_said, says_none}
 use Rattle.trial.specs.Noting.{EndsRun, HasAsked, HasEnded, HasGone, slip_next}
-use Rattle.trial.specs.Slips.{Answering, Rest, answered, call_at, call_by, followed, is_slip, number_at, slip, slip_at, slips_at, slips_from}
+use Rattle.trial.specs.Slips.{Answering, Rest, answered, by_replies, call_at, call_by, followed, is_slip, number_at, slip, slip_at, slips_at, slips_from}
 use Rattle.trial.specs.declared.helper_call.HelperCall.{HelperCall}
 
 -- ---- r0 says whether a call is a slip
@@ -234,3 +236,22 @@ slipped_over answering program context relay steps whole a b calls past h =
     sym (append-nil calls)
     ∙ (ap (λ (l : List HelperCall). calls ++ l) (sym (slips_zero answering program context relay b a.state))
     ∙ (ap (λ (n : ℕ). calls ++ slips_from answering program context relay n b a.state) (sym over) ∙ h.rest))
+
+-- ---- replies of a letter
+
+-- Proves that the first reply answers a request if it has the right length, and otherwise none does.
+pub replies_answer : (access : Access) (rest : List Access) (request : Request) → (length access.reply == words_of request) ≡ true → by_replies (access ∷ rest) request ≡ Some (access.reply, rest)
+replies_answer access rest request is = ap (λ (b : Bool). if b then Some (access.reply, rest) else None) is
+
+pub replies_none : (access : Access) (rest : List Access) (request : Request) → (length access.reply == words_of request) ≡ false → by_replies (access ∷ rest) request ≡ None
+replies_none access rest request is = ap (λ (b : Bool). if b then Some (access.reply, rest) else None) is
+
+both_true : (a b : Bool) → (a && b) ≡ true → b ≡ true
+both_true true b e = e
+both_true false b e = absurd (let h = e in cc)
+
+-- Proves that a reply that fitted one request fits another of the same length.
+pub fits_too : (old request : Request) (words : List ℕ) → fits old words ≡ true → (length words == words_of request) ≡ true → fits request words ≡ true
+fits_too old request words fitted long =
+    let bounded = both_true (length words == words_of old) (list_all (λ word. nat_lt word (2 ^ 64)) words) fitted in
+    ap (λ (b : Bool). b && list_all (λ word. nat_lt word (2 ^ 64)) words) long ∙ bounded

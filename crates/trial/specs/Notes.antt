@@ -75,27 +75,31 @@ abbrev pub unsigned : Shape → List ℕ
 unsigned shape =
     if shape.general == shape.commander then full else codes "only the commander signs orders"
 
--- Writes why `pass_on` passes nothing on: the general holds no chain with this index, he has signed it, or he has made
--- all his entries. `signers` are the signers of the chain, if there is one, and `count` is how many chains he holds.
-abbrev pub not_passed : ℕ → ℕ → ℕ → Option ℕ → List ℕ
-not_passed general index count None =
+-- Writes that a chain's index is too great, because only `count` chains are held, or that none is held.
+abbrev pub unheld : ℕ → ℕ → List ℕ
+unheld index count =
     if count == 0 then codes "no chain is held"
     else codes "chain " ++ decimal index ++ codes " is past the last, " ++ decimal (count - 1)
-not_passed general index count (Some signers) =
+
+-- Writes why a chain with these signers is not passed on: the general is one of them, or has made all his entries.
+abbrev pub signed_already : ℕ → ℕ → ℕ → List ℕ
+signed_already general index signers =
     if bit_at signers general == 1
     then codes "general " ++ decimal general ++ codes " has already signed chain " ++ decimal index
     else full
 
+-- Writes why `pass_on` passes nothing on: the general holds no chain with this index, he has signed it, or he has made
+-- all his entries. `signers` are the signers of the chain, if there is one, and `count` is how many chains he holds.
+abbrev pub not_passed : ℕ → ℕ → ℕ → Option ℕ → List ℕ
+not_passed general index count None = unheld index count
+not_passed general index count (Some signers) = signed_already general index signers
+
 -- Writes why a call has no effect in a campaign with signed messages, where the general holds chains with these
--- signers. The call has the number `first` in r1.
+-- signers. The call has the number `first` in r1. Every other call that sends orders is for oral messages.
 abbrev pub signed_reason : Shape → List ℕ → ℕ → Helper → List ℕ
 signed_reason shape held first SignOrder = unsigned shape
 signed_reason shape held first PassOn = not_passed shape.general first (length held) (slice_get held first)
-signed_reason shape held first Send = codes "messages are signed"
-signed_reason shape held first SendRow = codes "messages are signed"
-signed_reason shape held first Sway = codes "messages are signed"
-signed_reason shape held first Honest = codes "messages are signed"
-signed_reason shape held first _ = []
+signed_reason shape held first _ = codes "messages are signed"
 
 -- Writes why a call has no effect, for messages of this kind.
 abbrev pub reason_of : Kind → Shape → HelperCall → List ℕ
@@ -135,11 +139,16 @@ trial_notes places shape calls = flat_map (note_of places shape) calls
 
 -- The remaining definitions write the notes on a campaign.
 
+-- Writes where a general made a call, such as `note: round 2 general 3 unit 5 `.
+unfoldable pub call_place : ℕ → ℕ → ℕ → List ℕ
+call_place round general unit =
+    codes "note: round " ++ decimal round ++ codes " general " ++ decimal general ++ codes " unit " ++ decimal unit
+    ++ codes " "
+
 -- Writes the note on a slip in the round of a letter: the round, the general, the unit, the helper, and the reason.
 abbrev pub letter_note : Letter → HelperCall → List ℕ
 letter_note l call =
-    codes "note: round " ++ decimal l.round ++ codes " general " ++ decimal l.general ++ codes " unit "
-    ++ decimal call.unit ++ codes " " ++ slip_told (kind_told l.context) l.outbox.relay.shape call
+    call_place l.round l.general call.unit ++ slip_told (kind_told l.context) l.outbox.relay.shape call
 
 -- Writes the notes on the slips in the round of a letter.
 unfoldable pub letter_notes : Letter → List ℕ

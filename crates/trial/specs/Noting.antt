@@ -1,16 +1,18 @@
 -- What is known after a step of a run in which slips are noted (own).
-use Rattle.std.specs.Prelude.{◌≡◌, ◌+◌, ℕ, List, [], ◌++◌}
+use Rattle.std.specs.Prelude.{◌≡◌, ◌+◌, ℕ, List, [], ◌++◌, Some}
 use Rattle.insn.specs.declared.insn.Insn.{Insn}
 use Rattle.insn.specs.Program.{instruction_at}
 use Rattle.semantics.specs.declared.request.Request.{Request}
-use Rattle.semantics.specs.State.{Outcome, Next, Ask, Exit, Trap}
+use Rattle.semantics.specs.Call.{resumed}
+use Rattle.semantics.specs.State.{State, Outcome, Next, Ask, Exit, Trap}
 use Rattle.semantics.specs.Execution.{step}
+use Rattle.board.specs.Board.{Access}
 use Rattle.machine.specs.Standing.{Standing}
 use Rattle.machine.specs.Advance.{IsAskOfRun, IsOfRun}
 use Rattle.trial.specs.declared.helper_call.HelperCall.{HelperCall}
 use Rattle.trial.specs.declared.turn.Turn.{Turn}
 use Rattle.trial.specs.declared.turn.Turn.TheVariants.{Onward, Asked, Ended}
-use Rattle.trial.specs.Slips.{slip_at}
+use Rattle.trial.specs.Slips.{by_replies, slip_at}
 
 -- States that a run ends with this outcome.
 abbrev pub EndsRun : Outcome → Type 0
@@ -49,3 +51,11 @@ abbrev pub IsNoted : List Insn → List ℕ → Standing → List HelperCall →
 IsNoted program context a old Onward b new = HasGone program context a b old new
 IsNoted program context a old (Asked request) b new = HasAsked program context request a b old new
 IsNoted program context a old Ended b new = HasEnded program context a old new
+
+-- States that the first of these replies is the answer to a request that led to the state s, that `rest` are the others,
+-- and that the answer leads to the state t.
+pub record IsAnswered (replies : List Access) (request : Request) (s : State) (rest : List Access)
+    (t : State) : Type 0 where
+  pub answer : List ℕ
+  pub first : by_replies replies request ≡ Some (answer, rest)
+  pub state : t ≡ resumed request answer s

@@ -75,7 +75,7 @@ impl HeldChains {
 
     /// Returns the set of signers of each chain, or `None` if messages are oral.
     pub fn signers(&self) -> Option<&[u16]>
-        ensures { kind_seen result.entry ≡ self.now }
+        ensures { kind_seen result ≡ self.now }
     {
         match &self.signers {
             None => None,

@@ -1,11 +1,14 @@
 //! Lists the slips in the round of a letter: the calls of a traitor's program that should send orders, but have no
 //! effect.
-ghost use Rattle.std.specs.Prelude.{◌≡◌, ◌==◌, [], IfOk, length};
+ghost use Rattle.std.specs.Prelude.{◌≡◌, ◌==◌, ℕ, List, [], None, IfNone, IfOk, IfSome, length};
+ghost use Rattle.insn.specs.declared.insn.Insn.{Insn};
+ghost use Rattle.machine.specs.Advance.{IsAskOfRun, IsOfRun};
 ghost use Rattle.semantics.specs.Call.{words_of};
 ghost use Rattle.semantics.specs.Outbox.{empty_outbox};
 ghost use Rattle.semantics.specs.Replies.{words_in};
 ghost use Rattle.semantics.specs.State.{entry};
 ghost use Rattle.round.specs.Runs.{AreFitting};
+ghost use Rattle.trial.specs.Noting.{IsAnswered};
 ghost use Rattle.trial.specs.Slips.{by_replies, letter_slips, slips_from};
 
 use crate::held_chains::HeldChains;
@@ -65,19 +68,43 @@ fn replayed_slips(
         match step_noted(&mut calls, verified, context, &mut activation)? {
             Turn::Onward => {}
             Turn::Asked(request) => {
-                let [access, further @ ..] = rest else {
+                let Some(further) = answered(&mut activation, &request, rest) else {
                     return Ok(calls);
                 };
-                if !has_its_length(&request, access.reply()) {
-                    return Ok(calls);
-                }
-                activation.resume(&request, access.reply());
                 rest = further;
             }
             Turn::Ended => return Ok(calls),
         }
     }
     Ok(calls)
+}
+
+/// Resumes the activation with the first of these replies, and returns the others. Returns `None`, and changes nothing, if
+/// there is no reply, or if it has another length than the request asks for.
+#[tactic(auto, using(crate::proofs::SlipLemmas::replies_answer, crate::proofs::SlipLemmas::replies_none, crate::proofs::SlipLemmas::fits_too))]
+fn answered<'a>(
+    activation: &mut Machine,
+    request: &Request,
+    replies: &'a [Access],
+) -> Option<&'a [Access]>
+    requires { AreFitting replies.now }
+    ensures relay { activation.new.relay ≡ activation.old.relay }
+    ensures some { IfSome result (λ rest. IsAnswered replies.now request.now activation.old.state rest.now
+        activation.new.state) }
+    ensures none { IfNone result (by_replies replies.now request.now ≡ None) }
+    ensures fitting { IfSome result (λ rest. AreFitting rest.now) }
+    ensures of_run { IfSome result (λ rest. (program : List Insn) (context : List ℕ) →
+        IsAskOfRun program context request.now activation.old → IsOfRun program context activation.new) }
+{
+    let [access, rest @ ..] = replies else {
+        return None;
+    };
+    let reply = access.reply();
+    if !has_its_length(request, reply) {
+        return None;
+    }
+    activation.resume(request, reply);
+    Some(rest)
 }
 
 /// Checks whether a reply has as many words as the request asks for.

@@ -3,7 +3,7 @@ ghost use Rattle.std.specs.Prelude.{◌≡◌, ◌++◌, List, flat_map, slice_g
 ghost use Rattle.label.specs.Relay.{IsShape};
 ghost use Rattle.semantics.specs.Relay.{Oral};
 ghost use Rattle.trial.specs.Slips.{kind_told};
-ghost use Rattle.trial.specs.Notes.{campaign_notes, in_brackets, letter_note, letter_notes, note_of, place_of, slip_told, trial_notes, unit_told};
+ghost use Rattle.trial.specs.Notes.{call_place, campaign_notes, in_brackets, letter_note, letter_notes, note_of, place_of, slip_told, trial_notes, unit_told};
 
 use crate::held_chains::HeldChains;
 use crate::helper_call::HelperCall;
@@ -142,8 +142,23 @@ fn put_letter_notes(alloc: Global, out: &mut String, letter: &Letter) -> Result<
     letter.recall();
     let calls = letter_slips(alloc, letter)?;
     let held = HeldChains::told_in(alloc, letter.context.as_slice())?;
-    for call in calls.as_slice() {
-        put_letter_note(alloc, out, &held, letter, *call)?;
+    put_call_notes(alloc, out, &held, letter, calls.as_slice())
+}
+
+/// Appends a note for each of these calls, which are slips in the round of a letter.
+fn put_call_notes(
+    alloc: Global,
+    out: &mut String,
+    held: &HeldChains,
+    letter: &Letter,
+    calls: &[HelperCall],
+) -> Result<(), AllocError>
+    requires { held.now ≡ kind_told letter.now.context }
+    ensures { OnOk result (string_bytes out.new ≡ string_bytes out.old
+        ++ flat_map (letter_note letter.now) calls.now) }
+{
+    for call in calls {
+        put_letter_note(alloc, out, held, letter, *call)?;
     }
     Ok(())
 }
@@ -159,8 +174,14 @@ fn put_letter_note(
     requires { held.now ≡ kind_told letter.now.context }
     ensures { OnOk result (string_bytes out.new ≡ string_bytes out.old ++ letter_note letter.now call) }
 {
-    let Letter { general, round, .. } = letter;
-    let unit = call.unit;
-    write!(out, "note: round {round} general {general} unit {unit} ")?;
+    put_call_place(out, letter.round, letter.general, call.unit)?;
     put_slip(alloc, out, held, letter.outbox.shape(), call)
+}
+
+/// Appends where a general made a call, such as `note: round 2 general 3 unit 5 `.
+#[tactic(auto, unfolding(crate::specs::Notes::call_place))]
+fn put_call_place(out: &mut String, round: u32, general: u32, unit: usize) -> Result<(), AllocError>
+    ensures { OnOk result (string_bytes out.new ≡ string_bytes out.old ++ call_place round general unit) }
+{
+    write!(out, "note: round {round} general {general} unit {unit} ")
 }

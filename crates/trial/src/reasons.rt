@@ -1,8 +1,8 @@
 //! Explains in text why a program's call of a helper such as `send` has no effect.
-ghost use Rattle.std.specs.Prelude.{◌≡◌, ◌<◌, ◌∷◌, ◌++◌, if◌then◌else◌, ◌==◌, List, ℕ, Some, None, length, slice_get, string_bytes, IfOk, OnOk};
+ghost use Rattle.std.specs.Prelude.{◌≡◌, ◌<◌, ◌∷◌, ◌++◌, if◌then◌else◌, ◌==◌, List, ℕ, Some, length, slice_get, string_bytes, IfOk, OnOk};
 ghost use Rattle.std.specs.Int.{bit_at};
 ghost use Rattle.label.specs.Relay.{IsShape, relay};
-ghost use Rattle.trial.specs.Notes.{dotted, full, no_label, no_place, no_row, not_passed, oral_reason, passed_over, past, reason_of, signed_reason, unheard, unsigned};
+ghost use Rattle.trial.specs.Notes.{dotted, full, no_label, no_place, no_row, not_passed, oral_reason, passed_over, past, reason_of, signed_already, signed_reason, unheard, unheld, unsigned};
 
 use crate::held_chains::HeldChains;
 use crate::helper_call::HelperCall;
@@ -54,7 +54,7 @@ fn put_oral_reason(
 }
 
 /// Appends the reason why a call has no effect in a campaign with signed messages. `held` has the signers of each chain
-/// that the general holds. Appends nothing for a helper that sends no orders.
+/// that the general holds.
 fn put_signed_reason(
     out: &mut String,
     shape: Shape,
@@ -68,10 +68,7 @@ fn put_signed_reason(
     match call.helper {
         Helper::SignOrder => put_unsigned(out, shape),
         Helper::PassOn => put_not_passed(out, shape.general, held, call.first),
-        Helper::Send | Helper::SendRow | Helper::Sway | Helper::Honest => {
-            out.push_str("messages are signed")
-        }
-        _ => Ok(()),
+        _ => out.push_str("messages are signed"),
     }
 }
 
@@ -112,7 +109,7 @@ fn put_not_passed(
 
 /// Appends that a chain's index is too great, because only `count` chains are held, or that none is held.
 fn put_unheld(out: &mut String, count: usize, index: u64) -> Result<(), AllocError>
-    ensures { OnOk result (string_bytes out.new ≡ string_bytes out.old ++ not_passed 0 index count None) }
+    ensures { OnOk result (string_bytes out.new ≡ string_bytes out.old ++ unheld index count) }
 {
     if count == 0 {
         return out.push_str("no chain is held");
@@ -130,8 +127,7 @@ fn put_signed_already(
     index: u64,
 ) -> Result<(), AllocError>
     requires { general < 16 }
-    ensures { (count : ℕ) → OnOk result (string_bytes out.new ≡ string_bytes out.old
-        ++ not_passed general index count (Some signers)) }
+    ensures { OnOk result (string_bytes out.new ≡ string_bytes out.old ++ signed_already general index signers) }
 {
     if has_signed(signers, general) {
         return write!(out, "general {general} has already signed chain {index}");
