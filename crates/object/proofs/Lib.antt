@@ -4,3 +4,4 @@ pub mod EntryLemmas
 pub mod RowLemmas
 pub mod NameLemmas
 pub mod TextLemmas
+pub mod OrderLemmas
