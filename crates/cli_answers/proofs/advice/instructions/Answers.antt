@@ -9,16 +9,16 @@ pub loop-quoted-preserved-in-Some : goal.loop-quoted-preserved-in-Some
 loop-quoted-preserved-in-Some c =
     quoted_more c.loop-quoted.items.items c.push.new.self.items c.in_ok-spelled.field-0 (pieces quote c.loop-quoted.rest.now) (pieces quote c.in-Some.behind.now)
     c.piece.result.0.now c.piece-in_default-Some.result.0.now _
-    (rw c.in-Some.is at two_given quote c.piece.result.0.now c.in_default-Some.quoted.now c.piece-in_default-Some.result.0.now (pieces quote c.loop-quoted.rest.now)
-    c.piece-in_default-Some.result.1 (rw c.in_default-Some.is-1 at c.piece.ensures.first) c.piece-in_default-Some.ensures.first)
+    (rw c.in-Some.is at (two_given quote c.piece.result.0.now c.in_default-Some.quoted.now c.piece-in_default-Some.result.0.now (pieces quote c.loop-quoted.rest.now)
+    c.piece-in_default-Some.result.1 (rw c.in_default-Some.is-1 at c.piece.ensures.first) c.piece-in_default-Some.ensures.first))
     c.in_ok-push.ensures.items c.in_ok-spelled.ensures c.loop-quoted.invariant
 
 pub loop-quoted-preserved : goal.loop-quoted-preserved
 loop-quoted-preserved c =
     quoted_more c.loop-quoted.items.items c.push.new.self.items c.in_ok-spelled.field-0 (pieces quote c.loop-quoted.rest.now) []
     c.piece.result.0.now c.piece-in_default-Some.result.0.now _
-    (rw c.in-None.is at two_given quote c.piece.result.0.now c.in_default-Some.quoted.now c.piece-in_default-Some.result.0.now (pieces quote c.loop-quoted.rest.now)
-    c.piece-in_default-Some.result.1 (rw c.in_default-Some.is-1 at c.piece.ensures.first) c.piece-in_default-Some.ensures.first)
+    (rw c.in-None.is at (two_given quote c.piece.result.0.now c.in_default-Some.quoted.now c.piece-in_default-Some.result.0.now (pieces quote c.loop-quoted.rest.now)
+    c.piece-in_default-Some.result.1 (rw c.in_default-Some.is-1 at c.piece.ensures.first) c.piece-in_default-Some.ensures.first))
     c.in_ok-push.ensures.items c.in_ok-spelled.ensures c.loop-quoted.invariant
 
 pub returns : goal.returns
