@@ -111,6 +111,15 @@ fn edit_by(alloc: Global, added: Vec<Value>, text: &[u8]) -> Result<Option<Value
     }
 }
 
+/// Returns the edit whose instructions a help has between backquotes, or `None` if the text after them does not say where
+/// they are put.
+fn edit_in(alloc: Global, help: &[u8]) -> Result<Option<Value>, AllocError>
+    ensures { IfOk result (λ o. option_map view o
+        ≡ edit_by (instructions (pieces quote help.now)) (last_piece (pieces quote help.now))) }
+{
+    edit_by(alloc, instructions(alloc, help)?, behind_quotes(help))
+}
+
 /// Returns the edit that a help describes, such as ``with `and r2, 7` before unit 4 the program is accepted``. Returns
 /// `None` if the help describes no edit.
 #[tactic(auto, unfolding(crate::specs::Advice::edit_of))]
@@ -118,10 +127,11 @@ fn edit_of(alloc: Global, help: &[u8]) -> Result<Option<Value>, AllocError>
     ensures { IfOk result (λ o. option_map view o ≡ edit_of help.now) }
 {
     let (front, _) = cut(QUOTE, help);
-    if front != b"with ".as_slice() {
-        return Ok(None);
+    if front == b"with ".as_slice() {
+        edit_in(alloc, help)
+    } else {
+        Ok(None)
     }
-    edit_by(alloc, instructions(alloc, help)?, behind_quotes(help))
 }
 
 /// Adds an edit to the object. Nothing is added for `None`.
