@@ -1,16 +1,44 @@
 -- The counts of a survey's outcomes as a picture in SVG (own).
-use Rattle.std.specs.Prelude.{ℕ, ◌+◌, ◌-◌, ◌*◌, ◌/◌, ◌==◌, nat_lt, not, Bool, true, false, ◌&&◌, ◌||◌, cond, List, [], ◌∷◌, ◌++◌, flat_map, decimal, codes, Option, None, Some}
+use Rattle.std.specs.Prelude.{ℕ, ◌+◌, ◌-◌, ◌*◌, ◌/◌, ◌==◌, nat_lt, min, max, not, Bool, true, false, ◌&&◌, ◌||◌, cond, List, [], ◌∷◌, ◌++◌, flat_map, decimal, codes, Option, None, Some}
 use Rattle.std.specs.List.{range_with_len}
+use Rattle.surveys.specs.declared.columns.Columns.{Columns}
 use Rattle.surveys.specs.declared.group.Group.{Group}
 
--- Writes the start of every picture: its SVG tag up to the width.
+-- Writes the start of every picture: its SVG tag up to its size.
 unfoldable pub start : List ℕ
-start = codes "<svg xmlns=\"http://www.w3.org/2000/svg\" role=\"img\" width=\"840\""
+start = codes "<svg xmlns=\"http://www.w3.org/2000/svg\" role=\"img\""
 
--- Writes the height of a picture, in pixels, in its SVG tag, and ends the tag.
-unfoldable pub size : ℕ → List ℕ
-size height =
-    codes " height=\"" ++ (decimal height ++ (codes "\" viewBox=\"0 0 840 " ++ (decimal height ++ codes "\">\n")))
+-- Writes the size of a picture, in pixels, in its SVG tag, and ends the tag.
+unfoldable pub size : ℕ → ℕ → List ℕ
+size width height = codes " width=\""
+    ++ (decimal width ++ (codes "\" height=\"" ++ (decimal height ++ (codes "\" viewBox=\"0 0 "
+    ++ (decimal width ++ (codes " " ++ (decimal height ++ codes "\">\n")))))))
+
+-- Returns the least number of traitors of these groups, or 14 without groups.
+abbrev pub least : List Group → ℕ
+least [] = 14
+least (g ∷ groups) = min g.traitors (least groups)
+
+-- Returns the greatest number of traitors of these groups plus 1, or 0 without groups.
+abbrev pub end_of : List Group → ℕ
+end_of [] = 0
+end_of (g ∷ groups) = max (g.traitors + 1) (end_of groups)
+
+-- Returns the columns of a picture of these groups: one for each number of traitors from the least to the greatest.
+abbrev pub columns_of : List Group → Columns
+columns_of groups = record { first = least groups; end = end_of groups }
+
+-- Returns how many columns a picture has.
+abbrev pub count : Columns → ℕ
+count cs = cs.end - cs.first
+
+-- Returns the x coordinate at which the column of t traitors begins. Each column is 50 pixels wide.
+abbrev pub left : Columns → ℕ → ℕ
+left cs t = 120 + 50 * (t - cs.first)
+
+-- Returns the width of a picture, with room for its columns and its legend.
+abbrev pub width : Columns → ℕ
+width cs = max (140 + 50 * count cs) 680
 
 -- Writes the title, the description, the style sheet and the legend of a picture.
 unfoldable pub head : List ℕ
@@ -23,7 +51,7 @@ head =
     ++ codes "<style>svg{background:#fff}text{fill:#111;font:14px sans-serif}"
     ++ codes ".bar{fill:#b00020}.base,.limit{fill:none;stroke:#767676}"
     ++ codes ".limit{stroke:#0b57d0;stroke-width:2;stroke-dasharray:6 3}"
-    ++ codes ".kept{fill:#d7f0da}.share{font-size:11px;text-anchor:middle}"
+    ++ codes ".kept{fill:#d7f0da}.share{font-size:12px;text-anchor:middle}"
     ++ codes "@media(prefers-color-scheme:dark){svg{background:#111}text{fill:#eee}"
     ++ codes ".bar{fill:#ff6b7a}.limit{stroke:#8ab4f8}"
     ++ codes ".kept{fill:#143d1b}}</style>\n"
@@ -34,13 +62,13 @@ head =
     ++ codes "<text x=\"10\" y=\"84\">traitors</text>\n"
 
 -- Writes the number of traitors above its column.
-unfoldable pub column : ℕ → List ℕ
-column t = codes "<text class=\"share\" x=\""
-    ++ (decimal (145 + 50 * t) ++ (codes "\" y=\"84\">" ++ (decimal t ++ codes "</text>\n")))
+unfoldable pub column : Columns → ℕ → List ℕ
+column cs t = codes "<text class=\"share\" x=\""
+    ++ (decimal (left cs t + 25) ++ (codes "\" y=\"84\">" ++ (decimal t ++ codes "</text>\n")))
 
--- Writes the numbers of traitors, 0 to 13, above the columns.
-abbrev pub columns : List ℕ
-columns = flat_map column (range_with_len 0 14)
+-- Writes the numbers of traitors above the columns.
+abbrev pub column_heads : Columns → List ℕ
+column_heads cs = flat_map (column cs) (range_with_len cs.first (count cs))
 
 -- Checks whether a group begins a row of the picture. It does if it is the first group, or if the group before it has
 -- another number of generals or another bound.
@@ -65,32 +93,37 @@ stand row = codes "<text x=\"10\" y=\"" ++ (decimal (72 + 44 * row) ++ codes "\"
 unfoldable pub name : Group → List ℕ
 name g = codes "n = " ++ (decimal g.generals ++ (codes ", m = " ++ (decimal g.bound ++ codes "</text>")))
 
--- Writes the horizontal line below the bars of a row.
-unfoldable pub base : ℕ → List ℕ
-base row = codes "<path class=\"base\" d=\"M120 " ++ (decimal (74 + 44 * row) ++ codes "h700\"/>")
+-- Writes the horizontal line below the bars of a row, which is as long as all columns are wide.
+unfoldable pub base : Columns → ℕ → List ℕ
+base cs row = codes "<path class=\"base\" d=\"M120 "
+    ++ (decimal (74 + 44 * row) ++ (codes "h" ++ (decimal (50 * count cs) ++ codes "\"/>")))
 
--- Writes the dashed vertical line of a row. It is right of the column of the greatest number of traitors t for which
--- the row has at least 3t + 1 generals.
-unfoldable pub limit : ℕ → Group → List ℕ
-limit row g = codes "<path class=\"limit\" d=\"M"
-    ++ (decimal (120 + 50 * ((g.generals - 1) / 3 + 1))
+-- Returns the x coordinate of a row's dashed line. It is left of the columns of the numbers of traitors t for which n
+-- generals are at most 3t, and right of the others.
+abbrev pub limit_left : Columns → ℕ → ℕ
+limit_left cs n = min (left cs ((n - 1) / 3 + 1)) (120 + 50 * count cs)
+
+-- Writes the dashed vertical line of a row.
+unfoldable pub limit : Columns → ℕ → Group → List ℕ
+limit cs row g = codes "<path class=\"limit\" d=\"M"
+    ++ (decimal (limit_left cs g.generals)
     ++ (codes " " ++ (decimal (44 + 44 * row) ++ codes "v44\"/>\n")))
 
 -- Writes the label, the base line and the dashed line of a row.
-abbrev pub label : ℕ → Group → List ℕ
-label row g = stand row ++ name g ++ base row ++ limit row g
+abbrev pub label : Columns → ℕ → Group → List ℕ
+label cs row g = stand row ++ name g ++ base cs row ++ limit cs row g
 
 -- Writes the label and the lines of a row if the group begins this row, and otherwise nothing.
-abbrev pub start_of : ℕ → Group → Bool → List ℕ
-start_of row g true = label row g
-start_of row g false = []
+abbrev pub start_of : Columns → ℕ → Group → Bool → List ℕ
+start_of cs row g true = label cs row g
+start_of cs row g false = []
 
 -- Writes the green background of a group's cell, if the bound holds in some of the group's campaigns.
-unfoldable pub kept : ℕ → Group → List ℕ
-kept row g =
+unfoldable pub kept : Columns → ℕ → Group → List ℕ
+kept cs row g =
     cond (g.sums.kept.count == 0) []
     (codes "<rect class=\"kept\" x=\""
-    ++ (decimal (120 + 50 * g.traitors)
+    ++ (decimal (left cs g.traitors)
     ++ (codes "\" y=\"" ++ (decimal (44 + 44 * row) ++ codes "\" width=\"50\" height=\"44\"/>\n"))))
 
 -- Returns the part of `whole` that is as large as the share of the failed campaigns in a group, rounded down. It is 0
@@ -103,8 +136,8 @@ unfoldable pub counts : Group → List ℕ
 counts g = codes "<g><title>" ++ (decimal g.failed ++ (codes " of " ++ (decimal g.sums.campaigns ++ codes "</title>")))
 
 -- Writes the start of the SVG tag of a group's bar, up to its horizontal position.
-unfoldable pub side : Group → List ℕ
-side g = codes "<rect class=\"bar\" x=\"" ++ (decimal (125 + 50 * g.traitors) ++ codes "\"")
+unfoldable pub side : Columns → Group → List ℕ
+side cs g = codes "<rect class=\"bar\" x=\"" ++ (decimal (left cs g.traitors + 5) ++ codes "\"")
 
 -- Writes the end of a bar's SVG tag: its vertical position, its width and its height, in pixels.
 unfoldable pub rise : ℕ → ℕ → List ℕ
@@ -112,8 +145,8 @@ rise row height = codes " y=\""
     ++ (decimal (74 + 44 * row - height) ++ (codes "\" width=\"40\" height=\"" ++ (decimal height ++ codes "\"/></g>")))
 
 -- Writes the bar of a group's cell in row `row`.
-abbrev pub bar : ℕ → Group → List ℕ
-bar row g = side g ++ rise row (share_of 28 g)
+abbrev pub bar : Columns → ℕ → Group → List ℕ
+bar cs row g = side cs g ++ rise row (share_of 28 g)
 
 -- Writes the share of a group's failed campaigns in per cent, rounded down. If only some failed, but less than 1 per
 -- cent, it is `<1%`, escaped for XML.
@@ -121,31 +154,33 @@ unfoldable pub percent : Group → List ℕ
 percent g = cond (share_of 100 g == 0 && nat_lt 0 g.failed) (codes "&lt;1%") (decimal (share_of 100 g) ++ codes "%")
 
 -- Writes the start of the label below a group's bar: an SVG tag with its position.
-unfoldable pub place : ℕ → Group → List ℕ
-place row g = codes "<text class=\"share\" x=\""
-    ++ (decimal (145 + 50 * g.traitors) ++ (codes "\" y=\"" ++ (decimal (85 + 44 * row) ++ codes "\">")))
+unfoldable pub place : Columns → ℕ → Group → List ℕ
+place cs row g = codes "<text class=\"share\" x=\""
+    ++ (decimal (left cs g.traitors + 25) ++ (codes "\" y=\"" ++ (decimal (85 + 44 * row) ++ codes "\">")))
 
 -- Writes the cell of a group in row `row`: its title, its bar and its label.
-abbrev pub cell : ℕ → Group → List ℕ
-cell row g = counts g ++ bar row g ++ place row g ++ percent g ++ codes "</text>\n"
+abbrev pub cell : Columns → ℕ → Group → List ℕ
+cell cs row g = counts g ++ bar cs row g ++ place cs row g ++ percent g ++ codes "</text>\n"
 
 -- Writes the backgrounds of the groups' cells, which are drawn below everything else. `row` is the number of rows
 -- before these groups, and `before` is the group before them, if there is one.
-abbrev pub grounds : ℕ → Option Group → List Group → List ℕ
-grounds row before [] = []
-grounds row before (g ∷ groups) =
+abbrev pub grounds : Columns → ℕ → Option Group → List Group → List ℕ
+grounds cs row before [] = []
+grounds cs row before (g ∷ groups) =
     let here = row + cond (begins before g) 1 0 in
-    kept here g ++ grounds here (Some g) groups
+    kept cs here g ++ grounds cs here (Some g) groups
 
 -- Writes the groups' cells, with the label and the lines of each row. `row` is the number of rows before these groups,
 -- and `before` is the group before them, if there is one.
-abbrev pub cells : ℕ → Option Group → List Group → List ℕ
-cells row before [] = []
-cells row before (g ∷ groups) =
+abbrev pub cells : Columns → ℕ → Option Group → List Group → List ℕ
+cells cs row before [] = []
+cells cs row before (g ∷ groups) =
     let here = row + cond (begins before g) 1 0 in
-    start_of here g (begins before g) ++ cell here g ++ cells here (Some g) groups
+    start_of cs here g (begins before g) ++ cell cs here g ++ cells cs here (Some g) groups
 
 -- Writes the picture of these groups in SVG.
 unfoldable pub picture_text : List Group → List ℕ
-picture_text groups = start ++ size (94 + 44 * rows_of groups) ++ head ++ columns ++ grounds 0 None groups
-    ++ cells 0 None groups ++ codes "</svg>\n"
+picture_text groups =
+    let cs = columns_of groups in
+    start ++ size (width cs) (94 + 44 * rows_of groups) ++ head ++ column_heads cs ++ grounds cs 0 None groups
+    ++ cells cs 0 None groups ++ codes "</svg>\n"

@@ -14,6 +14,7 @@ mod campaign_groups;
 mod campaign_order;
 mod cell;
 mod cells;
+mod columns;
 mod copies;
 mod counts;
 mod coverage;
