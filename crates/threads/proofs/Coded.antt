@@ -1,13 +1,14 @@
 -- Which error a muster reports: the table by which it is found, and the conditions for each error, say the same.
 use Rattle.std.proofs.Common.{◌≡◌, ◌≢◌, sym, ◌∙◌, refl}
-use Rattle.std.specs.Prelude.{◌↔◌, Option, Some, None, IsSomeAnd}
+use Rattle.std.specs.Prelude.{◌↔◌, Option, Some, None, IfSome, IsSomeAnd}
+use Rattle.board.specs.Ledger.{RecordedBoard}
 use Rattle.threads.specs.declared.error.MusterError.{MusterError}
 use Rattle.threads.specs.declared.error.MusterError.TheVariants as errors
 use Rattle.threads.specs.declared.failure.Failure.{Failure}
 use Rattle.threads.specs.declared.failure.Failure.TheVariants as failures
 use Rattle.threads.specs.declared.halt.Halt.{Halt}
 use Rattle.threads.specs.declared.halt.Halt.TheVariants.{Unprepared, Unstarted, Memory, Failed, Strayed, Unlike}
-use Rattle.threads.specs.Outcomes.{error_by, failure_as, halt_as, IsDecidedBy, IsForeign, IsOutOfMemory, IsRefused, IsReturned, IsUnfit, IsUnstarted}
+use Rattle.threads.specs.Outcomes.{error_by, IfUnlike, failure_as, halt_as, IsDecidedBy, IsForeign, IsOutOfMemory, IsRefused, IsReturned, IsUnfit, IsUnstarted}
 
 -- The error `e` is `x`, and so it is `m` exactly if `x` is.
 same : {B : Type 0} (x e m : MusterError) → Some x ≡ Some e → (x ≡ m ↔ B) → (e ≡ m ↔ B)
@@ -125,3 +126,13 @@ thread_by (Some Memory) None e is = never errors.Memory e is (λ no. cc)
 thread_by (Some (Failed x)) None e is = never errors.Unaccounted e is (λ no. cc)
 thread_by (Some (Strayed x)) None e is = never errors.Unaccounted e is (λ no. cc)
 thread_by (Some (Unlike x)) None e is = never errors.Unaccounted e is (λ no. cc)
+
+-- Whatever is to hold of a board that does not account for the letters, if no board was compared with them.
+pub unlike_never : (o : Option Halt) (P : RecordedBoard → Type 0) → IfSome o (λ h. IfUnlike h (λ b. ⊥)) → IfSome o (λ h. IfUnlike h P)
+unlike_never None P none = tt
+unlike_never (Some Unprepared) P none = tt
+unlike_never (Some (Unstarted x)) P none = tt
+unlike_never (Some Memory) P none = tt
+unlike_never (Some (Failed x)) P none = tt
+unlike_never (Some (Strayed x)) P none = tt
+unlike_never (Some (Unlike x)) P none = absurd none

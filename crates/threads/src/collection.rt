@@ -4,7 +4,7 @@ ghost use Rattle.round.specs.Letters.{Letter as LetterSeen};
 ghost use Rattle.threads.specs.Seen.{PosterSeen, poster_seen};
 ghost use Rattle.threads.specs.Answers.{AreAscending, HasAllStarted};
 ghost use Rattle.threads.specs.Inboxes.{AreOwn};
-ghost use Rattle.threads.specs.Outcomes.{LacksMemory, LacksAccount, LacksThread, LacksRoom, HasAnEndForEach, IsHaltOf};
+ghost use Rattle.threads.specs.Outcomes.{LacksMemory, LacksAccount, LacksThread, LacksRoom, HasAnEndForEach, IfUnlike, IsHaltOf};
 ghost use Rattle.threads.specs.Served.{IsGated};
 ghost use Rattle.threads.specs.declared.error.MusterError.TheVariants.{Memory, Unaccounted, Spawn, Post};
 ghost use Rattle.threads.specs.declared.halt.Halt.TheVariants.{Unstarted as NotStarted};
@@ -72,6 +72,7 @@ pub(crate) fn collect<
     ensures post { IfErr result (λ failed. failed.error ≡ Post ↔ LacksRoom failed.outcomes) }
     ensures ends { IfErr result (λ failed. HasAnEndForEach scenario.now.generals failed.outcomes) }
     ensures found { IfErr result (λ failed. IfSome failed.outcomes.halt (IsHaltOf D.kind scenario.now)) }
+    ensures unjudged { IfErr result (λ failed. IfSome failed.outcomes.halt (λ halt. IfUnlike halt (λ _. ⊥))) }
 {
     let (camp, posters, collector) = Crew::<G, J, C>::new(alloc, scenario.generals(), gate, board)?;
     let ending = through_residents::<R, G, J, C, D>(
@@ -117,6 +118,7 @@ fn through_residents<
         (λ ending. HasAllStarted ending.outcome → length ending.generals.items ≡ length posters.items) }
     ensures ascending { IfOk result (λ ending. AreAscending ending.generals.items) }
     ensures found { IfOk result (λ ending. IfErr ending.outcome (IsHaltOf D.kind scenario.now)) }
+    ensures unjudged { IfOk result (λ ending. IfErr ending.outcome (λ halt. IfUnlike halt (λ _. ⊥))) }
     ensures rounds { IfOk result
         (λ ending. IfOk ending.outcome (λ r. length r.0.items ≡ suc scenario.now.bound)) }
     ensures told { IfOk result (λ ending. IfOk ending.outcome (λ r. D.was_told scenario.now r.0.items r.1)) }
@@ -144,6 +146,7 @@ fn through_residents<
             ensures all { HasAllStarted result.outcome → length result.generals.items ≡ length posters.entry.items }
             ensures ascending { AreAscending result.generals.items }
             ensures found { IfErr result.outcome (IsHaltOf D.kind scenario.entry.now) }
+            ensures unjudged { IfErr result.outcome (λ halt. IfUnlike halt (λ _. ⊥)) }
             ensures rounds { IfOk result.outcome (λ r. length r.0.items ≡ suc scenario.entry.now.bound) }
             ensures told { IfOk result.outcome (λ r. D.was_told scenario.entry.now r.0.items r.1) }
             ensures claims { IfOk result.outcome (λ r. All (λ letters. All C.holds letters) r.0.items) }
@@ -197,6 +200,7 @@ fn finish<R: Threads + Wait, G, J: Room, C: Claim, D: Delivered>(
     ensures all { length result.generals.items ≡ length handles.items }
     ensures ascending { AreAscending result.generals.items }
     ensures found { IfErr result.outcome (IsHaltOf D.kind scenario.now) }
+    ensures unjudged { IfErr result.outcome (λ halt. IfUnlike halt (λ _. ⊥)) }
     ensures rounds { IfOk result.outcome (λ r. length r.0.items ≡ suc scenario.now.bound) }
     ensures told { IfOk result.outcome (λ r. D.was_told scenario.now r.0.items r.1) }
     ensures claims { IfOk result.outcome (λ r. All (λ letters. All C.holds letters) r.0.items) }
@@ -226,6 +230,7 @@ fn conducted<R: Wait, G, J: Room, C: Claim, D: Delivered>(
     requires tally { scenario.now.generals ≤ camp.now.tally.generals }
     ensures unstarted { IfSome unstarted (λ evidence. result ≡ Err (NotStarted evidence)) }
     ensures found { IfErr result (IsHaltOf D.kind scenario.now) }
+    ensures unjudged { IfErr result (λ halt. IfUnlike halt (λ _. ⊥)) }
     ensures rounds { IfOk result (λ r. length r.0.items ≡ suc scenario.now.bound) }
     ensures told { IfOk result (λ r. D.was_told scenario.now r.0.items r.1) }
     ensures claims { IfOk result (λ r. All (λ letters. All C.holds letters) r.0.items) }

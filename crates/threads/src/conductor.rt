@@ -4,7 +4,7 @@ ghost use Rattle.round.specs.Letters.{Letter as LetterSeen};
 ghost use Rattle.world.specs.Kind.{each};
 ghost use Rattle.threads.specs.Duties.{duty_of};
 ghost use Rattle.threads.specs.Inboxes.{AreByGeneral, AreOwn};
-ghost use Rattle.threads.specs.Outcomes.{halt_as, IsHaltOf};
+ghost use Rattle.threads.specs.Outcomes.{halt_as, IfUnlike, IsHaltOf};
 ghost use Rattle.threads.specs.declared.error.MusterError.TheVariants.{Spawn, Post as PostFull};
 
 use crate::camp::Crew;
@@ -42,6 +42,7 @@ pub(crate) fn conduct<R: Wait, G, J: Room, C: Claim, D: Delivered>(
     ensures told { IfOk result (λ r. D.was_told scenario.now r.0.items r.1) }
     ensures claims { IfOk result (λ r. All (λ letters. All C.holds letters) r.0.items) }
     ensures found { IfErr result (IsHaltOf D.kind scenario.now) }
+    ensures unjudged { IfErr result (λ halt. IfUnlike halt (λ _. ⊥)) }
     ensures started { IfErr result (λ halt. halt_as halt ≢ Spawn) }
     ensures posted { IfErr result (λ halt. halt_as halt ≢ PostFull) }
 {

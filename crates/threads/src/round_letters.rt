@@ -4,7 +4,7 @@ ghost use Rattle.std.specs.Ordering.{nat_cmp};
 ghost use Rattle.round.specs.Letters.{Letter as LetterSeen};
 ghost use Rattle.round.specs.Origin.{AreLettersOf};
 ghost use Rattle.threads.specs.Answers.{HasStrayedIn};
-ghost use Rattle.threads.specs.Outcomes.{halt_as, IsHaltOf};
+ghost use Rattle.threads.specs.Outcomes.{halt_as, IfUnlike, IsHaltOf};
 ghost use Rattle.threads.specs.declared.error.MusterError.TheVariants.{Spawn, Post as PostFull};
 
 use crate::claim::Claim;
@@ -56,6 +56,7 @@ pub(crate) fn receive<R: Wait, C: Claim, D: Delivered>(
     ensures claims { IfOk result (λ r. All C.holds r.1.items) }
     ensures strayed { IfErr result (HasStrayedIn (suc (D.count told.now))) }
     ensures found { IfErr result (IsHaltOf D.kind scenario.now) }
+    ensures unjudged { IfErr result (λ halt. IfUnlike halt (λ _. ⊥)) }
     ensures started { IfErr result (λ halt. halt_as halt ≢ Spawn) }
     ensures posted { IfErr result (λ halt. halt_as halt ≢ PostFull) }
 {
