@@ -5,3 +5,4 @@ pub mod RowLemmas
 pub mod NameLemmas
 pub mod TextLemmas
 pub mod OrderLemmas
+pub mod PlaceLemmas
