@@ -1,8 +1,8 @@
 -- The first listed access that cannot be made.
 use Rattle.std.proofs.Common.{arith, length, length-append, ◌+◌, ◌<◌, ◌≡◌, ℕ, zero, suc, List, [], ◌∷◌, ◌++◌, true, false, Bool, cond, refl, sym, ap, subst, ◌∙◌, Option, Some, None, Result, Ok, Err, nat_lt, take}
-use Rattle.std.specs.Prelude.{slice_get, IfErr, IfOk}
+use Rattle.std.specs.Prelude.{slice_get, IfErr, IfOk, String}
 use Rattle.std.specs.Global.{Global}
-use Rattle.std.specs.String.{string_bytes, String}
+use Rattle.std.specs.String.{string_bytes}
 use Rattle.text.specs.Parts.{pieces}
 use Rattle.text.specs.Stop.{space}
 use Rattle.round.specs.Scenario.{Scenario, IsScenario}

@@ -10,20 +10,20 @@ use Rattle.campaign_schedules.proofs.arrangement.arrangement.Goals as goal
 
 pub never-requires : goal.never-requires
 never-requires g c =
-    stuck_there g.W.PlayableWorld.kind _ (lists_in c.args.rows.now) c.in-Never.round c.in-Never.place (rw c.in-Never.is at c.in_ok-planned.ensures.made)
+    stuck_there g.W.PlayableWorld.kind _ (lists_in c.args.rows.now) c.in-Never.round c.in-Never.place (rw c.in-Never.is at c.in_ok-schedule.ensures.made)
 
 pub returns-in-Never-clause-unarranged : goal.returns-in-Never-clause-unarranged
 returns-in-Never-clause-unarranged g c =
-    unmade_by g.W.PlayableWorld.kind c.campaign.ensures.campaigns c.args.scenario.now (lists_in c.args.rows.now) c.in-Never.round c.in-Never.place c.never.result c.recall.ensures
-    (rw c.in-Never.is at c.in_ok-planned.ensures.made) c.never.ensures
+    unmade_by g.W.PlayableWorld.kind c.campaign-campaign.ensures.campaigns c.args.scenario.now (lists_in c.args.rows.now) c.in-Never.round c.in-Never.place c.never.result c.recall.ensures
+    (rw c.in-Never.is at c.in_ok-schedule.ensures.made) c.never.ensures
 
 pub returns-in-By-clause-arranged : goal.returns-in-By-clause-arranged
 returns-in-By-clause-arranged g c =
     let K = g.W.PlayableWorld.kind in
     let s = c.args.scenario.now in
     let rows = lists_in c.args.rows.now in
-    let made = rw c.in-By.is at c.in_ok-planned.ensures.made in
-    let plan = rw c.in-By.is at c.in_ok-planned.ensures.plan in
+    let made = rw c.in-By.is at c.in_ok-schedule.ensures.made in
+    let plan = rw c.in-By.is at c.in_ok-schedule.ensures.plan in
     let few : length rows ≤ 5 = (let long = length-map c.args.rows.now (λ (v : Vec ℕ Global). v.items) in let most = c.requires.few in omega arith) in
     arrangement_by K s rows c.in-By.schedule (string_bytes c.in_ok-schedule_text-in-By.field-0) made plan
-    (read_of K c.campaign.ensures.campaigns s rows c.in-By.schedule c.recall.ensures c.recall_short.ensures few made) c.in_ok-schedule_text-in-By.ensures
+    (read_of K c.campaign-campaign.ensures.campaigns s rows c.in-By.schedule c.recall.ensures c.recall_short.ensures few made) c.in_ok-schedule_text-in-By.ensures

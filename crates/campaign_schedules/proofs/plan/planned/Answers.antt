@@ -19,7 +19,7 @@ returns-clause-plan g c =
     let s = c.args.scenario.now in
     let names = lists_in c.args.names.now in
     if_ok_map c.schedule_from.result (λ x. IsScheduleOf K (opening K s) names x) (λ x. IsPlan K s names x)
-    (λ x h. plan_of K c.campaign.ensures.campaigns s names x c.recall.ensures h) (returns-clause-made g c)
+    (λ x h. plan_of K c.campaign-campaign.ensures.campaigns s names x c.recall.ensures h) (returns-clause-made g c)
 
 pub returns-clause-again : goal.returns-clause-again
 returns-clause-again g c =
@@ -27,4 +27,4 @@ returns-clause-again g c =
     let s = c.args.scenario.now in
     let names = lists_in c.args.names.now in
     if_ok_map c.schedule_from.result (λ x. IsPlan K s names x) (λ x. BringsBack K s names x)
-    (λ x h. brings_back K c.campaign.ensures.campaigns s names x c.recall.ensures h) (returns-clause-plan g c)
+    (λ x h. brings_back K c.campaign-campaign.ensures.campaigns s names x c.recall.ensures h) (returns-clause-plan g c)
