@@ -1,4 +1,4 @@
-use Rattle.std.proofs.Common.{◌≡◌, ◌<◌, ◌++◌, ◌∙◌, arith, sym, ℕ, List}
+use Rattle.std.proofs.Common.{◌<◌, ◌∙◌, arith, sym, ℕ, List}
 use Rattle.std.specs.String.{string_bytes}
 use Rattle.book.specs.Explained.{dotted}
 use Rattle.book.specs.Table.{told}

@@ -1,9 +1,9 @@
-use Rattle.std.proofs.Common.{◌≡◌, ◌≤◌, ◌<◌, ◌++◌, ◌∷◌, [], ◌∙◌, arith, ap, sym, ℕ, List, false, length, length-append, Some, get_or, subst, ◌+◌}
+use Rattle.std.proofs.Common.{◌≡◌, ◌++◌, ◌∷◌, [], ◌∙◌, arith, ap, sym, ℕ, List, length, length-append, Some, get_or, subst, ◌+◌}
 use Rattle.std.specs.Prelude.{slice_get}
 use Rattle.std.specs.List.{flat_map, range_with_len}
 use Rattle.std.specs.String.{string_bytes}
 use Rattle.std.proofs.lemmas.Option.{get_or_from_slice_get}
-use Rattle.label.specs.Labels.{labels, on}
+use Rattle.label.specs.Labels.{labels}
 use Rattle.label.specs.Oral.{IsLabel}
 use Rattle.book.specs.Table.{MessageTable}
 use Rattle.book.proofs.Gathering.{range_text}

@@ -1,6 +1,4 @@
 use Rattle.std.proofs.Common.{◌≡◌, ◌++◌, ◌∙◌, ap, sym, append_assoc, ℕ, Option}
-use Rattle.std.specs.Prelude.{codes}
-use Rattle.std.specs.Fmt.{decimal}
 use Rattle.std.specs.String.{string_bytes}
 use Rattle.table_scenario.specs.Programs.{comment_line, message_text, send_call}
 use Rattle.table_scenario.proofs.Pieces.{two_pieces}

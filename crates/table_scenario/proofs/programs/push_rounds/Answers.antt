@@ -1,4 +1,4 @@
-use Rattle.std.proofs.Common.{◌≡◌, ◌≤◌, ◌++◌, ◌∙◌, ◌+◌, arith, ap, refl, List, ℕ}
+use Rattle.std.proofs.Common.{◌≤◌, ◌++◌, ◌∙◌, ◌+◌, arith, ap, refl, List, ℕ}
 use Rattle.std.specs.String.{string_bytes}
 use Rattle.table_scenario.specs.Programs.{round_text}
 use Rattle.table_scenario.proofs.Placing.{next_round}

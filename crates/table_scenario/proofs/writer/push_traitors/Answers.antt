@@ -1,4 +1,4 @@
-use Rattle.std.proofs.Common.{◌≡◌, ◌++◌, ◌∙◌, arith, sym, ℕ, List}
+use Rattle.std.proofs.Common.{◌∙◌, sym, ℕ, List}
 use Rattle.std.specs.String.{string_bytes}
 use Rattle.label.specs.Labels.{on}
 use Rattle.table_scenario.specs.Programs.{traitor_text}

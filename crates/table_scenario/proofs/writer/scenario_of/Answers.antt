@@ -1,4 +1,4 @@
-use Rattle.std.proofs.Common.{◌≡◌, ◌++◌, ◌∙◌, ap}
+use Rattle.std.proofs.Common.{◌++◌, ◌∙◌, ap}
 use Rattle.std.specs.String.{string_bytes}
 use Rattle.combine.specs.declared.campaign_rule.Rule.{Rule}
 use Rattle.table_scenario.specs.Scenarios.{numbers_text, rule_text, scenario_text, traitors_text}
