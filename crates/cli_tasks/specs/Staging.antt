@@ -39,15 +39,11 @@ abbrev pub AreLong : List ℕ → List ℕ → List ℕ → Type 0
 AreLong n m c =
     (numbers : ℕ × ℕ × ℕ × Rule) × (numbers_in n m c ≡ Some numbers) × (is_short numbers.0 numbers.1 ≡ false)
 
--- States why `refute` prints no scenario: there is no table, or the program of a traitor could be too long.
-abbrev pub RefusesStaging : List ℕ → List ℕ → List ℕ → InputRefusal → Type 0
-RefusesStaging n m c LongScenario = AreLong n m c
-RefusesStaging n m c refusal = RefusesRefutation n m c refusal
-
--- States why `refute` prints nothing. If the flag is set, a scenario is asked for.
+-- States why `refute` prints nothing: there is no table or, if the flag is set and a scenario is asked for, the program of
+-- a traitor could be too long.
 abbrev pub RefusesShown : Bool → List ℕ → List ℕ → List ℕ → InputRefusal → Type 0
-RefusesShown false n m c refusal = RefusesRefutation n m c refusal
-RefusesShown true n m c refusal = RefusesStaging n m c refusal
+RefusesShown staged n m c LongScenario = (staged ≡ true) × AreLong n m c
+RefusesShown staged n m c refusal = RefusesRefutation n m c refusal
 
 -- States that a text shows a break: the line of its traitors and the message table or, if the flag is set, the scenario.
 abbrev pub IsBreakText : Bool → List ℕ → List ℕ → List ℕ → List ℕ → Type 0

@@ -1,8 +1,8 @@
 //! Writes a message table, or a scenario, that shows that the generals are too few for the majority or the median
 //! (subcommand `refute`).
-ghost use Rattle.std.specs.Prelude.{◌≡◌, ◌≤◌, IfOk, IfErr, IfSome, List, ℕ, string_bytes};
+ghost use Rattle.std.specs.Prelude.{◌≡◌, ◌≤◌, IfOk, IfErr, IfSome, List, ℕ, string_bytes, true};
 ghost use Rattle.bounds.specs.Refutation.{IsAsked, Refutes};
-ghost use Rattle.cli_tasks.specs.Staging.{RefusesShown, RefusesStaging, ShowsRefutation, StagesRefutation, traitors_of};
+ghost use Rattle.cli_tasks.specs.Staging.{RefusesShown, ShowsRefutation, StagesRefutation, traitors_of};
 ghost use Rattle.cli_tasks.specs.TableRefusals.{RefusesRefutation};
 
 use crate::refusal::InputRefusal;
@@ -73,7 +73,7 @@ fn staged_refutation(
     ensures stages { (n m c : List ℕ) → Refutes n m c rule asked source.now →
         IfOk result (λ text. StagesRefutation n m c rule asked (string_bytes text)) }
     ensures refused { (n m c : List ℕ) → Refutes n m c rule asked source.now →
-        IfErr result (RefusesStaging n m c) }
+        IfErr result (RefusesShown true n m c) }
 {
     let Ok(table) = read_table(alloc, source) else {
         return Err(InputRefusal::Memory);
