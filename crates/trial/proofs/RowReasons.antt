@@ -7,7 +7,7 @@ use Rattle.semantics.specs.declared.request.Helper.{Helper}
 use Rattle.semantics.specs.declared.request.Helper.TheVariants as helper
 use Rattle.label.specs.declared.shape.Shape.{Shape}
 use Rattle.label.specs.Relay.{relay}
-use Rattle.trial.specs.Notes.{dotted, full, no_place, no_row, signed_already, signed_reason, unheard, unheld}
+use Rattle.trial.specs.Notes.{are_signed, dotted, full, no_place, no_row, signed_already, signed_reason, unheard, unheld}
 
 -- Proves what is written if there is a label with this rank that nobody receives.
 unreceived_by : (r : Shape) (rank orders : ℕ) (old new text : List ℕ)
@@ -44,7 +44,7 @@ pub already : (general index signers : ℕ) → (bit_at signers general == 1) �
 already general index signers is = ap (λ (b : Bool). if b then codes "general " ++ decimal general ++ codes " has already signed chain " ++ decimal index else full) is
 
 -- Proves what is written for a call that is neither of `sign_order` nor of `pass_on`.
-pub other_reason : (shape : Shape) (held : List ℕ) (first : ℕ) (called : Helper) → called ≢ helper.SignOrder → called ≢ helper.PassOn → signed_reason shape held first called ≡ codes "messages are signed"
-other_reason shape held first helper.SignOrder no other = absurd (no refl)
-other_reason shape held first helper.PassOn no other = absurd (other refl)
-other_reason shape held first called no other = refl
+pub other_reason : (shape : Shape) (held : List ℕ) (first : ℕ) (called : Helper) → called ≢ helper.SignOrder → called ≢ helper.PassOn → signed_reason shape held first called ≡ are_signed
+other_reason shape held first helper.SignOrder unsigning unpassing = absurd (unsigning refl)
+other_reason shape held first helper.PassOn unsigning unpassing = absurd (unpassing refl)
+other_reason shape held first called unsigning unpassing = refl

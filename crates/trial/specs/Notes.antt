@@ -94,12 +94,16 @@ abbrev pub not_passed : ℕ → ℕ → ℕ → Option ℕ → List ℕ
 not_passed general index count None = unheld index count
 not_passed general index count (Some signers) = signed_already general index signers
 
+-- Writes why a call for oral messages has no effect in a campaign with signed ones.
+abbrev pub are_signed : List ℕ
+are_signed = codes "messages are signed"
+
 -- Writes why a call has no effect in a campaign with signed messages, where the general holds chains with these
 -- signers. The call has the number `first` in r1. Every other call that sends orders is for oral messages.
 abbrev pub signed_reason : Shape → List ℕ → ℕ → Helper → List ℕ
 signed_reason shape held first SignOrder = unsigned shape
 signed_reason shape held first PassOn = not_passed shape.general first (length held) (slice_get held first)
-signed_reason shape held first _ = codes "messages are signed"
+signed_reason shape held first _ = are_signed
 
 -- Writes why a call has no effect, for messages of this kind.
 abbrev pub reason_of : Kind → Shape → HelperCall → List ℕ

@@ -2,7 +2,7 @@
 ghost use Rattle.std.specs.Prelude.{◌≡◌, ◌<◌, ◌∷◌, ◌++◌, if◌then◌else◌, ◌==◌, List, ℕ, Some, length, slice_get, string_bytes, IfOk, OnOk};
 ghost use Rattle.std.specs.Int.{bit_at};
 ghost use Rattle.label.specs.Relay.{IsShape, relay};
-ghost use Rattle.trial.specs.Notes.{dotted, full, no_label, no_place, no_row, not_passed, oral_reason, passed_over, past, reason_of, signed_already, signed_reason, unheard, unheld, unsigned};
+ghost use Rattle.trial.specs.Notes.{are_signed, dotted, full, no_label, no_place, no_row, not_passed, oral_reason, passed_over, past, reason_of, signed_already, signed_reason, unheard, unheld, unsigned};
 
 use crate::held_chains::HeldChains;
 use crate::helper_call::HelperCall;
@@ -68,8 +68,15 @@ fn put_signed_reason(
     match call.helper {
         Helper::SignOrder => put_unsigned(out, shape),
         Helper::PassOn => put_not_passed(out, shape.general, held, call.first),
-        _ => out.push_str("messages are signed"),
+        _ => put_are_signed(out),
     }
+}
+
+/// Appends that messages are signed, so that a call for oral messages has no effect.
+fn put_are_signed(out: &mut String) -> Result<(), AllocError>
+    ensures { OnOk result (string_bytes out.new ≡ string_bytes out.old ++ are_signed) }
+{
+    out.push_str("messages are signed")
 }
 
 /// Appends that a general can send no more chains in a round.
