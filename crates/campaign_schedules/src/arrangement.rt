@@ -43,7 +43,7 @@ fn never(rows: &[Vec<u8>], round: usize, place: usize) -> AccessFault
 /// Fails with the fault of the first word that is not the number of a general, or of a sixth round, which needs no
 /// memory. Otherwise fails with the fault of the first access that cannot be made, or with `Memory` if memory runs
 /// out.
-#[tactic(auto, using(crate::proofs::Stopping::arranged_as, crate::proofs::Stopping::unarranged_as, crate::proofs::Stopping::unlisted))]
+#[tactic(auto, using(crate::proofs::Stopping::arranged_as, crate::proofs::Stopping::unarranged_as))]
 pub fn arranged(alloc: Global, scenario: &Scenario, text: &str) -> Result<String, AccessesError>
     ensures arranged { IfOk result (λ lines. IsArranged oral_kind scenario.now text.now (string_bytes lines)) }
     ensures unarranged { IfErr result (λ e. IfFault e (IsUnarranged oral_kind scenario.now text.now)) }
@@ -60,7 +60,7 @@ pub fn arranged(alloc: Global, scenario: &Scenario, text: &str) -> Result<String
 /// # Errors
 ///
 /// Fails as `arranged` does.
-#[tactic(auto, using(crate::proofs::Stopping::arranged_as, crate::proofs::Stopping::unarranged_as, crate::proofs::Stopping::unlisted))]
+#[tactic(auto, using(crate::proofs::Stopping::arranged_as, crate::proofs::Stopping::unarranged_as))]
 pub fn signed_arranged(
     alloc: Global,
     scenario: &Scenario,

@@ -12,13 +12,13 @@ pub never-requires : goal.never-requires
 never-requires g c =
     stuck_there g.W.PlayableWorld.kind _ (lists_in c.args.rows.now) c.in-Never.round c.in-Never.place (rw c.in-Never.is at c.in_ok-schedule.ensures.made)
 
-pub returns-in-Never-clause-unarranged : goal.returns-in-Never-clause-unarranged
-returns-in-Never-clause-unarranged g c =
+pub returns-clause-unarranged : goal.returns-clause-unarranged
+returns-clause-unarranged g c =
     unmade_by g.W.PlayableWorld.kind c.campaign-campaign.ensures.campaigns c.args.scenario.now (lists_in c.args.rows.now) c.in-Never.round c.in-Never.place c.never.result c.recall.ensures
     (rw c.in-Never.is at c.in_ok-schedule.ensures.made) c.never.ensures
 
-pub returns-in-By-clause-arranged : goal.returns-in-By-clause-arranged
-returns-in-By-clause-arranged g c =
+pub returns-in_ok-schedule_text-in-By-clause-arranged : goal.returns-in_ok-schedule_text-in-By-clause-arranged
+returns-in_ok-schedule_text-in-By-clause-arranged g c =
     let K = g.W.PlayableWorld.kind in
     let s = c.args.scenario.now in
     let rows = lists_in c.args.rows.now in
