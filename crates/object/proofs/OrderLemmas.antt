@@ -26,7 +26,11 @@ pub moved_places : {E : Type 0} (code : List ℕ) (own read : List (String Globa
     → IfOk r (λ texts. map string_bytes texts.items ≡ map (text_from (map string_bytes read)) origins)
     → IfOk r (λ texts. ArePlacesOf code (map string_bytes own) (map string_bytes texts.items))
 moved_places code own read origins found moved (Ok texts) is reordered same of told =
-    inr (moved.code.items, moved.origins.items, subst (λ (f : Reordering). IsReordering code f) is reordered,
-    subst (λ (x : List (Option ℕ)). map string_bytes texts.items ≡ map (text_from (map string_bytes own)) x) of
-    (subst (λ (x : List (String Global)). map string_bytes texts.items ≡ map (text_from (map string_bytes x)) origins) same told))
+    inr (
+      moved.code.items,
+      moved.origins.items,
+      subst (λ (f : Reordering). IsReordering code f) is reordered,
+      subst (λ (x : List (Option ℕ)). map string_bytes texts.items ≡ map (text_from (map string_bytes own)) x) of
+          (subst (λ (x : List (String Global)). map string_bytes texts.items ≡ map (text_from (map string_bytes x)) origins) same told),
+    )
 moved_places code own read origins found moved (Err error) is reordered same of told = tt

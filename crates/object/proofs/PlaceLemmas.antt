@@ -11,7 +11,9 @@ pub function_placed : {E : Type 0} (object code table : List ℕ) (function : Sy
     → TellsPlaces object function (map string_bytes own) → table ≡ section_table object → code ≡ code_in object table function
     → IfOk r (λ texts. ArePlacesOf code (map string_bytes own) (map string_bytes texts.items))
     → IfOk r (λ texts. AreFunctionPlaces object function (map string_bytes texts.items))
-function_placed object code table function own (Ok texts) tells read is placed =
-    (map string_bytes own, tells,
-    subst (λ (c : List ℕ). ArePlacesOf c (map string_bytes own) (map string_bytes texts.items)) (is ∙ ap (λ (t : List ℕ). code_in object t function) read) placed)
+function_placed object code table function own (Ok texts) tells read is placed = (
+  map string_bytes own,
+  tells,
+  subst (λ (c : List ℕ). ArePlacesOf c (map string_bytes own) (map string_bytes texts.items)) (is ∙ ap (λ (t : List ℕ). code_in object t function) read) placed,
+)
 function_placed object code table function own (Err error) tells read is placed = tt
