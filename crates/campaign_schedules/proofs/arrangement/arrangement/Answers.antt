@@ -12,8 +12,8 @@ pub never-requires : goal.never-requires
 never-requires g c =
     stuck_there g.W.PlayableWorld.kind _ (lists_in c.args.rows.now) c.in-Never.round c.in-Never.place (rw c.in-Never.is at c.in_ok-schedule.ensures.made)
 
-pub returns-clause-unarranged : goal.returns-clause-unarranged
-returns-clause-unarranged g c =
+pub returns-in-Never-clause-unarranged : goal.returns-in-Never-clause-unarranged
+returns-in-Never-clause-unarranged g c =
     unmade_by g.W.PlayableWorld.kind c.campaign-campaign.ensures.campaigns c.args.scenario.now (lists_in c.args.rows.now) c.in-Never.round c.in-Never.place c.never.result c.recall.ensures
     (rw c.in-Never.is at c.in_ok-schedule.ensures.made) c.never.ensures
 
