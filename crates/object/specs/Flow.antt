@@ -10,6 +10,10 @@ opcode_at code unit = number_at 1 (8 * unit) code
 abbrev pub is_long : List ℕ → ℕ → Bool
 is_long code unit = opcode_at code unit == 6
 
+-- Returns whether the unit is the first half of an instruction of two units (LD IMM, 24).
+abbrev pub is_wide : List ℕ → ℕ → Bool
+is_wide code unit = opcode_at code unit == 24
+
 -- Returns whether the unit may jump: its class is JMP (5) or JMP32 (6), and it is no call (8) and no exit (9).
 abbrev pub is_jump : List ℕ → ℕ → Bool
 is_jump code unit =

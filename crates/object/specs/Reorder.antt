@@ -3,7 +3,7 @@ use Rattle.std.specs.Prelude.{ℕ, ◌≡◌, ◌+◌, ◌-◌, ◌*◌, ◌/◌
 use Rattle.object.specs.declared.block_order.Reordering.{Reordering}
 use Rattle.object.specs.declared.block_order.Reordering.TheVariants.{Kept, Moved, Loop}
 use Rattle.object.specs.Number.{number_at}
-use Rattle.object.specs.Flow.{opcode_at, is_long, is_jump, is_always, goes_on, target_of, leads, leads_back}
+use Rattle.object.specs.Flow.{opcode_at, is_wide, is_long, is_jump, is_always, goes_on, target_of, leads, leads_back}
 
 -- Returns whether this is the unit with the given index.
 abbrev pub is_unit : Option (Option ℕ) → ℕ → Bool
@@ -41,10 +41,11 @@ abbrev pub goes_to : List ℕ → List (Option ℕ) → ℕ → ℕ → Bool
 goes_to program origins place unit = stands origins place unit || is_link program origins place unit
 
 -- Returns whether the unit at this place does in the program what `unit` does in the function: it has the same fields,
--- and leads to the same units.
+-- and leads to the same units. The second half of an instruction of two units comes right after the first.
 abbrev pub is_copy : List ℕ → List ℕ → List (Option ℕ) → ℕ → ℕ → Bool
 is_copy code program origins place unit =
     is_same code unit program place
+    && (not (is_wide code unit) || stands origins (place + 1) (unit + 1))
     && (not (goes_on code unit) || goes_to program origins (place + 1) (unit + 1))
     && (not (is_jump code unit) || jumps_to program origins place (target_of code unit))
 

@@ -4,7 +4,7 @@ ghost use Rattle.object.specs.Flow.{leads_back, leads_within};
 ghost use Rattle.object.specs.Reorder.{ArePlaced, AreSteps, AreThere, ClosesLoop, IsOrdered, IsReordered, IsReordering, IsWalk, LeadsForward, goes_to, is_copy, is_link, is_own, is_placed, is_same, is_step, jumps_to, stands};
 ghost use Rattle.object.specs.declared.block_order.Reordering.TheVariants.{Kept};
 
-use crate::flow::{goes_on, is_jump, is_long, leads, leads_back, leads_within, target_of};
+use crate::flow::{goes_on, is_jump, is_long, is_wide, leads, leads_back, leads_within, target_of};
 use crate::jump_graph::{Found, find_order};
 use crate::layout::{Layout, lay_out, place_of};
 use crate::number::{half_at, word_at};
@@ -113,6 +113,7 @@ fn is_copy(code: &[u8], program: &[u8], origins: &[Option<u16>], place: usize, u
     ensures { result ≡ is_copy code.now program.now origins.now place unit }
 {
     is_same(code, unit, program, place)
+        && (!is_wide(code, unit) || stands(origins, place + 1, unit + 1))
         && (!goes_on(code, unit) || goes_to(program, origins, place + 1, unit + 1))
         && (!is_jump(code, unit) || jumps_to(program, origins, place, target_of(code, unit)))
 }

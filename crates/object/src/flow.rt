@@ -1,6 +1,6 @@
 //! Finds where each 8-byte unit of a function's code leads.
 ghost use Rattle.std.specs.Prelude.{◌≡◌, ◌<◌, ◌^◌};
-ghost use Rattle.object.specs.Flow.{is_long, is_jump, is_always, goes_on, target_of, leads, leads_back, leads_within};
+ghost use Rattle.object.specs.Flow.{is_wide, is_long, is_jump, is_always, goes_on, target_of, leads, leads_back, leads_within};
 
 use crate::number::{byte_at, half_at, word_at};
 
@@ -17,6 +17,14 @@ pub fn is_long(code: &[u8], unit: usize) -> bool
     ensures { result ≡ is_long code.now unit }
 {
     byte_at(code, 8 * unit) == LONG_JUMP
+}
+
+/// Returns whether the unit is the first half of an instruction of two units.
+pub fn is_wide(code: &[u8], unit: usize) -> bool
+    requires { unit < 2 ^ 16 }
+    ensures { result ≡ is_wide code.now unit }
+{
+    byte_at(code, 8 * unit) == WIDE
 }
 
 /// Returns whether the unit may jump.
