@@ -48,7 +48,7 @@ enum byzlab_status {
     BYZLAB_UNLOADED = 5, /* no program is loaded */
     BYZLAB_FORBIDDEN = 6, /* the program is accepted, and calls a helper that is not allowed; the fault has the helper's
                            * number and the unit of the first such call */
-    BYZLAB_OBJECT_FAULT = 7, /* the object has no program for this entry; the fault has a number from 201 to 210 */
+    BYZLAB_OBJECT_FAULT = 7, /* the object has no program for this entry; the fault has a number from 201 to 209 */
     BYZLAB_ROOM = 8          /* the object's program is longer than the buffer */
 };
 
@@ -88,9 +88,8 @@ enum byzlab_number {
     BYZLAB_O2_SECTION = 207,     /* a section is not within the file; the unit is the section's index */
     BYZLAB_O2_SYMBOL = 208,      /* a function's name is not among the strings, or its code is not within its section; the
                                   * unit is the symbol's index */
-    BYZLAB_O2_RELOCATIONS = 209, /* relocations use another symbol table, or a symbol that does not exist; the unit is the
+    BYZLAB_O2_RELOCATIONS = 209  /* relocations use another symbol table, or a symbol that does not exist; the unit is the
                                   * index of their section */
-    BYZLAB_O7_LOOPS = 210        /* this unit of the program's function is a jump that closes a loop */
 };
 
 #define BYZLAB_VERSION 10000      /* the version of this header; byzlab_version returns the library's */
@@ -202,10 +201,9 @@ uint32_t byzlab_disassemble(const uint8_t *program, size_t length, char *text, s
 
 /*
  * Reads an ELF object, which clang makes of C for BPF. Its program is the function with the name `entry` or, if
- * entry_length is 0, the only global function. If one of its jumps leads back and it has no loop, its instructions are put
- * in another order, and jumps are added. Returns 0, 3, 7 or 8. At 0 it writes the program and, into needed, how many bytes
- * it has. At 8 these are more than capacity, and only needed is written. At 7 only the fault is. The bytes may spell no
- * program, or one that is not accepted: byzlab_load tells.
+ * entry_length is 0, the only global function. Returns 0, 7 or 8. At 0 it writes the program and, into needed, how many
+ * bytes it has. At 8 these are more than capacity, and only needed is written. At 7 only the fault is. The bytes may spell
+ * no program, or one that is not accepted: byzlab_load tells.
  *
  * NULL: the object, if length is 0. The status is then 7, and the number BYZLAB_O1_NO_OBJECT. The entry, if entry_length
  * is 0. And the program, if capacity is 0. The call then asks for the length.

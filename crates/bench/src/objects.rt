@@ -1,7 +1,6 @@
 //! Prints what the object reader finds in ELF objects. checks/objects compares it with the output of its model.
 
 use anyhow::{Result, bail};
-use object::{EntryError, Reordering, reorder};
 use std::fs;
 use std::rt::Files;
 
@@ -12,23 +11,12 @@ use std::rt::Files;
 /// The words are the object's file and the names of functions, or `--each` and the file of a list. Each line of this
 /// list is an object in hexadecimal and the names of functions, separated by blanks. data/several.o is compiled by
 /// clang from the second program of checks/objects.
-///
-/// With `--order`, each line of the list is a function's code in hexadecimal. Prints `kept` if it stays as it is, `loop`
-/// and the unit of a jump that closes a loop, or `moved`, the code in another order, and for each unit the one that it
-/// was, or `-` if it was added.
 pub fn answer<R: Print + Files + AllocGlobal>(rt: &R, words: &[String]) -> Result<()> {
     match words {
         [word, list] if word.as_str() == "--each" => {
             let text = fs::read_to_string(rt, list.as_str())?;
             for line in text.as_str().lines() {
                 tell_line(rt, line)?;
-            }
-            Ok(())
-        }
-        [word, list] if word.as_str() == "--order" => {
-            let text = fs::read_to_string(rt, list.as_str())?;
-            for line in text.as_str().lines() {
-                tell_order(rt, line)?;
             }
             Ok(())
         }
@@ -58,28 +46,6 @@ fn tell_line<R: Print + AllocGlobal>(rt: &R, line: &str) -> Result<()> {
     Ok(())
 }
 
-/// Prints what becomes of a function's code, which is given in hexadecimal.
-fn tell_order<R: Print + AllocGlobal>(rt: &R, digits: &str) -> Result<()> {
-    let code = hex::decode(rt.alloc(), digits.as_bytes())?;
-    match reorder(rt.alloc(), code.as_slice())? {
-        Reordering::Kept => println!(rt; "kept")?,
-        Reordering::Loop(unit) => println!(rt; "loop {unit}")?,
-        Reordering::Moved(moved) => {
-            let code = hex::encode(rt.alloc(), moved.code.as_slice())?;
-            print!(rt; "moved {code} ")?;
-            for (place, origin) in moved.origins.iter().enumerate() {
-                let comma = if place == 0 { "" } else { "," };
-                match origin {
-                    Some(unit) => print!(rt; "{comma}{unit}")?,
-                    None => print!(rt; "{comma}-")?,
-                }
-            }
-            println!(rt)?;
-        }
-    }
-    Ok(())
-}
-
 /// Prints what the object reader finds in the object's function `name`.
 fn tell_named<R: Print + AllocGlobal>(rt: &R, object: &[u8], name: &str) -> Result<()> {
     tell(rt, name, object, Some(name.as_bytes()))
@@ -93,13 +59,12 @@ fn tell<R: Print + AllocGlobal>(
     object: &[u8],
     entry: Option<&[u8]>,
 ) -> Result<()> {
-    match object::entry_code(rt.alloc(), object, entry) {
+    match object::entry(object, entry) {
         Ok(code) => {
-            let code = hex::encode(rt.alloc(), code.as_slice())?;
+            let code = hex::encode(rt.alloc(), code)?;
             println!(rt; "{name}: {code}")?;
         }
-        Err(EntryError::Fault(fault)) => println!(rt; "{name}: refused {fault}")?,
-        Err(EntryError::Memory) => bail!("out of memory"),
+        Err(fault) => println!(rt; "{name}: refused {fault}")?,
     }
     let places = object::entry_places(rt.alloc(), object, entry)?;
     for (unit, place) in places.iter().enumerate() {

@@ -1,40 +1,25 @@
 -- Defines the bytecode that an ELF object has for an entry, and the numbers and places of objects' faults for C.
 use Rattle.std.specs.Prelude.{ℕ, ◌≡◌, ◌<◌, ◌≤◌, ◌==◌, if◌then◌else◌, List, [], ◌++◌, length, drop}
-use Rattle.std.specs.Prelude.{Option, Some, None, Result, Ok, Vec}
-use Rattle.std.specs.declared.alloc.Global.{Global}
+use Rattle.std.specs.Prelude.{Option, Some, None, Ok, Err}
 use Rattle.object.specs.declared.fault.Damage.{Damage}
 use Rattle.object.specs.declared.fault.Damage.TheVariants as damages
 use Rattle.object.specs.declared.fault.ObjectFault.{ObjectFault}
 use Rattle.object.specs.declared.fault.ObjectFault.TheVariants as faults
-use Rattle.object.specs.declared.ordered_entry.EntryError.{EntryError}
 use Rattle.object.specs.Entry.{entry_of}
-use Rattle.object.specs.EntryCode.{IsEntryCode, IsEntryFault, IsUnordered}
 use Rattle.object.specs.Sentences.{sentence_of}
 
 -- Returns the name of the entry, or `None` if the name is empty.
 abbrev pub given : List ℕ → Option (List ℕ)
 given name = if length name == 0 then None else Some name
 
--- States that the object's entry has this code: the function with this name or, if the name is empty, the only global
--- function.
-abbrev pub HasEntry : List ℕ → List ℕ → List ℕ → Type 0
-HasEntry object name code = entry_of object (given name) ≡ Ok code
-
--- States that this is the bytecode of the object's entry: its code, or the same in an order in which no jump leads back.
+-- States that the object has this bytecode for its entry: the function with this name or, if the name is empty, the
+-- only global function.
 abbrev pub IsEntry : List ℕ → List ℕ → List ℕ → Type 0
-IsEntry object name code = IsEntryCode object (given name) code
+IsEntry object name code = entry_of object (given name) ≡ Ok code
 
--- States that the object has no bytecode for the entry with this name, and that this is its first fault, or a loop.
+-- States that the object has no bytecode for the entry with this name, and that this is its first fault.
 abbrev pub HasFault : List ℕ → List ℕ → ObjectFault → Type 0
-HasFault object name fault = IsEntryFault object (given name) fault
-
--- States that the object has an entry with this name.
-abbrev pub WantsMemory : List ℕ → List ℕ → Type 0
-WantsMemory object name = (code : List ℕ) × HasEntry object name code
-
--- States that the code is returned as it is, or that memory ran out.
-abbrev pub IsKept : List ℕ → Result (Vec ℕ Global) EntryError → Type 0
-IsKept code result = IsUnordered code result
+HasFault object name fault = entry_of object (given name) ≡ Err fault
 
 -- Returns the number of a damage for C.
 abbrev pub damage_number : Damage → ℕ
@@ -50,7 +35,7 @@ damage_place (damages.Section index) = index
 damage_place (damages.Symbol index) = index
 damage_place (damages.Relocations index) = index
 
--- Returns the number of an object's fault for C: 201 to 206 for the faults O1 to O6, 210 for O7, and for O2 that of the damage.
+-- Returns the number of an object's fault for C: 201 to 206 for the faults O1 to O6, and for O2 that of the damage.
 abbrev pub object_number : ObjectFault → ℕ
 object_number faults.NoObject = 201
 object_number (faults.Damaged damage) = damage_number damage
@@ -58,7 +43,6 @@ object_number faults.NoFunction = 203
 object_number faults.Several = 204
 object_number (faults.Names unit) = 205
 object_number (faults.Leaves unit) = 206
-object_number (faults.Loops unit) = 210
 
 -- Returns the place of an object's fault: where the object is damaged, or the unit of the entry's code with the fault,
 -- and 0 for other faults.
@@ -69,7 +53,6 @@ object_place faults.NoFunction = 0
 object_place faults.Several = 0
 object_place (faults.Names unit) = unit
 object_place (faults.Leaves unit) = unit
-object_place (faults.Loops unit) = unit
 
 -- Returns the sentence that describes the fault of an object with this number. It is empty if there is no such fault.
 abbrev pub object_message : ℕ → List ℕ
@@ -83,7 +66,6 @@ object_message number =
     else if number == 207 then sentence_of (faults.Damaged (damages.Section 0))
     else if number == 208 then sentence_of (faults.Damaged (damages.Symbol 0))
     else if number == 209 then sentence_of (faults.Damaged (damages.Relocations 0))
-    else if number == 210 then sentence_of (faults.Loops 0)
     else []
 
 -- States that the object has no bytecode for the entry with this name. Its first fault has this number, and is at this

@@ -30,8 +30,7 @@ fn damage_place(damage: Damage) -> usize
     }
 }
 
-/// Returns the number of an object's fault for C: 201 to 206 for the faults O1 to O6, 210 for O7, and for O2
-/// that of the damage.
+/// Returns the number of an object's fault for C: 201 to 206 for the faults O1 to O6, and for O2 that of the damage.
 fn object_number(fault: ObjectFault) -> u32
     ensures { result ≡ object_number fault }
 {
@@ -42,7 +41,6 @@ fn object_number(fault: ObjectFault) -> u32
         ObjectFault::Several => 204,
         ObjectFault::Names(_) => 205,
         ObjectFault::Leaves(_) => 206,
-        ObjectFault::Loops(_) => 210,
     }
 }
 
@@ -58,7 +56,6 @@ fn object_place(fault: ObjectFault) -> usize
         ObjectFault::Several => 0,
         ObjectFault::Names(unit) => unit,
         ObjectFault::Leaves(unit) => unit,
-        ObjectFault::Loops(unit) => unit,
     }
 }
 
@@ -88,7 +85,6 @@ pub fn object_message(number: u32) -> &'static str
         207 => sentence(ObjectFault::Damaged(Damage::Section(0))),
         208 => sentence(ObjectFault::Damaged(Damage::Symbol(0))),
         209 => sentence(ObjectFault::Damaged(Damage::Relocations(0))),
-        210 => sentence(ObjectFault::Loops(0)),
         _ => "",
     }
 }

@@ -156,7 +156,6 @@ object-says objects.NoFunction = λ e. cc
 object-says objects.Several = λ e. cc
 object-says (objects.Names place) = λ e. cc
 object-says (objects.Leaves place) = λ e. cc
-object-says (objects.Loops place) = λ e. cc
 
 -- ---- scenarios
 

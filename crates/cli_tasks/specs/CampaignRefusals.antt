@@ -19,7 +19,7 @@ RefusesListed list text (Accesses fault) =
     (c : Campaign) × TellsAny text c × IsUnarranged (kind_of c) (scenario_of c) list fault
 RefusesListed list text refusal = RefusesCampaign text refusal
 
--- States that a run with threads made no chronicle, and that its threads ended so that the error is this one, or that
+-- States that a run with threads made no chronicle, with an error other than M1 that some ends of threads have, or that
 -- memory ran out.
 abbrev pub RefusesMuster : InputRefusal → Type 0
 RefusesMuster (Threads error) = (error ≢ muster.Memory) × ((o : Outcomes) × IsErrorFor o error)

@@ -2,7 +2,7 @@
 -- program.
 use Rattle.std.specs.Prelude.{ℕ, ◌≡◌, ◌++◌, List, Ok, codes, option_map, string_bytes}
 use Rattle.hex.specs.Hex.{encode_lower}
-use Rattle.object.specs.EntryCode.{IsEntryCode}
+use Rattle.object.specs.Entry.{entry_of}
 use Rattle.cli_words.specs.declared.tasks.Notation.{Notation}
 use Rattle.cli_words.specs.declared.tasks.Notation.TheVariants.{Bytecode, Assembly as Texts, Object as Objects}
 use Rattle.asm.specs.PieceText.{IsTextOf}
@@ -22,7 +22,7 @@ AssemblesPartly text line = (bytes : List ℕ) × (bytes_said text ≡ Ok bytes)
 abbrev pub HasCode : Notation → List ℕ → List ℕ → Type 0
 HasCode Bytecode bytes code = code ≡ bytes
 HasCode Texts text code = bytes_said text ≡ Ok code
-HasCode (Objects entry) object code = IsEntryCode object (option_map string_bytes entry) code
+HasCode (Objects entry) object code = entry_of object (option_map string_bytes entry) ≡ Ok code
 
 -- States that `text` is the assembly text of the code in the file, and that it assembles to the same code.
 abbrev pub DisassemblesPartly : Notation → List ℕ → List ℕ → Type 0

@@ -5,7 +5,7 @@ use Rattle.codec.specs.Program.{IsFirstFault, SpellsProgram}
 use Rattle.codec.specs.declared.fault.CodecFault.TheVariants.{Length}
 use Rattle.codec.specs.declared.fault.CodecError.{CodecError}
 use Rattle.codec.specs.declared.fault.CodecError.TheVariants as codec
-use Rattle.object.specs.EntryCode.{IsEntryCode, IsEntryFault}
+use Rattle.object.specs.Entry.{entry_of}
 use Rattle.object.specs.declared.fault.ObjectFault.{ObjectFault}
 use Rattle.asm.specs.Program.{program_of, said}
 use Rattle.toml.specs.Parse.{parse_document}
@@ -69,8 +69,8 @@ RefusesSetting text _ = ⊥
 -- holds of the code.
 abbrev pub RefusesObject : (List ℕ → InputRefusal → Type 0) → Option (List ℕ) → List ℕ → InputRefusal → Type 0
 RefusesObject refuses name object refusal =
-    ((fault : ObjectFault) × (refusal ≡ Object fault) × IsEntryFault object name fault)
-    ⊎ ((code : List ℕ) × IsEntryCode object name code × refuses code refusal)
+    ((fault : ObjectFault) × (refusal ≡ Object fault) × (entry_of object name ≡ Err fault))
+    ⊎ ((code : List ℕ) × (entry_of object name ≡ Ok code) × refuses code refusal)
 
 -- States that the file contains no program, that the verifier rejects the program, or that memory ran out.
 abbrev pub RefusesCheckIn : Notation → List ℕ → InputRefusal → Type 0

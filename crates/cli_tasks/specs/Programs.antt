@@ -6,18 +6,17 @@ use Rattle.insn.specs.declared.insn.Insn.{Insn}
 use Rattle.asm.specs.Program.{lines_of, nothing, program_of, read_on}
 use Rattle.codec.specs.Program.{SpellsProgram}
 use Rattle.asm.specs.Places.{AreWritten, statements_of}
-use Rattle.object.specs.Entry.{function_of}
-use Rattle.object.specs.EntryCode.{IsEntryCode}
+use Rattle.object.specs.Entry.{entry_of, function_of}
 use Rattle.object.specs.Places.{AreEntryPlaces}
 use Rattle.explain.specs.Explained.{explained_at}
 use Rattle.explain.specs.Units.{in_lists}
 use Rattle.cli_words.specs.declared.tasks.Notation.{Notation}
 use Rattle.cli_words.specs.declared.tasks.Notation.TheVariants.{Bytecode, Assembly, Object}
 
--- States that the ELF object's entry, in an order in which no jump leads back, is the bytecode of the program. The entry is the function named `name`
+-- States that the code of the ELF object's entry is the bytecode of the program. The entry is the function named `name`
 -- or, without a name, the only global function.
 abbrev pub HasEntry : Option (List ℕ) → List ℕ → List Insn → Type 0
-HasEntry name object program = (code : List ℕ) × IsEntryCode object name code × SpellsProgram code program
+HasEntry name object program = (code : List ℕ) × (entry_of object name ≡ Ok code) × SpellsProgram code program
 
 -- States that the file contains this program: the bytes are its bytecode, the text assembles to it, or the ELF object
 -- has it as its entry.

@@ -6,7 +6,7 @@ use Rattle.std.specs.declared.io.ErrorKind.{ErrorKind}
 use Rattle.std.specs.declared.io.ErrorKind.TheVariants.{OutOfMemory}
 use Rattle.hex.specs.Hex.{encode_lower}
 use Rattle.object.specs.declared.fault.ObjectFault.{ObjectFault}
-use Rattle.object.specs.EntryCode.{IsEntryCode, IsEntryFault}
+use Rattle.object.specs.Entry.{entry_of}
 use Rattle.object.specs.Sentences.{sentence_of}
 use Rattle.object.specs.ErrorText.{told}
 use Rattle.streams.specs.Names.{shown}
@@ -22,7 +22,7 @@ use Rattle.cli_tasks.specs.declared.named_files.FileProblem.TheVariants.{Told, M
 abbrev pub IsTextOf : ReferenceKey → Option (List ℕ) → List ℕ → List ℕ → Type 0
 IsTextOf Assembly function bytes text = text ≡ bytes
 IsTextOf Bytecode function bytes text = text ≡ encode_lower bytes
-IsTextOf Object function bytes text = (code : List ℕ) × IsEntryCode bytes function code × (text ≡ encode_lower code)
+IsTextOf Object function bytes text = (code : List ℕ) × (entry_of bytes function ≡ Ok code) × (text ≡ encode_lower code)
 
 -- Returns the function that the scenario names in a file. Only an ELF object can have one.
 abbrev pub function_in : ReferenceKey → Option (List ℕ) → Option (List ℕ)
@@ -87,7 +87,7 @@ IsNamed a lines text = IfSome (shown a.name) (λ name. text ≡ lines name)
 abbrev pub IsFaultIn : Asked → List ℕ → List ℕ → Type 0
 IsFaultIn a bytes text =
     ((a.key ≡ Assembly) × (IsUtf8 bytes → ⊥) × IsNamed a (fault_told a (codes "text")) text)
-    ⊎ ((fault : ObjectFault) × (a.key ≡ Object) × IsEntryFault bytes a.function fault
+    ⊎ ((fault : ObjectFault) × (a.key ≡ Object) × (entry_of bytes a.function ≡ Err fault)
     × IsNamed a (refused_told a fault) text)
 
 -- States that `text` reports why the file that the scenario names cannot be used: reading it failed with an error of

@@ -10,7 +10,7 @@ ghost use Rattle.cli_tasks.specs.TaskRefusals.{Refuses};
 use crate::failure::TaskFailure;
 use crate::hint::Hint;
 use crate::program_explanation::explanation;
-use crate::programs::own_code_in;
+use crate::programs::code_in;
 use crate::refusal::InputRefusal;
 use crate::whys::unjudged;
 use cli_words::{Notation, Task};
@@ -31,11 +31,11 @@ pub(crate) fn explained_in(task: &Task) -> Option<&Notation>
 }
 
 /// Returns the code of the function named `entry` in an ELF object or, without a name, the code of its only global
-/// function, in the object's order. Returns no bytes if the object has no such code.
+/// function. Returns no bytes if the object has no such code.
 fn entry_code<'a>(object: &'a [u8], entry: Option<&str>) -> &'a [u8]
     ensures { result.now ≡ entry_code (asked entry.entry) object.now }
 {
-    match own_code_in(object, entry) {
+    match code_in(object, entry) {
         Ok(code) => code,
         Err(_) => &[],
     }

@@ -1,15 +1,15 @@
 //! Reads the files that a scenario names, such as the programs of its traitors, and reports a file that cannot be used.
-ghost use Rattle.std.specs.Prelude.{◌≡◌, IfErr, IfOk, IfSome, string_bytes};
+ghost use Rattle.std.specs.Prelude.{◌≡◌, Ok, Err, IfErr, IfOk, IfSome, MatchResult, string_bytes};
 ghost use Rattle.std.specs.IoError.{error_kind};
-ghost use Rattle.object.specs.EntryCode.{IsEntryCode, IsEntryError};
+ghost use Rattle.object.specs.Entry.{entry_of};
+ghost use Rattle.object.specs.Symbol.{asked};
 ghost use Rattle.scenario.specs.declared.reference_key.ReferenceKey.TheVariants.{Assembly, Object};
 ghost use Rattle.streams.specs.Names.{shown};
 ghost use Rattle.cli_tasks.specs.Taken.{IsBeside, IsFile, IsNamed, IsUnread, IsUntakenIn, IsUntakenOf, fault_lines, fault_told, most_bytes, refused_lines, refused_told};
 ghost use Rattle.cli_tasks.specs.declared.named_files.FileProblem.TheVariants.{Memory};
 
 use crate::folder::Folder;
-use crate::programs::code_in;
-use object::{EntryError, ObjectFault, sentence};
+use object::{ObjectFault, entry, sentence};
 use scenario::{LoadedFile, Reference, ReferenceKey};
 use std::alloc::{AllocError, Global};
 use std::io::{self, ErrorKind};
@@ -91,17 +91,8 @@ fn assembly(alloc: Global, named: &Reference, bytes: Vec<u8>) -> Result<LoadedFi
     }
 }
 
-/// Returns the bytecode of the function that the scenario names in an ELF object with these bytes. Without such a name
-/// the object must have only one global function. Fails with the object's fault, with a loop, or if memory runs out.
-fn named_code(alloc: Global, named: &Reference, bytes: &[u8]) -> Result<Vec<u8>, EntryError>
-    ensures code { IfOk result (λ code. IsEntryCode bytes.now named.now.function code.items) }
-    ensures error { IfErr result (IsEntryError bytes.now named.now.function) }
-{
-    code_in(alloc, bytes, named.function.as_deref())
-}
-
-/// Returns a named ELF object with these bytes and the bytecode of the function that the scenario names. Fails with a
-/// report if there is no such bytecode.
+/// Returns a named ELF object with these bytes and the code of the function that the scenario names. Without such a
+/// name the object must have only one function. Fails with a report if there is no such code.
 fn object(alloc: Global, named: &Reference, bytes: &[u8]) -> Result<LoadedFile, FileProblem>
     requires { named.now.key ≡ Object }
     ensures file { IfOk result (IsFile named.now bytes.now) }
@@ -109,13 +100,24 @@ fn object(alloc: Global, named: &Reference, bytes: &[u8]) -> Result<LoadedFile, 
 {
     let name = named.name.clone()?;
     let function = named.function.as_deref();
-    match named_code(alloc, named, bytes) {
-        Ok(code) => Ok(LoadedFile::object(alloc, name, function, code.as_slice())?),
-        Err(EntryError::Fault(fault)) => Err(FileProblem::Told {
+    match code_in(bytes, function) {
+        Ok(code) => Ok(LoadedFile::object(alloc, name, function, code)?),
+        Err(fault) => Err(FileProblem::Told {
             lines: refused(alloc, fault, named)?,
             kind: None,
         }),
-        Err(EntryError::Memory) => Err(FileProblem::Memory),
+    }
+}
+
+/// Returns the code of the function named `function` in an ELF object or, without a name, the code of its only global
+/// function. Fails with the object's fault if there is no such code.
+fn code_in<'a>(object: &'a [u8], function: Option<&str>) -> Result<&'a [u8], ObjectFault>
+    ensures { MatchResult result (λ code. entry_of object.now (asked function.entry) ≡ Ok code.now)
+        (λ fault. entry_of object.now (asked function.entry) ≡ Err fault) }
+{
+    match function {
+        None => entry(object, None),
+        Some(name) => entry(object, Some(name.as_bytes())),
     }
 }
 

@@ -2,7 +2,7 @@
 //! --partial`).
 ghost use Rattle.std.specs.Prelude.{◌≡◌, ℕ, List, IfOk, IfErr, Ok, string_bytes};
 ghost use Rattle.cli_words.specs.declared.tasks.Notation.TheVariants.{Assembly as Texts};
-ghost use Rattle.object.specs.EntryCode.{IsEntryCode};
+ghost use Rattle.object.specs.Entry.{entry_of};
 ghost use Rattle.object.specs.Symbol.{asked};
 ghost use Rattle.asm.specs.PieceText.{IsTextOf};
 ghost use Rattle.asm.specs.Reading.{bytes_said};
@@ -14,7 +14,6 @@ use crate::refusal::InputRefusal;
 use crate::texts::as_text;
 use asm::partial::{assemble, disassemble};
 use cli_words::Notation;
-use object::EntryError;
 use std::alloc::Global;
 
 /// Assembles a text line by line, and returns the bytecode as one line of lower-case hexadecimal digits. A line is an
@@ -92,13 +91,12 @@ fn of_text(alloc: Global, text: &str) -> Result<String, InputRefusal>
 /// Disassembles the code of the function named `entry` in an ELF object or, without a name, of its only global
 /// function.
 fn of_object(alloc: Global, object: &[u8], entry: Option<&str>) -> Result<String, InputRefusal>
-    ensures text { IfOk result (λ text. (code : List ℕ) × IsEntryCode object.now (asked entry.entry) code
+    ensures text { IfOk result (λ text. (code : List ℕ) × (entry_of object.now (asked entry.entry) ≡ Ok code)
         × IsTextOf code (string_bytes text) × (bytes_said (string_bytes text) ≡ Ok code)) }
     ensures refused { IfErr result (RefusesObject RefusesUnits (asked entry.entry) object.now) }
 {
-    match code_in(alloc, object, entry) {
-        Ok(code) => of_code(alloc, code.as_slice()),
-        Err(EntryError::Fault(fault)) => Err(InputRefusal::Object(fault)),
-        Err(EntryError::Memory) => Err(InputRefusal::Memory),
+    match code_in(object, entry) {
+        Ok(code) => of_code(alloc, code),
+        Err(fault) => Err(InputRefusal::Object(fault)),
     }
 }

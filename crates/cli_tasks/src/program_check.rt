@@ -19,7 +19,6 @@ use asm::assemble;
 use cli_words::Notation;
 use codec::decode;
 use insn::Program;
-use object::EntryError;
 use std::alloc::{AllocError, Global};
 use trial::{Setting, first_lines, run_in};
 use verify::{Refused, Verified, verify};
@@ -95,10 +94,9 @@ fn accepted_object(
     ensures sound { IfOk result (λ program. IsSound program) }
     ensures refused { IfErr result (RefusesObject RefusesCheck (asked entry.entry) object.now) }
 {
-    match code_in(alloc, object, entry) {
-        Ok(code) => accepted(alloc, code.as_slice()),
-        Err(EntryError::Fault(fault)) => Err(InputRefusal::Object(fault)),
-        Err(EntryError::Memory) => Err(InputRefusal::Memory),
+    match code_in(object, entry) {
+        Ok(code) => accepted(alloc, code),
+        Err(fault) => Err(InputRefusal::Object(fault)),
     }
 }
 

@@ -3,7 +3,6 @@ ghost use Rattle.std.specs.Prelude.{◌≡◌, IfOk, IfErr, MatchResult, Ok, Err
 ghost use Rattle.asm.specs.Program.{program_of};
 ghost use Rattle.codec.specs.Program.{SpellsProgram};
 ghost use Rattle.object.specs.Entry.{entry_of};
-ghost use Rattle.object.specs.EntryCode.{IsEntryCode, IsEntryError};
 ghost use Rattle.object.specs.Symbol.{asked};
 ghost use Rattle.cli_tasks.specs.Programs.{HasEntry, HasProgram};
 ghost use Rattle.cli_tasks.specs.ProgramRefusals.{RefusesAssembly, RefusesDisassembly, RefusesNotation, RefusesObject};
@@ -14,7 +13,7 @@ use asm::assemble;
 use cli_words::Notation;
 use codec::decode;
 use insn::Program;
-use object::{EntryError, ObjectFault};
+use object::ObjectFault;
 use std::alloc::Global;
 
 /// Reads a program from the bytes of a file, without verifying it. `notation` says whether the file is bytecode,
@@ -55,35 +54,15 @@ fn of_object(alloc: Global, object: &[u8], entry: Option<&str>) -> Result<Progra
     ensures program { IfOk result (λ program. HasEntry (asked entry.entry) object.now program) }
     ensures refused { IfErr result (RefusesObject RefusesDisassembly (asked entry.entry) object.now) }
 {
-    match code_in(alloc, object, entry) {
-        Ok(code) => of_bytes(alloc, code.as_slice()),
-        Err(EntryError::Fault(fault)) => Err(InputRefusal::Object(fault)),
-        Err(EntryError::Memory) => Err(InputRefusal::Memory),
-    }
-}
-
-/// Returns the bytecode of the function named `entry` in an ELF object or, without a name, of its only global function.
-/// No jump leads back in it. Fails with the object's fault, with a loop, or if memory runs out.
-pub(crate) fn code_in(
-    alloc: Global,
-    object: &[u8],
-    entry: Option<&str>,
-) -> Result<Vec<u8>, EntryError>
-    ensures code { IfOk result (λ code. IsEntryCode object.now (asked entry.entry) code.items) }
-    ensures error { IfErr result (IsEntryError object.now (asked entry.entry)) }
-{
-    match entry {
-        None => object::entry_code(alloc, object, None),
-        Some(name) => object::entry_code(alloc, object, Some(name.as_bytes())),
+    match code_in(object, entry) {
+        Ok(code) => of_bytes(alloc, code),
+        Err(fault) => Err(InputRefusal::Object(fault)),
     }
 }
 
 /// Returns the code of the function named `entry` in an ELF object or, without a name, the code of its only global
-/// function, in the object's order. Fails with the object's fault if there is no such code.
-pub(crate) fn own_code_in<'a>(
-    object: &'a [u8],
-    entry: Option<&str>,
-) -> Result<&'a [u8], ObjectFault>
+/// function. Fails with the object's fault if there is no such code.
+pub(crate) fn code_in<'a>(object: &'a [u8], entry: Option<&str>) -> Result<&'a [u8], ObjectFault>
     ensures { MatchResult result (λ code. entry_of object.now (asked entry.entry) ≡ Ok code.now)
         (λ fault. entry_of object.now (asked entry.entry) ≡ Err fault) }
 {

@@ -4,5 +4,3 @@ pub mod EntryLemmas
 pub mod RowLemmas
 pub mod NameLemmas
 pub mod TextLemmas
-pub mod OrderLemmas
-pub mod PlaceLemmas

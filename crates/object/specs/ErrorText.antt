@@ -4,7 +4,7 @@ use Rattle.std.specs.Fmt.{decimal}
 use Rattle.object.specs.declared.fault.Damage.{Damage}
 use Rattle.object.specs.declared.fault.Damage.TheVariants.{Sections, Section, Symbol, Relocations}
 use Rattle.object.specs.declared.fault.ObjectFault.{ObjectFault}
-use Rattle.object.specs.declared.fault.ObjectFault.TheVariants.{NoObject, Damaged, NoFunction, Several, Names, Leaves, Loops}
+use Rattle.object.specs.declared.fault.ObjectFault.TheVariants.{NoObject, Damaged, NoFunction, Several, Names, Leaves}
 
 -- Returns where an object is damaged, as text.
 abbrev pub place_of : Damage → List ℕ
@@ -21,4 +21,3 @@ told NoFunction = codes "O3"
 told Several = codes "O4"
 told (Names unit) = codes "O5 unit " ++ decimal unit
 told (Leaves unit) = codes "O6 unit " ++ decimal unit
-told (Loops unit) = codes "O7 unit " ++ decimal unit

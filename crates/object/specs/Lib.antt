@@ -17,6 +17,3 @@ pub mod Entries
 pub mod Names
 pub mod Tables
 pub mod Places
-pub mod Flow
-pub mod Reorder
-pub mod EntryCode

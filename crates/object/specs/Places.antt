@@ -1,13 +1,10 @@
 -- The source file and line of each unit of a function. A unit is 8 bytes of bytecode.
 use Rattle.std.specs.Prelude.{ℕ, zero, suc, Bool, ◌≡◌, ◌+◌, ◌-◌, ◌*◌, ◌/◌, ◌%◌, ◌^◌, ◌⊎◌, List, [], ◌∷◌, ◌++◌, length, take, slice_get, min, codes, decimal}
 use Rattle.std.specs.Prelude.{◌==◌, ◌&&◌, not, nat_lt, nat_le, if◌then◌else◌, Option, Some, None}
-use Rattle.std.specs.Prelude.{Result, Ok, Err, get_or, map}
+use Rattle.std.specs.Prelude.{Result, Ok, Err}
 use Rattle.object.specs.declared.fault.ObjectFault.{ObjectFault}
 use Rattle.object.specs.declared.symbol.Symbol.{Symbol}
 use Rattle.object.specs.First.{first_some}
-use Rattle.object.specs.Section.{section_table}
-use Rattle.object.specs.Entry.{code_in}
-use Rattle.object.specs.Reorder.{IsReordered}
 use Rattle.object.specs.declared.header.Header.{Header}
 use Rattle.object.specs.declared.registers.LineRow.{LineRow}
 use Rattle.object.specs.Header.{header_of}
@@ -84,27 +81,8 @@ TellsPlaces object function texts =
     × (texts ≡ texts_of (name_in object (header_of (lines_in object))) rows function.value
     (min (function.size / 8) 4096))
 
--- Returns the text of the unit `origin` of a function with the texts `own`. It is empty for a jump that was added.
-abbrev pub text_from : List (List ℕ) → Option ℕ → List ℕ
-text_from own None = []
-text_from own (Some unit) = get_or own unit []
-
--- States that `texts` are a function's texts `own` in the order of its bytecode: they are the same, or the bytecode is
--- the function's code in another order, and each unit has the text of its origin.
-abbrev pub ArePlacesOf : List ℕ → List (List ℕ) → List (List ℕ) → Type 0
-ArePlacesOf code own texts =
-    (texts ≡ own)
-    ⊎ ((program : List ℕ) × (origins : List (Option ℕ)) × IsReordered code program origins
-    × (texts ≡ map (text_from own) origins))
-
--- States that the texts are the file and line of each unit of the function's bytecode.
-abbrev pub AreFunctionPlaces : List ℕ → Symbol → List (List ℕ) → Type 0
-AreFunctionPlaces object function texts =
-    (own : List (List ℕ)) × TellsPlaces object function own
-    × ArePlacesOf (code_in object (section_table object) function) own texts
-
--- States that the texts are the file and line of each unit of the entry function's bytecode. There are none if the
--- object has no such function.
+-- States that the texts are the file and line of each unit of the entry function. There are none if the object has no
+-- such function.
 abbrev pub AreEntryPlaces : List ℕ → Result Symbol ObjectFault → List (List ℕ) → Type 0
-AreEntryPlaces object (Ok function) texts = AreFunctionPlaces object function texts
+AreEntryPlaces object (Ok function) texts = TellsPlaces object function texts
 AreEntryPlaces object (Err fault) texts = texts ≡ []

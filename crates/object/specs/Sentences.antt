@@ -2,7 +2,7 @@
 use Rattle.std.specs.Prelude.{ℕ, List, codes}
 use Rattle.object.specs.declared.fault.Damage.TheVariants.{Sections, Section, Symbol, Relocations}
 use Rattle.object.specs.declared.fault.ObjectFault.{ObjectFault}
-use Rattle.object.specs.declared.fault.ObjectFault.TheVariants.{NoObject, Damaged, NoFunction, Several, Names, Leaves, Loops}
+use Rattle.object.specs.declared.fault.ObjectFault.TheVariants.{NoObject, Damaged, NoFunction, Several, Names, Leaves}
 
 -- Returns a sentence that says what a fault means, and what to do about it.
 abbrev pub sentence_of : ObjectFault → List ℕ
@@ -18,5 +18,3 @@ sentence_of (Names place) = codes
     "the entry uses data, or a function that is not in the object: put arrays on the stack, and call helpers by number"
 sentence_of (Leaves place) =
     codes "the entry calls or names another function: make that one `static inline`, so that only one is left"
-sentence_of (Loops place) =
-    codes "this jump closes a loop: give the loop a constant bound, and unroll it by `#pragma unroll` and `-O2`"

@@ -119,7 +119,7 @@ fn choose(
 }
 
 /// Returns the bytecode of a function, or no bytes if it is not within its section.
-pub fn code_of<'a>(object: &'a [u8], table: &[u8], function: Symbol) -> &'a [u8]
+fn code_of<'a>(object: &'a [u8], table: &[u8], function: Symbol) -> &'a [u8]
     ensures { result.now ≡ code_in object.now table.now function }
 {
     window(

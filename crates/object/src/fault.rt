@@ -33,8 +33,6 @@ pub enum ObjectFault {
     Names(usize),
     /// O6: the 8-byte unit with this index in the entry's code calls or uses a function of the object.
     Leaves(usize),
-    /// O7: the jump at the 8-byte unit with this index in the entry's code closes a loop.
-    Loops(usize),
 }
 
 impl fmt::Display for Damage {
@@ -67,7 +65,6 @@ impl fmt::Display for ObjectFault {
             ObjectFault::Several => f.write_str("O4"),
             ObjectFault::Names(unit) => write!(f, "O5 unit {unit}"),
             ObjectFault::Leaves(unit) => write!(f, "O6 unit {unit}"),
-            ObjectFault::Loops(unit) => write!(f, "O7 unit {unit}"),
         }
     }
 }
@@ -104,9 +101,6 @@ pub fn sentence(fault: ObjectFault) -> &'static str
         }
         ObjectFault::Leaves(_) => {
             "the entry calls or names another function: make that one `static inline`, so that only one is left"
-        }
-        ObjectFault::Loops(_) => {
-            "this jump closes a loop: give the loop a constant bound, and unroll it by `#pragma unroll` and `-O2`"
         }
     }
 }

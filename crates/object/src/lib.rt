@@ -3,19 +3,14 @@
 //! Number Information").
 #![tactic(auto)]
 
-mod block_order;
 mod damage;
 mod entries;
 mod entry_search;
 mod fault;
-mod flow;
 mod header;
-mod jump_graph;
-mod layout;
 mod leb128;
 mod names;
 mod number;
-mod ordered_entry;
 mod origin;
 mod registers;
 mod relocation;
@@ -27,12 +22,10 @@ mod symbol;
 mod tables;
 mod unit_places;
 
-pub use block_order::{Reordered, Reordering, reorder};
 pub use entry_search::{entry, function};
 pub use fault::{Damage, ObjectFault, sentence};
 pub use number::{byte_at, double_at, half_at, word_at};
-pub use ordered_entry::{EntryError, entry_code, entry_places};
 pub use relocation::Relocation;
 pub use section::{SectionHeader, count_sections, read_table};
 pub use symbol::{Symbol, find_symbols};
-pub use unit_places::places;
+pub use unit_places::{entry_places, places};

@@ -1,8 +1,10 @@
 //! Finds the source file and line of each 8-byte unit of a function's code.
 ghost use Rattle.std.specs.Prelude.{◌≡◌, ◌<◌, ◌≤◌, ◌+◌, ◌++◌, codes, decimal, length, map, string_bytes, IfOk};
+ghost use Rattle.object.specs.Entry.{function_of};
+ghost use Rattle.object.specs.Symbol.{asked};
 ghost use Rattle.object.specs.Header.{header_of};
 ghost use Rattle.object.specs.Tables.{lines_in};
-ghost use Rattle.object.specs.Places.{AreRows, TellsPlaces, name_in, is_of, row_here, row_of, texts_of, told, told_of};
+ghost use Rattle.object.specs.Places.{AreEntryPlaces, AreRows, TellsPlaces, name_in, is_of, row_here, row_of, texts_of, told, told_of};
 
 use crate::header::{Header, header_of};
 use crate::names::{name_of, plain};
@@ -166,4 +168,25 @@ pub fn places(alloc: Global, object: &[u8], function: Symbol) -> Result<Vec<Stri
     let units = (function.size / 8).min(MOST_UNITS) as usize;
     let rows = rows_of(alloc, object, function.section, header)?;
     texts_of(alloc, object, header, rows.as_slice(), function, units)
+}
+
+/// Returns the file and line of each 8-byte unit of an object's entry function as text, such as `traitor.c:12`. The
+/// entry is the function with this name or, if no name is given, the only global function. The list is empty if the
+/// object has no such entry.
+///
+/// # Errors
+///
+/// `AllocError` if out of memory.
+pub fn entry_places(
+    alloc: Global,
+    object: &[u8],
+    name: Option<&[u8]>,
+) -> Result<Vec<String>, AllocError>
+    ensures { IfOk result (λ texts. AreEntryPlaces object.now (function_of object.now (asked name.entry))
+        (map string_bytes texts.items)) }
+{
+    match crate::entry_search::function(object, name) {
+        Ok(function) => places(alloc, object, function),
+        Err(_) => Ok(Vec::new(alloc)),
+    }
 }
