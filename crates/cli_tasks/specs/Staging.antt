@@ -18,8 +18,8 @@ use Rattle.cli_tasks.specs.declared.refusal.InputRefusal.TheVariants.{LongScenar
 abbrev pub traitors_of : Story → ℕ → ℕ → List ℕ
 traitors_of story n c = filter (is_traitor_in story c) (generals n)
 
--- States that a text is the scenario of a message table that breaks a rule: `source` is the table that `refute` prints
--- without `--scenario`, and the traitors are those of its story.
+-- States that a text is the scenario of the message table that `refute` prints without `--scenario`, which is `source`.
+-- The traitors are those of its story.
 pub record StagesRefutation (n m c : List ℕ) (rule : Rule) (asked : Option Story) (text : List ℕ) : Type 0 where
   pub source : List ℕ
   pub refutes : Refutes n m c rule asked source
@@ -29,7 +29,7 @@ pub record StagesRefutation (n m c : List ℕ) (rule : Rule) (asked : Option Sto
   pub chosen : IsAsked asked rule table.generals table.commander table.bound story
   pub staged : text ≡ scenario_text table (traitors_of story table.generals table.commander)
 
--- States that a text is what `refute` prints: a message table that breaks the rule or, if the flag is set, its scenario.
+-- States that a text is what `refute` prints: its message table or, if the flag is set, the scenario of this table.
 abbrev pub ShowsRefutation : Bool → List ℕ → List ℕ → List ℕ → Rule → Option Story → List ℕ → Type 0
 ShowsRefutation false n m c rule asked text = Refutes n m c rule asked text
 ShowsRefutation true n m c rule asked text = StagesRefutation n m c rule asked text
