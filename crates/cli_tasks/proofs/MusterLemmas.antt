@@ -20,9 +20,9 @@ either_err {T} {E} {F} Q R P (Err e) (Err f) is weaker r = weaker e f r is
 refuses_as : (o : Outcomes) (e : MusterError) → (e ≡ muster.Unaccounted ↔ LacksAccount o) → (e ≡ muster.Spawn ↔ LacksThread o) → (e ≡ muster.Post ↔ LacksRoom o)
     → RefusesMuster (muster_refusal e)
 refuses_as o muster.Memory unaccounted spawn post = tt
-refuses_as o muster.Unaccounted unaccounted spawn post = (cc, (o, unaccounted.0 refl))
-refuses_as o muster.Spawn unaccounted spawn post = (cc, (o, spawn.0 refl))
-refuses_as o muster.Post unaccounted spawn post = (cc, (o, post.0 refl))
+refuses_as o muster.Unaccounted unaccounted spawn post = ((λ p. absurd (let h = p in cc)), (o, unaccounted.0 refl))
+refuses_as o muster.Spawn unaccounted spawn post = ((λ p. absurd (let h = p in cc)), (o, spawn.0 refl))
+refuses_as o muster.Post unaccounted spawn post = ((λ p. absurd (let h = p in cc)), (o, post.0 refl))
 
 pub refuses_muster : (o : Outcomes) (e : MusterError) (refusal : InputRefusal) → (e ≡ muster.Unaccounted ↔ LacksAccount o) → (e ≡ muster.Spawn ↔ LacksThread o) → (e ≡ muster.Post ↔ LacksRoom o)
     → refusal ≡ muster_refusal e → RefusesMuster refusal
