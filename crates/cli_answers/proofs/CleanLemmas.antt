@@ -23,7 +23,7 @@ use Rattle.cli_answers.specs.Shaped.{first_by, first_shaped, shaped, told_by, wi
 use Rattle.cli_answers.specs.Refusals.{class_of, fault_object, is_keyed, is_unsafe, namer, namer_of, numbered, placed_refusal, refusal_object, refused_object, reported, sentence_of, why, with_advice, with_namer, with_sentence, with_verified}
 use Rattle.cli_answers.specs.Shapes.{Row, accesses, entry, error_places, reasons, received, shapes}
 use Rattle.cli_answers.specs.Texts.{behind_stop, called, with_text}
-use Rattle.cli_answers.specs.Values.{Word, all, before_comma, joined, number_of, numbers_of, place_of, places, power_of, received_of, rule_of, small, told, yes_no_of, spaced, text_of}
+use Rattle.cli_answers.specs.Values.{Word, all, before_comma, joined, number_of, numbers_of, place_of, places, power_of, received_of, rule_of, small, told, yes_no_of}
 
 abbrev IsClean : Option Data → Type 0
 IsClean None = Unit {0}
@@ -145,11 +145,9 @@ told_by_clean [] [] ms b = b
 told_by_clean [] (w ∷ ws) ms b = tt
 told_by_clean (p ∷ ps) [] ms b = either HaveClean (bytes_eq p.0 (codes "*")) (option_map (λ d. with_name p.1 d ms) (places [])) None (star_clean p.1 ms (places []) b (places_clean [])) tt
 told_by_clean (p ∷ ps) (w ∷ ws) ms b =
-    either HaveClean (bytes_eq p.0 (codes "*")) (option_map (λ d. with_name p.1 d ms) (places (w ∷ ws))) _
+    either HaveClean (bytes_eq p.0 (codes "*")) (option_map (λ d. with_name p.1 d ms) (places (w ∷ ws))) (option_and_then (λ d. told_by ps ws (with_name p.1 d ms)) (told p.0 w))
     (star_clean p.1 ms (places (w ∷ ws)) b (places_clean (w ∷ ws)))
-    (either HaveClean (bytes_eq p.0 (codes "T")) (Some (with_name p.1 (text_of (spaced (w ∷ ws))) ms)) (option_and_then (λ d. told_by ps ws (with_name p.1 d ms)) (told p.0 w))
-    (name_clean p.1 (text_of (spaced (w ∷ ws))) ms refl b)
-    (then_clean p.1 ms (told p.0 w) (told_by ps ws) b (told_clean p.0 w) (λ next c. told_by_clean ps ws next c)))
+    (then_clean p.1 ms (told p.0 w) (told_by ps ws) b (told_clean p.0 w) (λ next c. told_by_clean ps ws next c))
 
 mark_clean : (r : Row) (ms : Members) → NoFloat ms → NoFloat (with_mark r ms)
 mark_clean r ms b = either NoFloat (length r.mark == 0) ms (put r.mark (boolean r.holds) ms) b (put_clean r.mark (boolean r.holds) ms refl b)

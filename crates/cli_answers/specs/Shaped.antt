@@ -5,21 +5,20 @@ use Rattle.cli_answers.specs.declared.position.Held.{Held}
 use Rattle.cli_answers.specs.Labels.{placed}
 use Rattle.cli_answers.specs.Shapes.{Row}
 use Rattle.cli_answers.specs.Texts.{called}
-use Rattle.cli_answers.specs.Values.{Word, places, spaced, text_of, told}
+use Rattle.cli_answers.specs.Values.{Word, places, told}
 
 -- Adds a value to an object as the member `name`, or nothing if the name is a dash.
 abbrev pub with_name : List ℕ → Data → Members → Members
 with_name name d ms = if bytes_eq name (codes "-") then ms else put name d ms
 
--- Adds the values of a line's words to the members `ms`. The first argument is what each word may be, with its name. For
--- `*` the value is a list of all further words, and for `T` their text. The result is None if a word does not fit.
+-- Adds the values of a line's words to the members `ms`. The first argument is what each word may be, with its name.
+-- The result is None if a word does not fit.
 abbrev pub told_by : List (List ℕ × List ℕ) → List Word → Members → Option Members
 told_by [] [] ms = Some ms
 told_by [] (w ∷ ws) ms = None
 told_by (p ∷ ps) [] ms = if bytes_eq p.0 (codes "*") then option_map (λ d. with_name p.1 d ms) (places []) else None
 told_by (p ∷ ps) (w ∷ ws) ms =
     if bytes_eq p.0 (codes "*") then option_map (λ d. with_name p.1 d ms) (places (w ∷ ws))
-    else if bytes_eq p.0 (codes "T") then Some (with_name p.1 (text_of (spaced (w ∷ ws))) ms)
     else option_and_then (λ d. told_by ps ws (with_name p.1 d ms)) (told p.0 w)
 
 -- Returns the members if all words of a line fit, else None.

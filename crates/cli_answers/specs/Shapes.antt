@@ -82,8 +82,6 @@ shapes =
     ∷ plain (codes "table") (codes "generals N bound N commander N rule C")
     (codes "- generals - bound - commander - rule") Nothing
     ∷ plain (codes "message") (codes "tell S N N") (codes "- label receiver order") Nothing
-    ∷ marked (codes "call") (codes "note: round N general N unit N W has no effect: T")
-    (codes "- - round - general - unit helper - - - reason") (codes "effect") false Nothing
     ∷ plain (codes "certified") (codes "certified generals N") (codes "- - generals") Nothing
     ∷ plain (codes "uncertified") (codes "uncertified majority N result N list *")
     (codes "- - majority - result - list") Nothing

@@ -1,5 +1,5 @@
 -- The JSON value of a word in a printed line (RFC 8259).
-use Rattle.std.specs.Prelude.{ℕ, drop, take, length, ◌-◌, ◌^◌, nat_lt, true, false, if◌then◌else◌, List, [], ◌∷◌, ◌++◌, Option, None, Some, option_map, option_and_then, is_some, bytes_eq, codes}
+use Rattle.std.specs.Prelude.{ℕ, drop, take, length, ◌-◌, ◌^◌, nat_lt, true, false, if◌then◌else◌, List, [], ◌∷◌, Option, None, Some, option_map, option_and_then, is_some, bytes_eq, codes}
 use Rattle.std.specs.Str.Lossy.{utf8_lossy}
 use Rattle.combine.specs.Names.{rule_named}
 use Rattle.serde_json.specs.Data.{Data, null, boolean, number, unsigned, string, array, Items, no_items, item}
@@ -69,16 +69,6 @@ rule_of word = if is_some (rule_named word) then Some (string (utf8_lossy word))
 -- Returns the exponent of a power of two, such as `2^18`, as a JSON number, or None for any other word.
 abbrev pub power_of : Word → Option Data
 power_of word = if bytes_eq (take 2 word) (codes "2^") then number_of (drop 2 word) else None
-
--- Returns a word as a JSON text.
-abbrev pub text_of : Word → Data
-text_of word = string (utf8_lossy word)
-
--- Joins words by spaces.
-abbrev pub spaced : List Word → List ℕ
-spaced [] = []
-spaced (word ∷ []) = word
-spaced (word ∷ next ∷ words) = word ++ 32 ∷ spaced (next ∷ words)
 
 -- Returns the JSON value of a word, if it is what `kind` says. For N it is a number, for P a number or null, for A a
 -- boolean or null, for S an array of numbers, for C the word of a rule, and for E the exponent of a power of two. For

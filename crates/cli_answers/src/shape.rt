@@ -28,8 +28,7 @@ pub(crate) struct Shape {
     /// For each word what it may be, and its name, or a dash if the object leaves the word out. `N` is a number, `P`
     /// a number or a dash, `A` yes, no or a dash, `S` numbers joined by dots or a dash, `C` the word of a rule, and `E`
     /// a power of two, such as `2^18`. `N,` is a number before a comma, `O` a number or `nothing`, and `W` any word. `*`
-    /// is any number of further words, each a number or a dash, and `T` is the rest of the line, at least one word. Anything
-    /// else is the word itself.
+    /// is any number of further words, each a number or a dash. Anything else is the word itself.
     pub parts: &'static [(&'static str, &'static str)],
     /// The mark: the name of a member that is true, or false, in the objects of all these lines. It is empty if there
     /// is no mark.
@@ -269,26 +268,6 @@ const SHAPES: &[Shape] = &[
             ("N", "order"),
         ],
         mark: "",
-        holds: false,
-        within: Within::Nothing,
-    },
-    Shape {
-        line: "call",
-        parts: &[
-            ("note:", "-"),
-            ("round", "-"),
-            ("N", "round"),
-            ("general", "-"),
-            ("N", "general"),
-            ("unit", "-"),
-            ("N", "unit"),
-            ("W", "helper"),
-            ("has", "-"),
-            ("no", "-"),
-            ("effect:", "-"),
-            ("T", "reason"),
-        ],
-        mark: "effect",
         holds: false,
         within: Within::Nothing,
     },

@@ -10,7 +10,7 @@ use crate::labels::put_place;
 use crate::position::Held;
 use crate::shape::Shape;
 use crate::texts::called;
-use crate::values::{places, spelled, told};
+use crate::values::{places, told};
 use serde_json::{Map, Value, put};
 use std::alloc::{AllocError, Global};
 use text::{SPACE, piece};
@@ -33,7 +33,6 @@ fn put_named(
 
 /// Adds the values of a line's words to the object. Each of `parts` is what a word may be, and its name in the
 /// object. Returns whether all words fit.
-#[tactic(auto, using(crate::proofs::ValueLemmas::text_fits))]
 pub(crate) fn put_told(
     alloc: Global,
     object: &mut Map<String, Value>,
@@ -55,10 +54,6 @@ pub(crate) fn put_told(
         let Some(words) = rest else {
             return Ok(false);
         };
-        if *kind == "T" {
-            put_named(alloc, object, name, spelled(alloc, words)?)?;
-            return Ok(true);
-        }
         let (word, further) = piece(SPACE, words);
         let Some(value) = told(alloc, kind.as_bytes(), word)? else {
             return Ok(false);
