@@ -2,13 +2,7 @@ mod KeptLemmas
 mod Going
 mod LeastLemmas
 mod AccountLemmas
-mod Comparing
-mod Ascending
-mod Exactness
-mod Apart
-mod Seeing
 mod SumLemmas
-mod ReadLemmas
 mod CoverLemmas
 mod BrokenLemmas
 mod NumberLemmas

@@ -6,7 +6,6 @@ pub mod Meant
 pub mod Wrong
 pub mod Kept
 pub mod Printed
-pub mod Seeing
 pub mod Summed
 pub mod Broken
 pub mod Faults

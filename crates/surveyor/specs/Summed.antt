@@ -1,13 +1,11 @@
 -- Defines the sum of files with the lines of surveys, and which seeds the files must contain (docs/FORMATS.md,
 -- "Surveys").
-use Rattle.std.specs.Prelude.{ℕ, ◌≡◌, ◌≢◌, ◌≤◌, ◌<◌, ◌-◌, ◌^◌, List, [], ◌∷◌, ◌++◌, codes, decimal, flat_map, length, Option, None, Some}
+use Rattle.std.specs.Prelude.{ℕ, ◌≡◌, ◌≢◌, ◌≤◌, ◌-◌, ◌^◌, min, max, List, [], ◌∷◌, ◌++◌, codes, decimal, flat_map, length, Option, None, Some}
 use Rattle.std.specs.List.{AllZip}
 use Rattle.std.specs.Io.KnownBytes.{Appends}
 use Rattle.surveys.specs.declared.finding.Finding.{Finding}
 use Rattle.surveys.specs.Parts.{AreOf, IsPart}
 use Rattle.surveys.specs.Covering.{AreDoubles, AreHoles, seeds_in, times}
-use Rattle.surveyor.specs.Seeing.{AreEndsOf, HasSeen, Seen}
-use Rattle.surveys.specs.Running.{Counts, counts_of}
 use Rattle.surveys.specs.declared.stretch.Stretch.{Stretch}
 use Rattle.surveyor.specs.declared.task.Merge.{Merge}
 use Rattle.surveyor.specs.Printed.{summary_text}
@@ -33,19 +31,6 @@ pub record IsTold (m : Merge) (head : List ℕ) (found : List Finding) : Type 0 
   pub whole : found ≡ joined parts
   pub seeds : AreOf (span_of m.seeds).0 (span_of m.seeds).1 found
 
--- States that these are the counts and the seeds of these campaigns, of which there are fewer than 2^64.
-pub record HasRead (counts : Counts) (seen : Seen) (found : List Finding) : Type 0 where
-  pub counted : counts ≡ counts_of found
-  pub seen : HasSeen seen (seeds_in found)
-  pub few : length found < 2 ^ 64
-
--- States that these are the counts and the seeds of the campaigns in the files with the given names.
-pub record AreKept (m : Merge) (counts : Counts) (seen : Seen) : Type 0 where
-  pub head : List ℕ
-  pub found : List Finding
-  pub told : IsTold m head found
-  pub read : HasRead counts seen found
-
 -- States that the campaign of this seed is among the given ones.
 abbrev pub IsToldOf : ℕ → List Finding → Type 0
 IsToldOf x found = 1 ≤ times x (seeds_in found)
@@ -62,10 +47,26 @@ pub record IsCoveredBy (seeds : Option (ℕ × ℕ)) (found : List Finding) (sta
   pub covered : IsCovered seeds found → status ≡ 0
   pub ill : status ≢ 0 → status ≡ 1
 
+-- Extends a range of seeds so that it contains `seed`. If there is no range yet, returns the range of only this seed.
+abbrev pub with_seed : Option (ℕ × ℕ) → ℕ → Option (ℕ × ℕ)
+with_seed None seed = Some (seed, seed)
+with_seed (Some ends) seed = Some (min ends.0 seed, max ends.1 seed)
+
+-- States that `ends` are the least and the greatest seed that occur.
+pub record AreLeastAndGreatest (found : List Finding) (ends : ℕ × ℕ) : Type 0 where
+  pub first : IsToldOf ends.0 found
+  pub last : IsToldOf ends.1 found
+  pub within : (x : ℕ) → IsToldOf x found → (ends.0 ≤ x) × (x ≤ ends.1)
+
+-- States that these are the least and the greatest seed that occur, or `None` if there are no campaigns.
+abbrev pub AreEnds : List Finding → Option (ℕ × ℕ) → Type 0
+AreEnds found None = found ≡ []
+AreEnds found (Some ends) = AreLeastAndGreatest found ends
+
 -- States that this is the range of seeds that should occur: the range of `--seeds` or, if it is not given, the range
 -- from the least to the greatest seed that occurs.
 abbrev pub IsAskedFor : Option (ℕ × ℕ) → List Finding → Option (ℕ × ℕ) → Type 0
-IsAskedFor None found span = AreEndsOf (seeds_in found) span
+IsAskedFor None found span = AreEnds found span
 IsAskedFor (Some seeds) found span = span ≡ Some seeds
 
 -- Returns the line that reports a range of seeds, such as `hole 5..7`.

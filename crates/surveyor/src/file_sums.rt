@@ -1,23 +1,18 @@
 //! `--sum`: reads the lines of several surveys from files, and prints their common summary. Reports the seeds that are
 //! missing or occur more than once.
-ghost use Rattle.std.specs.Prelude.{◌≡◌, ◌≢◌, [], ◌++◌, List, IfErr, IfOk, OnOk, flat_map, length, string_bytes};
-ghost use Rattle.surveys.specs.declared.finding.Finding.{Finding as Found};
-ghost use Rattle.surveys.specs.Covering.{seeds_in};
-ghost use Rattle.surveyor.specs.Seeing.{HasSeen};
+ghost use Rattle.std.specs.Prelude.{◌≡◌, ◌≢◌, [], ◌++◌, IfErr, IfOk, OnOk, flat_map, length, string_bytes};
 ghost use Rattle.surveys.specs.Parts.{AreOf};
 ghost use Rattle.surveyor.specs.Faults.{IsNoPart, IsUnsummed, IsUntold};
 ghost use Rattle.surveyor.specs.Statuses.{IsReported};
-ghost use Rattle.surveyor.specs.Summed.{AreKept, IsAskedFor, IsCoveredBy, IsSeedReport, IsSummed, report_text, span_of, stretch_text};
+ghost use Rattle.surveyor.specs.Summed.{AreEnds, IsAskedFor, IsCoveredBy, IsSeedReport, IsSummed, IsTold, report_text, span_of, stretch_text, with_seed};
 
 use crate::fault::SurveyFailure;
 use crate::input::bytes_of;
 use crate::printer::put_summary;
-use crate::read_campaigns::ReadCampaigns;
-use crate::seen_seeds::SeenSeeds;
 use crate::task::Merge;
 use std::alloc::{AllocError, Global};
 use streams::{FileName, Output};
-use surveys::{PartError, Parts, Stretch, read_part};
+use surveys::{Finding, PartError, Parts, RunningCounts, Stretch, doubles, holes, read_part};
 
 /// Reads the lines that `--lines` printed into several files, and prints the summary of all their campaigns. Reports on
 /// `error`, which is standard error, which seeds are missing, and which occur more than once. Returns the exit status:
@@ -37,24 +32,26 @@ pub fn summed<O: Output, F: Output>(
         (IsReported (F.fails error.old) (F.contents error.old) (F.contents error.new))) }
     ensures refused { IfErr result (IsUnsummed asked.now) }
 {
-    let read = told(rt, asked)?;
-    put_summary(rt.alloc(), out, asked.shape, &read.counts)?;
-    covered(rt.alloc(), error, asked.seeds, &read.seeds)
+    let alloc = rt.alloc();
+    let parts = told(rt, asked)?;
+    let findings = parts.findings.as_slice();
+    let mut counts = RunningCounts::new(alloc)?;
+    counts.add(alloc, findings)?;
+    put_summary(alloc, out, asked.shape, &counts)?;
+    covered(alloc, error, asked.seeds, findings)
 }
 
-/// Reads the lines of all files that `--sum` names, one file after another. Returns the counts and the seeds of their
-/// campaigns.
+/// Reads the lines of all files that `--sum` names, and returns the results of their campaigns.
 ///
 /// # Errors
 ///
 /// Fails if a file cannot be read, if a line is rejected, or if memory runs out.
-#[tactic(auto, using(crate::proofs::FaultLemmas::unread_one, crate::proofs::ReadLemmas::first_read, crate::proofs::ReadLemmas::all_read, crate::proofs::ReadLemmas::untold_by_memory))]
-fn told(rt: &HostRuntime, asked: &Merge) -> Result<ReadCampaigns, SurveyFailure>
-    ensures told { IfOk result (λ read. AreKept asked.now read.counts read.seeds) }
+#[tactic(auto, using(crate::proofs::FaultLemmas::unread_one, crate::proofs::SumLemmas::none_told, crate::proofs::SumLemmas::told_more, crate::proofs::SumLemmas::no_part_told))]
+fn told(rt: &HostRuntime, asked: &Merge) -> Result<Parts, SurveyFailure>
+    ensures told { IfOk result (λ parts. IsTold asked.now parts.head.items parts.findings.items) }
     ensures refused { IfErr result (IsUntold asked.now) }
 {
     let alloc = rt.alloc();
-    let mut read = ReadCampaigns::new(alloc)?;
     let mut parts = Parts {
         head: Vec::new(alloc),
         findings: Vec::new(alloc),
@@ -67,10 +64,8 @@ fn told(rt: &HostRuntime, asked: &Merge) -> Result<ReadCampaigns, SurveyFailure>
             Ok(()) => {}
             Err(error) => return Err(refused(alloc, name.as_str(), first, error)),
         }
-        read.add(alloc, parts.findings.as_slice())?;
-        parts.findings.clear();
     }
-    Ok(read)
+    Ok(parts)
 }
 
 /// Returns the name of the first file that had any lines: `first` if one had lines already, and otherwise `name`, the
@@ -141,14 +136,36 @@ fn refusal(
     }
 }
 
+/// Extends the range of seeds `ends` so that it contains `seed`. If there is no range yet, returns the range of only
+/// this seed.
+fn with_seed(ends: Option<(u64, u64)>, seed: u64) -> Option<(u64, u64)>
+    ensures { result ≡ with_seed ends seed }
+{
+    match ends {
+        None => Some((seed, seed)),
+        Some((first, last)) => Some((first.min(seed), last.max(seed))),
+    }
+}
+
+/// Returns the least and the greatest seed of these campaigns, or `None` if there are no campaigns.
+fn ends(all: &[Finding]) -> Option<(u64, u64)>
+    ensures { AreEnds all.now result }
+{
+    let mut ends: Option<(u64, u64)> = None;
+    for finding in all {
+        ends = with_seed(ends, finding.seed);
+    }
+    ends
+}
+
 /// Returns the first and the last seed that the files should contain: the ends of `--seeds` or, if it is not given, the
 /// least and the greatest seed that they contain. Returns `None` if it is not given and they contain no campaign.
-fn asked_for(seeds: Option<(u64, u64)>, seen: &SeenSeeds) -> Option<(u64, u64)>
-    ensures { (found : List Found) → HasSeen seen.now (seeds_in found) → IsAskedFor seeds found result }
+fn asked_for(seeds: Option<(u64, u64)>, all: &[Finding]) -> Option<(u64, u64)>
+    ensures { IsAskedFor seeds all.now result }
 {
     match seeds {
         Some(seeds) => Some(seeds),
-        None => seen.ends(),
+        None => ends(all),
     }
 }
 
@@ -174,26 +191,27 @@ fn status_of(holes: &[Stretch], doubles: &[Stretch]) -> u8
 /// # Errors
 ///
 /// Fails if memory runs out.
+#[tactic(auto, using(crate::proofs::CoverLemmas::seeds_reported, crate::proofs::CoverLemmas::nothing_reported, crate::proofs::CoverLemmas::put_reported))]
 fn covered<F: Output>(
     alloc: Global,
     error: &mut F,
     seeds: Option<(u64, u64)>,
-    seen: &SeenSeeds,
+    all: &[Finding],
 ) -> Result<u8, SurveyFailure>
-    ensures covered { IfOk result (λ status. (found : List Found) → AreOf (span_of seeds).0 (span_of seeds).1 found
-        → HasSeen seen.now (seeds_in found) → IsCoveredBy seeds found status) }
-    ensures told { IfOk result (λ _. (found : List Found) → HasSeen seen.now (seeds_in found)
-        → IsSeedReport seeds found (IsReported (F.fails error.old) (F.contents error.old) (F.contents error.new))) }
+    requires { AreOf (span_of seeds).0 (span_of seeds).1 all.now }
+    ensures covered { IfOk result (IsCoveredBy seeds all.now) }
+    ensures told { IfOk result (λ _. IsSeedReport seeds all.now
+        (IsReported (F.fails error.old) (F.contents error.old) (F.contents error.new))) }
     ensures memory { IfErr result (λ fault. fault ≡ SurveyFailure.Memory) }
 {
-    let span = asked_for(seeds, seen);
+    let span = asked_for(seeds, all);
     let Some((first, last)) = span else {
         return Ok(0);
     };
-    let holes = seen.holes(alloc, first, last)?;
-    let doubles = seen.doubles();
-    let status = status_of(holes.as_slice(), doubles);
-    let report = report_text(alloc, holes.as_slice(), doubles)?;
+    let holes = holes(alloc, all, first, last)?;
+    let doubles = doubles(alloc, all)?;
+    let status = status_of(holes.as_slice(), doubles.as_slice());
+    let report = report_text(alloc, holes.as_slice(), doubles.as_slice())?;
     let _ = error.put(report.as_bytes());
     Ok(status)
 }
