@@ -4,9 +4,7 @@ use Rattle.round.specs.Activation.{Turn, Asks, turn}
 use Rattle.world.specs.declared.event.Event.TheVariants.{Tick}
 use Rattle.world.specs.declared.part.Progress.{Progress}
 use Rattle.world.specs.declared.part.Progress.TheVariants.{Acting}
-use Rattle.world.specs.Kind.{World, happen}
-use Rattle.world.specs.World.{oral_kind}
-
+use Rattle.world.specs.Kind.{Kind, World, happen}
 -- States that the turn is not a request to the board.
 abbrev pub AsksNothing : Turn → Type 0
 AsksNothing (Asks request answered) = ⊥
@@ -19,10 +17,10 @@ IsQuiet _ = Unit {0}
 
 -- States that the world `w` becomes `v` if each of these generals takes a turn, in this order, and that none of these
 -- turns is a request.
-abbrev pub RunsOn : World → List ℕ → World → Type 0
-RunsOn w [] v = w ≡ v
-RunsOn w (g ∷ gs) v = IsQuiet (slice_get w.parts g) × RunsOn (happen oral_kind w (Tick g)) gs v
+abbrev pub RunsOn : Kind → World → List ℕ → World → Type 0
+RunsOn K w [] v = w ≡ v
+RunsOn K w (g ∷ gs) v = IsQuiet (slice_get w.parts g) × RunsOn K (happen K w (Tick g)) gs v
 
 -- States that the world `w` becomes `v` by some turns of generals, none of which is a request.
-abbrev pub IsRunOn : World → World → Type 0
-IsRunOn w v = (gs : List ℕ) × RunsOn w gs v
+abbrev pub IsRunOn : Kind → World → World → Type 0
+IsRunOn K w v = (gs : List ℕ) × RunsOn K w gs v

@@ -1,6 +1,7 @@
 pub mod Agreeing
 pub mod Ahead
 pub mod Entering
+pub mod Explorable
 pub mod Exploring
 pub mod Gathering
 pub mod Keeping

@@ -5,11 +5,9 @@ use Rattle.round.specs.Activation.{Activation, turn, has_ended}
 use Rattle.round.specs.Running.{Silently, Pauses, moved}
 use Rattle.world.specs.declared.part.Progress.{Progress}
 use Rattle.world.specs.declared.part.Progress.TheVariants.{Acting}
-use Rattle.world.specs.Kind.{World, opening}
-use Rattle.world.specs.World.{oral_kind}
+use Rattle.world.specs.Kind.{Kind, World, opening}
 use Rattle.campaign_orders.specs.declared.accessed.Accessed.{Accessed}
 use Rattle.campaign_orders.specs.Layers.{reached}
-
 -- An open round: the world at its start, the board's current words, and the generals' current parts.
 pub record OpenRound : Type 0 where
   pub start : World
@@ -18,8 +16,8 @@ pub record OpenRound : Type 0 where
 
 -- Returns the world with this open round. `rows` lists for each closed round the generals who made its accesses, and
 -- `names` lists those for the open round.
-abbrev pub world_in : List (List ℕ) → List ℕ → OpenRound → World
-world_in rows names o = record (reached (opening oral_kind o.start.scenario) rows names) {
+abbrev pub world_in : Kind → List (List ℕ) → List ℕ → OpenRound → World
+world_in K rows names o = record (reached K (opening K o.start.scenario) rows names) {
   closed = o.start.closed;
   words = o.words;
   parts = o.parts;
