@@ -5,6 +5,7 @@ use Rattle.world.specs.declared.event.Event.TheVariants.{Tick}
 use Rattle.world.specs.declared.part.Progress.{Progress}
 use Rattle.world.specs.declared.part.Progress.TheVariants.{Acting}
 use Rattle.world.specs.Kind.{Kind, World, happen}
+
 -- States that the turn is not a request to the board.
 abbrev pub AsksNothing : Turn → Type 0
 AsksNothing (Asks request answered) = ⊥

@@ -7,6 +7,7 @@ use Rattle.campaign_orders.specs.Least.{lesser, order_cmp}
 use Rattle.campaign_orders.specs.Listing.{AreDifferent, Has}
 use Rattle.campaign_orders.specs.Outcomes.{Outcome}
 use Rattle.campaign_orders.specs.Places.{IsPlaceOf, IsNowhere}
+
 -- States that the outcome of state `t` was found before. Its count grows by the number of ways in which accesses lead
 -- to `t`, and its example becomes the lesser of the two orders.
 pub record IsCountedOn (D : Outcome) (findings : List Finding) (t : State) (new : List Finding) : Type 0 where

@@ -14,6 +14,7 @@ use Rattle.campaign_orders.specs.Least.{Beginning, beginning_cmp}
 use Rattle.campaign_orders.specs.Listing.{Has, AreShort, askers, round_orders, most_in_round}
 use Rattle.campaign_orders.specs.Merging.{AreAlike}
 use Rattle.campaign_orders.specs.Walks.{IsWalk}
+
 -- A state: a world, how many beginnings lead to it or to an alike world, and the least of these beginnings. A beginning
 -- lists the generals who made the accesses: in `rows` for the closed rounds, and in `names` for the open one.
 pub record State : Type 0 where

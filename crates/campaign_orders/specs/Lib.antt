@@ -14,6 +14,7 @@ pub mod Orders
 pub mod Outcomes
 pub mod Places
 pub mod Planning
+pub mod Replayed
 pub mod Schedules
 pub mod Stages
 pub mod Succession

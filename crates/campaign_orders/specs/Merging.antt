@@ -8,6 +8,7 @@ use Rattle.world.specs.KindLists.{replayed_rounds}
 use Rattle.campaign_orders.specs.Orders.{IsRoundFrom, IsFrom}
 use Rattle.campaign_orders.specs.Listing.{round_orders, orders_from}
 use Rattle.campaign_orders.specs.Outcomes.{Outcome}
+
 -- States that the letters of two lists, one by one, are from the same general and send the same orders.
 abbrev pub TellAlike : List Letter → List Letter → Type 0
 TellAlike [] [] = Unit {0}

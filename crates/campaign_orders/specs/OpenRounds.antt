@@ -8,6 +8,7 @@ use Rattle.world.specs.declared.part.Progress.TheVariants.{Acting}
 use Rattle.world.specs.Kind.{Kind, World, opening}
 use Rattle.campaign_orders.specs.declared.accessed.Accessed.{Accessed}
 use Rattle.campaign_orders.specs.Layers.{reached}
+
 -- An open round: the world at its start, the board's current words, and the generals' current parts.
 pub record OpenRound : Type 0 where
   pub start : World

@@ -2,6 +2,7 @@
 ghost use Rattle.std.specs.Prelude.{◌≡◌, IfOk, OnOk};
 ghost use Rattle.campaign_orders.specs.Gathering.{AreGathered, IsFound};
 
+use crate::explored_world::ExploredWorld;
 use crate::explorer::place_of;
 use crate::finding::DecisionGroup;
 use crate::state::State;
@@ -10,8 +11,12 @@ use std::alloc::{AllocError, Global};
 /// Enters a state's outcome into `findings`. If an earlier state had the same outcome, the number of orders that lead
 /// to this state is added to its count. An order is a sequence of accesses. Fails with `AllocError` if it runs out of
 /// memory.
-fn find(alloc: Global, findings: &mut Vec<DecisionGroup>, state: &State) -> Result<(), AllocError>
-    ensures { OnOk result (IsFound findings.old.items state.now findings.new.items) }
+fn find<W: ExploredWorld>(
+    alloc: Global,
+    findings: &mut Vec<DecisionGroup>,
+    state: &State<W>,
+) -> Result<(), AllocError>
+    ensures { OnOk result (IsFound W.outcome findings.old.items state.now findings.new.items) }
 {
     let outcome = state.outcome(alloc)?;
     let decisions = outcome.as_slice();
@@ -26,8 +31,11 @@ fn find(alloc: Global, findings: &mut Vec<DecisionGroup>, state: &State) -> Resu
 
 /// Returns the outcomes of all states. With each go the number of orders of accesses that lead to it, and the least of
 /// these orders. Fails with `AllocError` if it runs out of memory.
-pub(crate) fn gather(alloc: Global, states: &[State]) -> Result<Vec<DecisionGroup>, AllocError>
-    ensures { IfOk result (λ findings. AreGathered states.now findings.items) }
+pub(crate) fn gather<W: ExploredWorld>(
+    alloc: Global,
+    states: &[State<W>],
+) -> Result<Vec<DecisionGroup>, AllocError>
+    ensures { IfOk result (λ findings. AreGathered W.outcome states.now findings.items) }
 {
     let mut findings = Vec::new(alloc);
     for (place, state) in states.iter().enumerate() {

@@ -14,13 +14,14 @@ ghost use Rattle.world.specs.World.{oral_kind};
 
 use crate::end_findings::gather;
 use crate::exploration::{Exploration, Reach};
+use crate::explored_world::ExploredWorld;
 use crate::finding::DecisionGroup;
 use crate::layers::last_states;
 use crate::order::order_in;
 use crate::succession::next_order;
 use round::Scenario;
 use std::alloc::{AllocError, Global};
-use world::replay;
+use world::World;
 
 /// How many orders `explore_all` plays one by one. If there are more, it follows all of them together instead.
 const FEW: u64 = 128;
@@ -36,10 +37,26 @@ const FEW: u64 = 128;
 pub fn explore(alloc: Global, scenario: &Scenario, most: u64) -> Result<Exploration, AllocError>
     ensures { IfOk result (λ exploration. IsExploration oral_kind oral_outcome scenario.now most exploration) }
 {
+    explore_as::<World>(alloc, scenario, most)
+}
+
+/// Returns the outcomes of all orders in which the traitors of an oral or signed campaign can access the board, as
+/// `explore` does for an oral one.
+///
+/// # Errors
+///
+/// Fails with `AllocError` if it runs out of memory.
+pub fn explore_as<W: ExploredWorld>(
+    alloc: Global,
+    scenario: &Scenario,
+    most: u64,
+) -> Result<Exploration, AllocError>
+    ensures { IfOk result (λ exploration. IsExploration W.kind W.outcome scenario.now most exploration) }
+{
     if is_full(most) {
-        return explore_all(alloc, scenario);
+        return explore_all::<W>(alloc, scenario);
     }
-    explore_least(alloc, scenario, most)
+    explore_least::<W>(alloc, scenario, most)
 }
 
 /// Returns whether the count is 2^64 - 1, the greatest that is counted.
@@ -51,23 +68,29 @@ fn is_full(count: u64) -> bool
 
 /// Returns the outcomes of all orders. If there are at most 128, each is played separately, which is faster than
 /// following all of them together. Fails with `AllocError` if it runs out of memory.
-fn explore_all(alloc: Global, scenario: &Scenario) -> Result<Exploration, AllocError>
-    ensures { IfOk result (λ exploration. IsExploration oral_kind oral_outcome scenario.now (2 ^ 64 - 1) exploration) }
+fn explore_all<W: ExploredWorld>(
+    alloc: Global,
+    scenario: &Scenario,
+) -> Result<Exploration, AllocError>
+    ensures { IfOk result (λ exploration. IsExploration W.kind W.outcome scenario.now (2 ^ 64 - 1) exploration) }
 {
-    let few = explore_least(alloc, scenario, FEW)?;
+    let few = explore_least::<W>(alloc, scenario, FEW)?;
     match few.reach() {
         Reach::Whole => Ok(few),
-        _ => explore_layers(alloc, scenario),
+        _ => explore_layers::<W>(alloc, scenario),
     }
 }
 
 /// Returns the outcomes of all orders. It follows them together, access by access, and merges alike worlds, from which
 /// the same outcomes follow. Fails with `AllocError` if it runs out of memory.
-fn explore_layers(alloc: Global, scenario: &Scenario) -> Result<Exploration, AllocError>
-    ensures { IfOk result (λ exploration. IsExploration oral_kind oral_outcome scenario.now (2 ^ 64 - 1) exploration) }
+fn explore_layers<W: ExploredWorld>(
+    alloc: Global,
+    scenario: &Scenario,
+) -> Result<Exploration, AllocError>
+    ensures { IfOk result (λ exploration. IsExploration W.kind W.outcome scenario.now (2 ^ 64 - 1) exploration) }
 {
     scenario.recall();
-    let states = last_states(alloc, scenario)?;
+    let states = last_states::<W>(alloc, scenario)?;
     let findings = gather(alloc, states.as_slice())?;
     let count = most_counted(findings.as_slice());
     if is_full(count) {
@@ -95,16 +118,20 @@ fn most_counted(findings: &[DecisionGroup]) -> u64
 
 /// Returns the outcomes of the `most` least orders, or of all if there are fewer. It plays each of these orders from
 /// the start. Fails with `AllocError` if it runs out of memory.
-fn explore_least(alloc: Global, scenario: &Scenario, most: u64) -> Result<Exploration, AllocError>
+fn explore_least<W: ExploredWorld>(
+    alloc: Global,
+    scenario: &Scenario,
+    most: u64,
+) -> Result<Exploration, AllocError>
     requires { most < 2 ^ 64 - 1 }
-    ensures { IfOk result (λ exploration. IsExploration oral_kind oral_outcome scenario.now most exploration) }
+    ensures { IfOk result (λ exploration. IsExploration W.kind W.outcome scenario.now most exploration) }
 {
     scenario.recall();
     let mut findings = Vec::new(alloc);
     let mut names = Vec::new(alloc);
     for visited in 0..most {
         let _ = visited;
-        match visit(alloc, scenario, names.as_slice(), &mut findings)? {
+        match visit::<W>(alloc, scenario, names.as_slice(), &mut findings)? {
             Some(next) => names = next,
             None => {
                 return Ok(Exploration {
@@ -123,7 +150,7 @@ fn explore_least(alloc: Global, scenario: &Scenario, most: u64) -> Result<Explor
 /// Plays a campaign, and enters its outcome into `findings`. In each round the generals in `names` make their accesses
 /// first, in the given order, and then the others, ascending. Returns how the next order of accesses begins, or `None`
 /// if this was the last order. Fails with `AllocError` if it runs out of memory.
-fn visit(
+fn visit<W: ExploredWorld>(
     alloc: Global,
     scenario: &Scenario,
     names: &[Vec<u8>],
@@ -132,16 +159,16 @@ fn visit(
     requires { counted_in findings.old.items + 1 < 2 ^ 64 }
     ensures entered { OnOk result
         (findings.new.items ≡ entered findings.old.items
-        (outcome_in oral_kind oral_outcome scenario.now (replayed oral_kind scenario.now (lists_in names.now)))
-        (order_of oral_kind scenario.now (replayed oral_kind scenario.now (lists_in names.now)))) }
+        (outcome_in W.kind W.outcome scenario.now (replayed W.kind scenario.now (lists_in names.now)))
+        (order_of W.kind scenario.now (replayed W.kind scenario.now (lists_in names.now)))) }
     ensures next { IfOk result
         (λ next. option_map (λ order. lists_in order.items) next
-        ≡ next_order (order_of oral_kind scenario.now (replayed oral_kind scenario.now (lists_in names.now)))) }
+        ≡ next_order (order_of W.kind scenario.now (replayed W.kind scenario.now (lists_in names.now)))) }
 {
     scenario.recall();
-    let chronicle = replay(alloc, scenario.copy(alloc)?, names)?;
-    let order = order_in(alloc, chronicle.accesses(), scenario.bound() + 1)?;
-    enter(alloc, findings, chronicle.decisions(), order.as_slice())?;
+    let replay = W::replayed(alloc, scenario.copy(alloc)?, names)?;
+    let order = order_in(alloc, replay.accesses(), scenario.bound() + 1)?;
+    enter(alloc, findings, replay.decisions(), order.as_slice())?;
     next_order(order)
 }
 

@@ -3,6 +3,7 @@ ghost use Rattle.campaign_orders.specs.Agreeing.{FindingsAgree};
 ghost use Rattle.campaign_orders.specs.Listing.{OrdersAreListed, OrdersAreWhole};
 ghost use Rattle.campaign_orders.specs.Merging.{AlikeWorldsGoOnAlike, AlikeWorldsHaveOneList};
 ghost use Rattle.campaign_orders.specs.Orders.{OrdersDecide};
+ghost use Rattle.campaign_orders.specs.Outcomes.{oral_outcome};
 ghost use Rattle.campaign_orders.specs.Schedules.{OrdersAreSchedules};
 ghost use Rattle.world.specs.World.{oral_kind};
 
@@ -38,12 +39,12 @@ pub fn findings_agree()
 /// States that alike worlds stay alike when the same events happen, so that an exploration may merge them. Worlds are
 /// alike if the board's words and the generals' parts are the same, and their closed letters have sent the same orders.
 pub fn alike_worlds_go_on_alike()
-    ensures { AlikeWorldsGoOnAlike }
+    ensures { AlikeWorldsGoOnAlike oral_kind oral_outcome }
 {}
 
 /// States that the same orders of accesses can follow in alike worlds, in the open round and in all further rounds.
 /// Worlds are alike if the board's words and the generals' parts are the same, and their closed letters have sent the
 /// same orders.
 pub fn alike_worlds_have_one_list()
-    ensures { AlikeWorldsHaveOneList }
+    ensures { AlikeWorldsHaveOneList oral_kind }
 {}

@@ -3,6 +3,7 @@
 ghost use Rattle.std.specs.Prelude.{◌≡◌, ◌++◌, ◌∷◌, [], IfOk, IfSome, OnOk};
 ghost use Rattle.campaign_orders.specs.Layers.{IsAlikeAt, IsEntered};
 
+use crate::explored_world::ExploredWorld;
 use crate::state::{State, is_like};
 use std::alloc::{AllocError, Global};
 use std::collections::HashMap;
@@ -11,14 +12,14 @@ use std::marker::Model;
 /// A list of states, each with a world that is reached after the same number of accesses. They are in the order in
 /// which they were entered.
 #[derive(Drop)]
-pub(crate) struct Layer {
-    states: Vec<State>,
+pub(crate) struct Layer<W: ExploredWorld> {
+    states: Vec<State<W>>,
     /// For each mark (a hash of a world) the index of the state with this mark that was entered last. It only speeds up
     /// the search, and nothing is proved of it.
     newest: HashMap<u64, usize>,
 }
 
-impl Model for Layer {
+impl<W: ExploredWorld> Model for Layer<W> {
     ghost use Rattle.std.specs.Prelude.{List};
     ghost use Rattle.campaign_orders.specs.Layers.{State as StateSeen};
 
@@ -27,9 +28,9 @@ impl Model for Layer {
     ghost view = { λ l. l.states.items };
 }
 
-impl Layer {
+impl<W: ExploredWorld> Layer<W> {
     /// Returns a layer without states.
-    pub(crate) fn new(alloc: Global) -> Layer
+    pub(crate) fn new(alloc: Global) -> Layer<W>
         ensures { result ≡ [] }
     {
         Layer {
@@ -39,7 +40,7 @@ impl Layer {
     }
 
     /// Returns the states, in the order in which they were entered.
-    pub(crate) fn into_states(self) -> Vec<State>
+    pub(crate) fn into_states(self) -> Vec<State<W>>
         ensures { result.items ≡ self }
     {
         let Layer { states, .. } = self;
@@ -48,7 +49,7 @@ impl Layer {
 
     /// Adds a state. If the layer has a state whose world is alike, the two states are merged, otherwise the new one is
     /// appended. Fails with `AllocError` if it runs out of memory.
-    pub(crate) fn enter(&mut self, alloc: Global, state: State) -> Result<(), AllocError>
+    pub(crate) fn enter(&mut self, alloc: Global, state: State<W>) -> Result<(), AllocError>
         ensures { OnOk result (IsEntered self.old state self.new) }
     {
         match self.place_of(alloc, &state)? {
@@ -62,7 +63,7 @@ impl Layer {
 
     /// Returns the index of a state in the layer whose world is alike to that of `state`, or `None` if none was found.
     /// Fails with `AllocError` if it runs out of memory.
-    fn place_of(&self, alloc: Global, state: &State) -> Result<Option<usize>, AllocError>
+    fn place_of(&self, alloc: Global, state: &State<W>) -> Result<Option<usize>, AllocError>
         ensures { IfOk result (λ found. IfSome found (λ place. IsAlikeAt self.now state.now place)) }
     {
         let states = self.states.as_slice();
@@ -87,7 +88,7 @@ impl Layer {
 
     /// Appends a state to the layer, as the last one entered with its mark. Fails with `AllocError` if it runs out of
     /// memory.
-    fn push(&mut self, state: State) -> Result<(), AllocError>
+    fn push(&mut self, state: State<W>) -> Result<(), AllocError>
         ensures { OnOk result (self.new ≡ self.old ++ state ∷ []) }
     {
         let before = self.newest.insert(state.mark, self.states.len())?;

@@ -6,8 +6,8 @@ ghost use Rattle.campaign_orders.specs.Layers.{AreLayers, AreStatesOf, IsAsked, 
 ghost use Rattle.campaign_orders.specs.Listing.{instructions, most_in_round};
 ghost use Rattle.round.specs.Scenario.{program_of};
 ghost use Rattle.world.specs.Kind.{opening};
-ghost use Rattle.world.specs.World.{oral_kind};
 
+use crate::explored_world::ExploredWorld;
 use crate::layer::Layer;
 use crate::shared_scenario::SharedScenario;
 use crate::state::State;
@@ -16,10 +16,15 @@ use std::alloc::{AllocError, Global};
 
 /// Enters into `next` the state after this general's next access. Returns whether he makes a further access in the open
 /// round. Fails with `AllocError` if it runs out of memory.
-fn ask(alloc: Global, state: &State, general: u8, next: &mut Layer) -> Result<bool, AllocError>
-    requires { IsRunOn (reached (opening oral_kind state.now.world.scenario) state.now.rows state.now.names)
+fn ask<W: ExploredWorld>(
+    alloc: Global,
+    state: &State<W>,
+    general: u8,
+    next: &mut Layer<W>,
+) -> Result<bool, AllocError>
+    requires { IsRunOn W.kind (reached W.kind (opening W.kind state.now.world.scenario) state.now.rows state.now.names)
         state.now.world }
-    ensures { IfOk result (λ asked. IsAsked state.now.world state.now general next.old asked next.new) }
+    ensures { IfOk result (λ asked. IsAsked W.kind state.now.world state.now general next.old asked next.new) }
 {
     match state.after(alloc, general)? {
         Some(more) => {
@@ -40,15 +45,15 @@ fn either(one: bool, other: bool) -> bool
 /// Enters the states that can follow a state. For each general who makes a further access in the round, the state after
 /// it is entered into `next`. If there is no such general, the state at the start of the next round is entered into
 /// `done`. Fails with `AllocError` if it runs out of memory.
-fn expand(
+fn expand<W: ExploredWorld>(
     alloc: Global,
     scenario: &SharedScenario,
-    state: State,
-    next: &mut Layer,
-    done: &mut Layer,
+    state: State<W>,
+    next: &mut Layer<W>,
+    done: &mut Layer<W>,
 ) -> Result<(), AllocError>
-    requires { IsRunOn (reached (opening oral_kind scenario.now) state.rows state.names) state.world }
-    ensures { OnOk result (IsExpanded scenario.now state next.old done.old next.new done.new) }
+    requires { IsRunOn W.kind (reached W.kind (opening W.kind scenario.now) state.rows state.names) state.world }
+    ensures { OnOk result (IsExpanded W.kind scenario.now state next.old done.old next.new done.new) }
 {
     scenario.recall();
     let from = state.opened(alloc)?;
@@ -68,16 +73,16 @@ fn expand(
 /// Returns the layer after one more access from each state in `layer`. For a state in which no general makes a further
 /// access in the round, the state at the start of the next round is entered into `done`. Fails with `AllocError` if it
 /// runs out of memory.
-fn step(
+fn step<W: ExploredWorld>(
     alloc: Global,
     scenario: &SharedScenario,
-    layer: Vec<State>,
-    done: &mut Layer,
-) -> Result<Vec<State>, AllocError>
-    requires { (k : ℕ) × AreStatesOf scenario.now k layer.items }
-    ensures { IfOk result (λ next. IsStep scenario.now layer.items next.items done.old done.new) }
+    layer: Vec<State<W>>,
+    done: &mut Layer<W>,
+) -> Result<Vec<State<W>>, AllocError>
+    requires { (k : ℕ) × AreStatesOf W.kind scenario.now k layer.items }
+    ensures { IfOk result (λ next. IsStep W.kind scenario.now layer.items next.items done.old done.new) }
 {
-    let mut next = Layer::new(alloc);
+    let mut next = Layer::<W>::new(alloc);
     let mut left = layer;
     left.as_mut_slice().reverse();
     while let Some(state) = left.pop() {
@@ -88,18 +93,18 @@ fn step(
 
 /// Returns the states after a round that begins in the states `first`. At most `most` accesses can be made in a round.
 /// Fails with `AllocError` if it runs out of memory.
-fn whole_round(
+fn whole_round<W: ExploredWorld>(
     alloc: Global,
     scenario: &SharedScenario,
-    first: Vec<State>,
+    first: Vec<State<W>>,
     most: u32,
-) -> Result<Vec<State>, AllocError>
-    requires { (k : ℕ) × AreStatesOf scenario.now k first.items }
-    ensures { IfOk result (λ done. IsRoundOn scenario.now most first.items done.items) }
+) -> Result<Vec<State<W>>, AllocError>
+    requires { (k : ℕ) × AreStatesOf W.kind scenario.now k first.items }
+    ensures { IfOk result (λ done. IsRoundOn W.kind scenario.now most first.items done.items) }
 {
     scenario.recall();
     let mut layer = first;
-    let mut done = Layer::new(alloc);
+    let mut done = Layer::<W>::new(alloc);
     for made in 0..most {
         let _ = made;
         let next = step(alloc, scenario, layer, &mut done)?;
@@ -143,14 +148,17 @@ fn instructions_of(scenario: &Scenario, general: u8) -> u32
 }
 
 /// Returns the states in which the scenario's campaign can end. Fails with `AllocError` if it runs out of memory.
-pub(crate) fn last_states(alloc: Global, scenario: &Scenario) -> Result<Vec<State>, AllocError>
-    ensures { IfOk result (λ states. AreLayers scenario.now (suc scenario.now.bound) states.items) }
+pub(crate) fn last_states<W: ExploredWorld>(
+    alloc: Global,
+    scenario: &Scenario,
+) -> Result<Vec<State<W>>, AllocError>
+    ensures { IfOk result (λ states. AreLayers W.kind scenario.now (suc scenario.now.bound) states.items) }
 {
     scenario.recall();
     let most = most_in_round(scenario);
     let shared = SharedScenario::new(alloc, scenario)?;
     let mut states = Vec::new(alloc);
-    states.push(State::opening(alloc, &shared)?)?;
+    states.push(State::<W>::opening(alloc, &shared)?)?;
     for made in 0..scenario.bound() + 1 {
         let _ = made;
         let next = whole_round(alloc, &shared, states, most)?;

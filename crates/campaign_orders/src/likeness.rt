@@ -3,10 +3,11 @@ ghost use Rattle.std.specs.Prelude.{◌≡◌, ◌↔◌, IsTrue, map};
 ghost use Rattle.std.specs.Arc.{arc_value};
 ghost use Rattle.campaign_orders.specs.Merging.{AreAlike, RoundsAlike, TellAlike};
 
+use crate::explored_world::ExploredWorld;
 use crate::marked_part::MarkedPart;
 use round::{Letter, Round};
 use std::sync::Arc;
-use world::{PlayableWorld, Progress, World};
+use world::Progress;
 
 /// Returns whether two letters are from the same general and send the same orders.
 fn tells_alike(letter: &Letter, other: &Letter) -> bool
@@ -114,14 +115,15 @@ pub(crate) fn same_words(words: &[u64; 64], others: &[u64; 64]) -> bool
 
 /// Returns whether two worlds of one scenario are alike: the board's words and the generals' parts are the same, and
 /// the letters of the closed rounds send the same orders.
-pub(crate) fn are_alike(world: &World, other: &World) -> bool
-    ensures { IsTrue result → world.now.scenario ≡ other.now.scenario → AreAlike world.now other.now }
+pub(crate) fn are_alike<W: ExploredWorld>(world: &W, other: &W) -> bool
+    ensures { IsTrue result → (W.seen world.now).scenario ≡ (W.seen other.now).scenario →
+        AreAlike (W.seen world.now) (W.seen other.now) }
 {
-    if !same_words(world.words(), other.words()) {
+    if !same_words(world.board_words(), other.board_words()) {
         return false;
     }
     if !same_parts(world.open_parts(), other.open_parts()) {
         return false;
     }
-    rounds_alike(world.closed_rounds(), other.closed_rounds())
+    rounds_alike(world.closed_letters(), other.closed_letters())
 }

@@ -1,12 +1,13 @@
 //! Computes marks: hashes of worlds, by which alike worlds are found. Alike worlds have the same mark, and other worlds
 //! rarely do. Nothing is proved of marks, since worlds with the same mark are compared before they are merged.
 
+use crate::explored_world::ExploredWorld;
 use insn::Reg;
 use machine::Machine;
 use outbox::{Outbox, ReceiverOrders};
 use round::{Round, Running};
-use semantics::{Region, Value};
-use world::{PlayableWorld, Progress, World};
+use semantics::{Entry, Region, Value};
+use world::Progress;
 
 /// Returns the hash `mark` with a number mixed into it.
 pub(crate) fn mixed(mark: u64, number: u64) -> u64 {
@@ -16,8 +17,8 @@ pub(crate) fn mixed(mark: u64, number: u64) -> u64 {
 
 /// Returns the mark of a world: a hash of its closed rounds, its board's words and its generals' parts in the open
 /// round.
-pub(crate) fn world_mark(world: &World) -> u64 {
-    let mut mark = board_mark(rounds_mark(world.closed_rounds()), world.words());
+pub(crate) fn world_mark<W: ExploredWorld>(world: &W) -> u64 {
+    let mut mark = board_mark(rounds_mark(world.closed_letters()), world.board_words());
     for part in world.open_parts() {
         mark = mixed(mark, part_mark(part));
     }
@@ -89,8 +90,8 @@ fn value_mark(mark: u64, value: Value) -> u64 {
     }
 }
 
-/// Returns the hash `mark` with the orders of an outbox mixed into it, one for each label and receiver. The result does
-/// not depend on how the outbox stores them.
+/// Returns the hash `mark` with the orders of an outbox mixed into it, one for each label and receiver, and its entries.
+/// The result does not depend on how the outbox stores them.
 fn outbox_mark(mark: u64, outbox: &Outbox) -> u64 {
     let mut mark = mark;
     for rank in 0..outbox.labels() {
@@ -99,7 +100,25 @@ fn outbox_mark(mark: u64, outbox: &Outbox) -> u64 {
             ReceiverOrders::Apart(orders) => orders_mark(mark, orders.as_slice()),
         };
     }
+    for entry in outbox.entries() {
+        mark = entry_mark(mark, *entry);
+    }
     mark
+}
+
+/// Returns the hash `mark` with an entry mixed into it: an order that is signed, or a chain that is passed on.
+fn entry_mark(mark: u64, entry: Entry) -> u64 {
+    match entry {
+        Entry::Sign { order, receivers } => {
+            mixed(
+                mixed(mixed(mark, 1), u64::from(order)),
+                u64::from(receivers),
+            )
+        }
+        Entry::Pass { held, receivers } => {
+            mixed(mixed(mixed(mark, 2), u64::from(held)), u64::from(receivers))
+        }
+    }
 }
 
 /// Returns the hash `mark` with one order mixed into it `times` times.

@@ -1,13 +1,12 @@
 //! Defines an open round, of which copies share the parts that stay the same.
 ghost use Rattle.std.specs.Prelude.{◌≡◌, IfOk, IsTrue, map, slice_get, slice_set};
 ghost use Rattle.std.specs.Arc.{arc_value};
-ghost use Rattle.round.specs.Letters.{messages};
 ghost use Rattle.round.specs.Scenario.{IsScenario};
 ghost use Rattle.campaign_orders.specs.Merging.{RoundsAlike};
 ghost use Rattle.campaign_orders.specs.OpenRounds.{IsPartAfter, IsRoundAfter};
-ghost use Rattle.world.specs.Chronicle.{decisions};
 
 use crate::accessed::Accessed;
+use crate::explored_world::ExploredWorld;
 use crate::likeness::{rounds_alike, same_shared, same_words};
 use crate::marked_part::MarkedPart;
 use crate::marks::{board_mark, mixed, rounds_mark};
@@ -15,14 +14,14 @@ use arrayvec::ArrayVec;
 use std::alloc::{AllocError, Global};
 use std::marker::Model;
 use std::sync::Arc;
-use world::{PlayableWorld, Progress, World};
+use world::Progress;
 
 /// An open round: everything on which its further accesses depend. Copies share the generals' parts, so they need
 /// little memory.
 #[derive(Drop)]
-pub(crate) struct OpenRound {
+pub(crate) struct OpenRound<W: ExploredWorld> {
     /// The world at the start of the round.
-    start: Arc<World>,
+    start: Arc<W>,
     /// A hash of the orders sent in the closed rounds.
     told: u64,
     /// The board's current words.
@@ -31,7 +30,7 @@ pub(crate) struct OpenRound {
     parts: Vec<Arc<MarkedPart>>,
 }
 
-impl Model for OpenRound {
+impl<W: ExploredWorld> Model for OpenRound<W> {
     ghost use Rattle.std.specs.Prelude.{map};
     ghost use Rattle.std.specs.Arc.{arc_value};
     ghost use Rattle.campaign_orders.specs.OpenRounds.{OpenRound as RoundSeen};
@@ -39,19 +38,23 @@ impl Model for OpenRound {
     ghost Value = { RoundSeen };
 
     ghost view = { λ o. record {
-      start = arc_value o.start;
+      start = W.seen (arc_value o.start);
       words = o.words;
       parts = map arc_value o.parts.items;
     } };
 }
 
-impl OpenRound {
+impl<W: ExploredWorld> OpenRound<W> {
     /// Returns the open round of a world in which it has just begun. Fails with `AllocError` if it runs out of memory.
-    pub(crate) fn begin(alloc: Global, world: World) -> Result<OpenRound, AllocError>
-        ensures { IfOk result (λ round. round ≡ record { start = world; words = world.words; parts = world.parts }) }
+    pub(crate) fn begin(alloc: Global, world: W) -> Result<OpenRound<W>, AllocError>
+        ensures { IfOk result (λ round. round ≡ record {
+          start = W.seen world;
+          words = (W.seen world).words;
+          parts = (W.seen world).parts;
+        }) }
     {
-        let told = rounds_mark(world.closed_rounds());
-        let words = *world.words();
+        let told = rounds_mark(world.closed_letters());
+        let words = *world.board_words();
         let parts = marked(alloc, world.open_parts())?;
         let start = Arc::new(alloc, world)?;
         Ok(OpenRound {
@@ -64,7 +67,11 @@ impl OpenRound {
 
     /// Returns the round after this general's next access, or `None` if he makes no further access in it. Only his own
     /// part is copied. Fails with `AllocError` if it runs out of memory.
-    pub(crate) fn after(&self, alloc: Global, general: u8) -> Result<Option<OpenRound>, AllocError>
+    pub(crate) fn after(
+        &self,
+        alloc: Global,
+        general: u8,
+    ) -> Result<Option<OpenRound<W>>, AllocError>
         ensures { IfOk result (λ next. IsRoundAfter self.now general next) }
     {
         match self.next_access(alloc, general)? {
@@ -97,7 +104,7 @@ impl OpenRound {
 
     /// Returns whether two open rounds are alike: the board's words and the generals' parts are the same, and the
     /// letters of the closed rounds send the same orders.
-    pub(crate) fn is_like(&self, other: &OpenRound) -> bool
+    pub(crate) fn is_like(&self, other: &OpenRound<W>) -> bool
         ensures words { IsTrue result → self.now.words ≡ other.now.words }
         ensures parts { IsTrue result → self.now.parts ≡ other.now.parts }
         ensures closed { IsTrue result → RoundsAlike self.now.start.closed other.now.start.closed }
@@ -108,7 +115,10 @@ impl OpenRound {
         if !same_shared(self.parts.as_slice(), other.parts.as_slice()) {
             return false;
         }
-        rounds_alike(self.start().closed_rounds(), other.start().closed_rounds())
+        rounds_alike(
+            self.start().closed_letters(),
+            other.start().closed_letters(),
+        )
     }
 
     /// Returns the mark of the round: a hash of the closed rounds, the board's words and the generals' parts.
@@ -123,9 +133,9 @@ impl OpenRound {
     /// Returns the order on which each lieutenant would decide from the messages of the closed rounds, ascending by
     /// lieutenant.
     pub(crate) fn decisions(&self) -> ArrayVec<u32, 12>
-        ensures { result.items ≡ decisions self.now.start.scenario (messages self.now.start.closed) }
+        ensures { result.items ≡ W.outcome self.now.start }
     {
-        self.start().decisions()
+        self.start().decided()
     }
 
     /// Does nothing. Its contract says that the scenario's numbers are within their limits.
@@ -136,8 +146,8 @@ impl OpenRound {
     }
 
     /// Returns the world at the start of the round.
-    fn start(&self) -> &World
-        ensures { result.now ≡ self.now.start }
+    fn start(&self) -> &W
+        ensures { W.seen result.now ≡ self.now.start }
     {
         &self.start
     }

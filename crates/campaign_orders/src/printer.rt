@@ -3,7 +3,7 @@ ghost use Rattle.std.specs.Prelude.{◌≡◌, ◌≢◌, ◌≤◌, ◌<◌, �
 ghost use Rattle.campaign_orders.specs.declared.exploration.Reach.TheVariants.{Whole, Beyond, InPart};
 ghost use Rattle.campaign_orders.specs.Exploring.{Exploration as Explored, IsExploration, counted_in};
 ghost use Rattle.campaign_orders.specs.Outcomes.{oral_outcome};
-ghost use Rattle.campaign_orders.specs.Keeping.{IsKept, example_text};
+ghost use Rattle.campaign_orders.specs.Keeping.{IsKept, IsKeptOf, example_text};
 ghost use Rattle.campaign_orders.specs.Text.{count_text, entry_text, exploration_text, finding_text, further, head_text, line_text, outcome_text, round_text, rounds_text, schedule_text, yes_no, yes_no_none};
 ghost use Rattle.campaign_orders.specs.Walks.{AreWalks};
 ghost use Rattle.world.specs.Chronicle.{verdict_of};
@@ -11,16 +11,17 @@ ghost use Rattle.world.specs.Kind.{opening};
 ghost use Rattle.world.specs.World.{oral_kind};
 
 use crate::exploration::{Exploration, Reach};
-use crate::explorer::explore;
+use crate::explored_world::ExploredWorld;
+use crate::explorer::explore_as;
 use crate::finding::DecisionGroup;
 use crate::kept_facts::recall_short;
 use crate::schedule_outcome::Scheduled;
-use crate::schedules::schedule_names;
+use crate::schedules::schedule_as;
 use itoa::Buffer;
 use round::Scenario;
 use std::alloc::{AllocError, Global};
 use world::judgement::{alike, loyal_decisions, obeyed};
-use world::{Repeat, Schedule, ScheduleLine};
+use world::{Repeat, Schedule, ScheduleLine, World};
 
 /// Writes a space and a number in decimal. Fails with `AllocError` if it runs out of memory.
 fn put_further(out: &mut String, number: u64) -> Result<(), AllocError>
@@ -191,18 +192,18 @@ fn put_outcome(
 
 /// Writes the line of an outcome, and then the lines of the schedule for its example. Fails with `AllocError` if it
 /// runs out of memory.
-fn put_finding(
+fn put_finding<W: ExploredWorld>(
     alloc: Global,
     out: &mut String,
     scenario: &Scenario,
     finding: &DecisionGroup,
 ) -> Result<(), AllocError>
-    requires { AreWalks oral_kind (opening oral_kind scenario.now) finding.now.example }
+    requires { AreWalks W.kind (opening W.kind scenario.now) finding.now.example }
     ensures { OnOk result (string_bytes out.new ≡ string_bytes out.old
-        ++ finding_text oral_kind scenario.now finding.now) }
+        ++ finding_text W.kind scenario.now finding.now) }
 {
     put_outcome(out, scenario, finding)?;
-    match schedule_names(alloc, scenario.copy(alloc)?, finding.example())? {
+    match schedule_as::<W>(alloc, scenario.copy(alloc)?, finding.example())? {
         Scheduled::By(schedule) => put_rounds(out, schedule.lines.as_slice()),
         Scheduled::Never(_, _) => unreachable!(),
     }
@@ -252,50 +253,50 @@ fn put_head(out: &mut String, reach: Reach, findings: &[DecisionGroup]) -> Resul
 
 /// Writes for each outcome its line, and the lines of the schedule for its example. Fails with `AllocError` if it runs
 /// out of memory.
-fn put_findings(
+fn put_findings<W: ExploredWorld>(
     alloc: Global,
     out: &mut String,
     scenario: &Scenario,
     findings: &[DecisionGroup],
 ) -> Result<(), AllocError>
-    requires { All (λ f. AreWalks oral_kind (opening oral_kind scenario.now) f.example) findings.now }
+    requires { All (λ f. AreWalks W.kind (opening W.kind scenario.now) f.example) findings.now }
     ensures { OnOk result (string_bytes out.new ≡ string_bytes out.old
-        ++ flat_map (finding_text oral_kind scenario.now) findings.now) }
+        ++ flat_map (finding_text W.kind scenario.now) findings.now) }
 {
     for finding in findings {
-        put_finding(alloc, out, scenario, finding)?;
+        put_finding::<W>(alloc, out, scenario, finding)?;
     }
     Ok(())
 }
 
 /// Returns the text of an exploration: the number of orders, then each outcome with the schedule for its example. Fails
 /// with `AllocError` if it runs out of memory.
-fn exploration_text(
+fn exploration_text<W: ExploredWorld>(
     alloc: Global,
     scenario: &Scenario,
     exploration: &Exploration,
 ) -> Result<String, AllocError>
     requires few { exploration.now.reach ≢ Beyond → counted_in exploration.now.findings < 2 ^ 64 }
-    requires walks { All (λ f. AreWalks oral_kind (opening oral_kind scenario.now) f.example) exploration.now.findings }
-    ensures { IfOk result (λ text. string_bytes text ≡ exploration_text oral_kind scenario.now exploration.now) }
+    requires walks { All (λ f. AreWalks W.kind (opening W.kind scenario.now) f.example) exploration.now.findings }
+    ensures { IfOk result (λ text. string_bytes text ≡ exploration_text W.kind scenario.now exploration.now) }
 {
     let mut out = String::new(alloc);
     put_head(&mut out, exploration.reach(), exploration.findings())?;
-    put_findings(alloc, &mut out, scenario, exploration.findings())?;
+    put_findings::<W>(alloc, &mut out, scenario, exploration.findings())?;
     Ok(out)
 }
 
 /// Returns the text of a schedule that leads to this outcome, by the order of accesses that is its example. Fails with
 /// `AllocError` if it runs out of memory.
-fn example_text(
+fn example_text<W: ExploredWorld>(
     alloc: Global,
     scenario: &Scenario,
     finding: &DecisionGroup,
 ) -> Result<String, AllocError>
-    requires { AreWalks oral_kind (opening oral_kind scenario.now) finding.now.example }
-    ensures { IfOk result (λ text. string_bytes text ≡ example_text oral_kind scenario.now finding.now) }
+    requires { AreWalks W.kind (opening W.kind scenario.now) finding.now.example }
+    ensures { IfOk result (λ text. string_bytes text ≡ example_text W.kind scenario.now finding.now) }
 {
-    match schedule_names(alloc, scenario.copy(alloc)?, finding.example())? {
+    match schedule_as::<W>(alloc, scenario.copy(alloc)?, finding.example())? {
         Scheduled::By(schedule) => schedule_text(alloc, &schedule),
         Scheduled::Never(_, _) => unreachable!(),
     }
@@ -303,18 +304,18 @@ fn example_text(
 
 /// Returns for each outcome the text of a schedule that leads to it, by the order of accesses that is its example.
 /// Fails with `AllocError` if it runs out of memory.
-fn example_texts(
+fn example_texts<W: ExploredWorld>(
     alloc: Global,
     scenario: &Scenario,
     findings: &[DecisionGroup],
 ) -> Result<Vec<String>, AllocError>
-    requires { All (λ f. AreWalks oral_kind (opening oral_kind scenario.now) f.example) findings.now }
+    requires { All (λ f. AreWalks W.kind (opening W.kind scenario.now) f.example) findings.now }
     ensures { IfOk result (λ texts. map string_bytes texts.items
-        ≡ map (example_text oral_kind scenario.now) findings.now) }
+        ≡ map (example_text W.kind scenario.now) findings.now) }
 {
     let mut texts = Vec::new(alloc);
     for finding in findings {
-        let text = example_text(alloc, scenario, finding)?;
+        let text = example_text::<W>(alloc, scenario, finding)?;
         texts.push(text)?;
     }
     Ok(texts)
@@ -333,11 +334,28 @@ pub fn explored_with_schedules(
 ) -> Result<(String, Vec<String>), AllocError>
     ensures { IfOk result (λ kept. IsKept scenario.now most (string_bytes kept.0) (map string_bytes kept.1.items)) }
 {
+    explored_with_schedules_as::<World>(alloc, scenario, most)
+}
+
+/// Returns the text that [`explored_as`] returns, and for each outcome in it the text of a schedule that leads to this
+/// outcome. No schedule's text has more than 1,048,576 bytes, the limit for schedules.
+///
+/// # Errors
+///
+/// Fails with `AllocError` if it runs out of memory.
+pub fn explored_with_schedules_as<W: ExploredWorld>(
+    alloc: Global,
+    scenario: &Scenario,
+    most: u64,
+) -> Result<(String, Vec<String>), AllocError>
+    ensures { IfOk result (λ kept. IsKeptOf W.kind W.outcome W.agrees scenario.now most (string_bytes kept.0)
+        (map string_bytes kept.1.items)) }
+{
     scenario.recall();
     recall_short(scenario);
-    let exploration = explore(alloc, scenario, most)?;
-    let text = exploration_text(alloc, scenario, &exploration)?;
-    let schedules = example_texts(alloc, scenario, exploration.findings())?;
+    let exploration = explore_as::<W>(alloc, scenario, most)?;
+    let text = exploration_text::<W>(alloc, scenario, &exploration)?;
+    let schedules = example_texts::<W>(alloc, scenario, exploration.findings())?;
     Ok((text, schedules))
 }
 
@@ -352,7 +370,23 @@ pub fn explored(alloc: Global, scenario: &Scenario, most: u64) -> Result<String,
     ensures { IfOk result (λ text. (e : Explored) × IsExploration oral_kind oral_outcome scenario.now most e
         × (string_bytes text ≡ exploration_text oral_kind scenario.now e)) }
 {
+    explored_as::<World>(alloc, scenario, most)
+}
+
+/// Explores all orders of accesses of an oral or signed campaign, as [`explored`] does.
+///
+/// # Errors
+///
+/// Fails with `AllocError` if it runs out of memory.
+pub fn explored_as<W: ExploredWorld>(
+    alloc: Global,
+    scenario: &Scenario,
+    most: u64,
+) -> Result<String, AllocError>
+    ensures { IfOk result (λ text. (e : Explored) × IsExploration W.kind W.outcome scenario.now most e
+        × (string_bytes text ≡ exploration_text W.kind scenario.now e)) }
+{
     scenario.recall();
-    let exploration = explore(alloc, scenario, most)?;
-    exploration_text(alloc, scenario, &exploration)
+    let exploration = explore_as::<W>(alloc, scenario, most)?;
+    exploration_text::<W>(alloc, scenario, &exploration)
 }

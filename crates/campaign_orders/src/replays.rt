@@ -5,26 +5,26 @@ ghost use Rattle.campaign_orders.specs.OpenRounds.{world_in};
 ghost use Rattle.campaign_orders.specs.Stages.{world_at};
 ghost use Rattle.world.specs.Kind.{opening};
 ghost use Rattle.world.specs.Playing.{lists_in};
-ghost use Rattle.world.specs.World.{oral_kind};
 
+use crate::explored_world::ExploredWorld;
 use crate::open_round::OpenRound;
-use crate::stage::Stage;
 use round::Scenario;
 use std::alloc::{AllocError, Global};
-use world::{World, names_played, round_played};
+use world::{names_played, round_played};
 
 /// Plays a campaign from its start and returns its world after these accesses. `rows` lists for each closed round the
 /// generals who made its accesses, and `names` lists those for the open round. Fails with `AllocError` if it runs out
 /// of memory.
-pub(crate) fn played(
+pub(crate) fn played<W: ExploredWorld>(
     alloc: Global,
     scenario: &Scenario,
     rows: &[Vec<u8>],
     names: &[u8],
-) -> Result<World, AllocError>
-    ensures { IfOk result (λ world. world ≡ reached (opening oral_kind scenario.now) (lists_in rows.now) names.now) }
+) -> Result<W, AllocError>
+    ensures { IfOk result (λ world. W.seen world
+        ≡ reached W.kind (opening W.kind scenario.now) (lists_in rows.now) names.now) }
 {
-    let mut world = World::open(alloc, scenario.copy(alloc)?)?;
+    let mut world = W::begin(alloc, scenario.copy(alloc)?)?;
     for (round, row) in rows.iter().enumerate() {
         let _ = round;
         let next = round_played(world, row.as_slice())?;
@@ -37,37 +37,35 @@ pub(crate) fn played(
 /// Plays a campaign from its start and returns the open round after these accesses. `rows` lists for each closed round
 /// the generals who made its accesses, and `names` lists those for the open round. Fails with `AllocError` if it runs
 /// out of memory.
-pub(crate) fn played_round(
+pub(crate) fn played_round<W: ExploredWorld>(
     alloc: Global,
     scenario: &Scenario,
     rows: &[Vec<u8>],
     names: &[u8],
-) -> Result<OpenRound, AllocError>
-    ensures { IfOk result (λ round. world_in (lists_in rows.now) names.now round
-        ≡ reached (opening oral_kind scenario.now) (lists_in rows.now) names.now) }
+) -> Result<OpenRound<W>, AllocError>
+    ensures { IfOk result (λ round. world_in W.kind (lists_in rows.now) names.now round
+        ≡ reached W.kind (opening W.kind scenario.now) (lists_in rows.now) names.now) }
 {
-    let world = played(alloc, scenario, rows, names)?;
+    let world = played::<W>(alloc, scenario, rows, names)?;
     let round = OpenRound::begin(alloc, world)?;
     Ok(round)
 }
 
-/// Returns the stage with its world as an open round. If the stage has no world, this plays the campaign from its
-/// start. `rows` lists for each closed round the generals who made its accesses, and `names` lists those for the open
-/// round. Fails with `AllocError` if it runs out of memory.
-pub(crate) fn opened_stage(
+/// Returns the open round of a state. If it is not stored, this plays the campaign from its start. `rows` lists for each
+/// closed round the generals who made its accesses, and `names` lists those for the open round. Fails with `AllocError`
+/// if it runs out of memory.
+pub(crate) fn opened_round<W: ExploredWorld>(
     alloc: Global,
-    stage: Stage,
+    scenario: &Scenario,
+    stored: Option<OpenRound<W>>,
     rows: &[Vec<u8>],
     names: &[u8],
-) -> Result<Stage, AllocError>
-    ensures { IfOk result
-        (λ later. world_at (lists_in rows.now) names.now later ≡ world_at (lists_in rows.now) names.now stage) }
+) -> Result<OpenRound<W>, AllocError>
+    ensures { IfOk result (λ round. world_in W.kind (lists_in rows.now) names.now round
+        ≡ world_at W.kind scenario.now (lists_in rows.now) names.now stored) }
 {
-    match stage {
-        Stage::Open(round) => Ok(Stage::Open(round)),
-        Stage::Begun(scenario) => {
-            let round = played_round(alloc, scenario.scenario(), rows, names)?;
-            Ok(Stage::Open(round))
-        }
+    match stored {
+        Some(round) => Ok(round),
+        None => played_round(alloc, scenario, rows, names),
     }
 }

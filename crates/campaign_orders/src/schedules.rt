@@ -5,6 +5,7 @@ ghost use Rattle.world.specs.Kind.{opening};
 ghost use Rattle.world.specs.Playing.{lists_in, program_length};
 ghost use Rattle.world.specs.World.{oral_kind};
 
+use crate::explored_world::ExploredWorld;
 use crate::schedule_outcome::{Line, Scheduled};
 use round::Scenario;
 use std::alloc::{AllocError, Global};
@@ -91,6 +92,21 @@ pub fn schedule_from<W: PlayableWorld + Drop>(
         }
     }
     Ok(Scheduled::By(Schedule { lines }))
+}
+
+/// Returns a schedule under which the generals in `names`, by round, make their accesses in this order, in an oral or
+/// signed campaign. If a general makes no further access in his round, returns that round and his index instead. Fails
+/// with `AllocError` if it runs out of memory.
+pub(crate) fn schedule_as<W: ExploredWorld>(
+    alloc: Global,
+    scenario: Scenario,
+    names: &[Vec<u8>],
+) -> Result<Scheduled, AllocError>
+    ensures { IfOk result
+        (λ scheduled. IsScheduleOf W.kind (opening W.kind scenario) (lists_in names.now) scheduled) }
+{
+    let world = W::begin(alloc, scenario)?;
+    schedule_from(world, alloc, names)
 }
 
 /// Returns a schedule for an oral campaign under which the generals in `names`, by round, make their accesses in this

@@ -3,4 +3,4 @@ use Rattle.campaign_orders.specs.Gathering.{AreGathered}
 use Rattle.campaign_orders.proofs.end_findings.gather.Given as goal
 
 abbrev pub invariant-loop-place : goal.invariant-loop-place
-invariant-loop-place l = AreGathered (take l.place l.states) l.findings.items
+invariant-loop-place g l = AreGathered g.W.ExploredWorld.outcome (take l.place l.states) l.findings.items

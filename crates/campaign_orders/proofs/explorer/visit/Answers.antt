@@ -1,7 +1,6 @@
 -- The replay of the names gives its order and its outcome.
 use Rattle.std.proofs.Common.{◌+◌, ◌∙◌, suc, ap, arith, ◌≡◌}
 use Rattle.world.specs.Playing.{lists_in}
-use Rattle.world.specs.World.{oral_kind}
 use Rattle.world.specs.KindLists.{replayed}
 use Rattle.campaign_orders.specs.Entering.{entered}
 use Rattle.campaign_orders.specs.Orders.{order_of}
@@ -10,20 +9,20 @@ use Rattle.campaign_orders.proofs.Replaying.{on_ok, if_ok_along, accesses_few, d
 use Rattle.campaign_orders.proofs.explorer.visit.Goals as goal
 
 pub order_in-requires : goal.order_in-requires
-order_in-requires c =
-    accesses_few c.args.scenario.now c.in_ok-copy.field-0 (lists_in c.args.names.now) c.in_ok-chronicle.chronicle c.in_ok-copy.ensures c.in_ok-chronicle.ensures.replayed c.recall.ensures c.accesses.result.now c.accesses.ensures
+order_in-requires g c =
+    accesses_few g.W.PlayableWorld.kind g.W.ExploredWorld.outcome g.met.W.ExploredWorld.explorable c.args.scenario.now c.in_ok-copy.field-0 (lists_in c.args.names.now) c.in_ok-chronicle.chronicle c.in_ok-copy.ensures c.in_ok-chronicle.ensures.replayed c.recall.ensures c.accesses.result.now c.accesses.ensures
 
 pub returns-clause-entered : goal.returns-clause-entered
-returns-clause-entered c =
-    let ds = decisions_are c.args.scenario.now c.in_ok-copy.field-0 (lists_in c.args.names.now) c.in_ok-chronicle.chronicle c.in_ok-copy.ensures c.in_ok-chronicle.ensures.replayed c.decisions.result.now c.decisions.ensures in
+returns-clause-entered g c =
+    let ds = decisions_are g.W.PlayableWorld.kind g.W.ExploredWorld.outcome g.met.W.ExploredWorld.explorable c.args.scenario.now c.in_ok-copy.field-0 (lists_in c.args.names.now) c.in_ok-chronicle.chronicle c.in_ok-copy.ensures c.in_ok-chronicle.ensures.replayed c.decisions.result.now c.decisions.ensures in
     let rounds : c.bound.result + 1 ≡ suc c.args.scenario.now.bound = omega (arith, c.bound.ensures.same) in
-    let rows = order_is c.args.scenario.now c.in_ok-copy.field-0 (lists_in c.args.names.now) c.in_ok-chronicle.chronicle c.in_ok-copy.ensures c.in_ok-chronicle.ensures.replayed
+    let rows = order_is g.W.PlayableWorld.kind g.W.ExploredWorld.outcome g.met.W.ExploredWorld.explorable c.args.scenario.now c.in_ok-copy.field-0 (lists_in c.args.names.now) c.in_ok-chronicle.chronicle c.in_ok-copy.ensures c.in_ok-chronicle.ensures.replayed
     (lists_in c.in_ok-order.order.items) c.accesses.result.now (c.bound.result + 1) c.accesses.ensures rounds c.in_ok-order.ensures in
-    on_ok c.next_order.result _ (c.in_ok-enter.ensures ∙ (λ i. entered c.args.findings.now.items (ds i) ((ap lists_in c.as_slice.ensures.value ∙ rows) i)))
+    on_ok g.W.PlayableWorld.kind g.W.ExploredWorld.outcome g.met.W.ExploredWorld.explorable c.next_order.result _ (c.in_ok-enter.ensures ∙ (λ i. entered c.args.findings.now.items (ds i) ((ap lists_in c.as_slice.ensures.value ∙ rows) i)))
 
 pub returns-clause-next : goal.returns-clause-next
-returns-clause-next c =
+returns-clause-next g c =
     let rounds : c.bound.result + 1 ≡ suc c.args.scenario.now.bound = omega (arith, c.bound.ensures.same) in
-    let rows = order_is c.args.scenario.now c.in_ok-copy.field-0 (lists_in c.args.names.now) c.in_ok-chronicle.chronicle c.in_ok-copy.ensures c.in_ok-chronicle.ensures.replayed
+    let rows = order_is g.W.PlayableWorld.kind g.W.ExploredWorld.outcome g.met.W.ExploredWorld.explorable c.args.scenario.now c.in_ok-copy.field-0 (lists_in c.args.names.now) c.in_ok-chronicle.chronicle c.in_ok-copy.ensures c.in_ok-chronicle.ensures.replayed
     (lists_in c.in_ok-order.order.items) c.accesses.result.now (c.bound.result + 1) c.accesses.ensures rounds c.in_ok-order.ensures in
-    if_ok_along c.next_order.result _ (next_order (lists_in c.in_ok-order.order.items)) (next_order (order_of oral_kind c.args.scenario.now (replayed oral_kind c.args.scenario.now (lists_in c.args.names.now)))) (ap next_order rows) c.next_order.ensures
+    if_ok_along g.W.PlayableWorld.kind g.W.ExploredWorld.outcome g.met.W.ExploredWorld.explorable c.next_order.result _ (next_order (lists_in c.in_ok-order.order.items)) (next_order (order_of g.W.PlayableWorld.kind c.args.scenario.now (replayed g.W.PlayableWorld.kind c.args.scenario.now (lists_in c.args.names.now)))) (ap next_order rows) c.next_order.ensures

@@ -5,7 +5,7 @@ use Rattle.campaign_orders.specs.Merging.{RoundsAlike}
 use Rattle.campaign_orders.proofs.likeness.are_alike.Goals as goal
 
 pub returns : goal.returns
-returns c t same = record {
+returns g c t same = record {
   scenario = same;
   words = sym c.words.ensures ∙ (c.same_words.ensures.0 c.if-not-same_words.false ∙ c.words-2.ensures);
   parts = sym c.open_parts.ensures ∙ (c.same_parts.ensures.0 c.if-not-same_parts.false ∙ c.open_parts-2.ensures);

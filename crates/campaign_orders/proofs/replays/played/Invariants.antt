@@ -2,8 +2,7 @@ use Rattle.std.proofs.Common.{◌≡◌, take}
 use Rattle.campaign_orders.specs.Layers.{behind_all}
 use Rattle.world.specs.Kind.{opening}
 use Rattle.world.specs.Playing.{lists_in}
-use Rattle.world.specs.World.{oral_kind}
 use Rattle.campaign_orders.proofs.replays.played.Given as goal
 
 abbrev pub invariant-loop-round : goal.invariant-loop-round
-invariant-loop-round l = l.world ≡ behind_all (opening oral_kind l.scenario) (lists_in (take l.round l.rows))
+invariant-loop-round g l = l.world ≡ behind_all g.W.PlayableWorld.kind (opening g.W.PlayableWorld.kind l.scenario) (lists_in (take l.round l.rows))

@@ -3,4 +3,4 @@ use Rattle.std.proofs.Common.{◌∙◌}
 use Rattle.campaign_orders.proofs.open_round.OpenRound.begin.Goals as goal
 
 pub returns : goal.returns
-returns c = (λ i. record { start = c.in_ok-start.ensures.ok i; words = c.words-words.ensures i; parts = (c.in_ok-parts.ensures ∙ c.open_parts.ensures) i })
+returns g c = (λ i. record { start = c.in_ok-start.ensures.ok i; words = c.words-words.ensures i; parts = (c.in_ok-parts.ensures ∙ c.open_parts.ensures) i })

@@ -5,6 +5,6 @@ use Rattle.campaign_orders.proofs.Stating.{opened_is}
 use Rattle.campaign_orders.proofs.state.State.opened.Goals as goal
 
 pub returns : goal.returns
-returns c =
-    opened_is c.args.self (lists_in c.self.inside.rows.items) c.self.inside.names.items c.self.inside.stage c.in_ok-stage.stage c.self.inside.ways (lists_in c.as_slice.result.now) c.as_slice-2.result.now
+returns g c =
+    opened_is g.W.PlayableWorld.kind g.W.ExploredWorld.outcome g.met.W.ExploredWorld.explorable c.args.self (lists_in c.self.inside.rows.items) c.self.inside.names.items c.self.inside.stage c.in_ok-stage.stage c.self.inside.ways (lists_in c.as_slice.result.now) c.as_slice-2.result.now
     (ap lists_in c.as_slice.ensures.value) c.as_slice-2.ensures.value c.in_ok-stage.ensures c.self.view_is
