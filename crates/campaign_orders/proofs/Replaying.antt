@@ -1,11 +1,10 @@
--- The order and the outcome of a replay, in oral campaigns.
+-- The order and the outcome of a replay.
 use Rattle.std.proofs.Common.{◌≡◌, ℕ, suc, ◌+◌, ◌<◌, ◌≤◌, List, [], All, refl, sym, ap, subst, ◌∙◌, Some, None, Result, Ok, Err, Vec, arith}
 use Rattle.std.specs.Prelude.{OnOk, IfOk}
 use Rattle.std.specs.Global.{Global}
 use Rattle.std.proofs.lemmas.List.Elements.{All-weaker}
 use Rattle.board.specs.Board.{Access}
 use Rattle.round.specs.Scenario.{Scenario, IsScenario}
-use Rattle.world.specs.Chronicle.{Chronicle, chronicle_of}
 use Rattle.world.specs.Kind.{World, Kind}
 use Rattle.world.specs.KindLists.{replayed, names_in}
 use Rattle.world.specs.Kind as kind
@@ -18,6 +17,7 @@ use Rattle.campaign_orders.specs.Entering.{entered}
 use Rattle.campaign_orders.specs.Exploring.{Finding, Exploration, counted_in, IsFinding, IsLowerFinding, IsCappedFinding, IsExploredInPart, IsExplored, IsExploration}
 use Rattle.campaign_orders.specs.Orders.{IsOrder, order_of}
 use Rattle.campaign_orders.specs.Outcomes.{outcome_in, Outcome}
+use Rattle.campaign_orders.specs.Replayed.{Replay, IsReplayOf}
 use Rattle.campaign_orders.specs.Succession.{next_order}
 use Rattle.campaign_orders.specs.Walks.{AreWalks}
 use Rattle.campaign_orders.proofs.Tallying.{Order}
@@ -44,21 +44,21 @@ module _ (K : Kind) (D : Outcome) (laws : IsExplorable K D) where
       let few = is.few in
       omega arith
 
-  -- The chronicle of the replay, for a copy of the scenario.
-  module _ (s t : Scenario) (names : Order) (chronicle : Chronicle) (copy : t ≡ s) (told : chronicle ≡ chronicle_of (replay_at t names)) where
-    told_is : chronicle ≡ chronicle_of (replay_at s names)
-    told_is = told ∙ ap (λ (v : Scenario). chronicle_of (replay_at v names)) copy
+  -- The accesses and the outcome of the replay, for a copy of the scenario.
+  module _ (s t : Scenario) (names : Order) (replay : Replay) (copy : t ≡ s) (told : IsReplayOf K D t names replay) where
+    accesses_are : replay.accesses ≡ (replay_at s names).ledger
+    accesses_are = told.accesses ∙ ap (λ (v : Scenario). (replay_at v names).ledger) copy
 
-    pub accesses_few : IsScenario s → (accesses : List Access) → accesses ≡ chronicle.accesses → All (λ (a : Access). a.general < 256) accesses
+    pub accesses_few : IsScenario s → (accesses : List Access) → accesses ≡ replay.accesses → All (λ (a : Access). a.general < 256) accesses
     accesses_few is accesses e =
         let A : List Access → Type 0 = λ l. All (λ (a : Access). a.general < 256) l in
-        subst A (sym (e ∙ ap (λ (c : Chronicle). c.accesses) told_is)) (few_generals s is names)
+        subst A (sym (e ∙ accesses_are)) (few_generals s is names)
 
-    pub decisions_are : (ds : List ℕ) → ds ≡ chronicle.decisions → ds ≡ outcome_in K D s (replayed K s names)
-    decisions_are ds e = e ∙ ap (λ (c : Chronicle). c.decisions) told_is
+    pub decisions_are : (ds : List ℕ) → ds ≡ replay.outcome → ds ≡ outcome_in K D s (replayed K s names)
+    decisions_are ds e = e ∙ (told.outcome ∙ ap (λ (v : Scenario). outcome_in K D v (replayed K v names)) copy)
 
-    pub order_is : (order : Order) (accesses : List Access) (rounds : ℕ) → accesses ≡ chronicle.accesses → rounds ≡ suc s.bound → order ≡ names_in 1 accesses rounds → order ≡ order_of K s (replayed K s names)
-    order_is order accesses rounds e n o = o ∙ (λ i. names_in 1 ((e ∙ ap (λ (c : Chronicle). c.accesses) told_is) i) (n i))
+    pub order_is : (order : Order) (accesses : List Access) (rounds : ℕ) → accesses ≡ replay.accesses → rounds ≡ suc s.bound → order ≡ names_in 1 accesses rounds → order ≡ order_of K s (replayed K s names)
+    order_is order accesses rounds e n o = o ∙ (λ i. names_in 1 ((e ∙ accesses_are) i) (n i))
 
   -- Orders are visited one after another.
   module _ (s : Scenario) (is : IsScenario s) where

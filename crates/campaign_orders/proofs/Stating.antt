@@ -1,13 +1,11 @@
 -- States as the code makes them.
-use Rattle.std.proofs.Common.{◌≡◌, ℕ, ◌<◌, List, [], ◌∷◌, ◌++◌, length, get_or, inr, sym, ap, subst, ◌∙◌, Result, Ok, Err, Vec}
+use Rattle.std.proofs.Common.{◌≡◌, ℕ, ◌<◌, List, [], ◌∷◌, ◌++◌, length, get_or, inr, sym, ap, subst, ◌∙◌, Result, Ok, Err, Vec, Option, Some, None}
 use Rattle.std.specs.Global.{Global}
 use Rattle.std.specs.Prelude.{OnOk}
 use Rattle.std.proofs.lemmas.List.{get_or_default, map-append}
 use Rattle.round.specs.Scenario.{Scenario}
 use Rattle.world.specs.Kind.{World, opening, Kind}
 use Rattle.world.specs.Playing.{lists_in}
-use Rattle.campaign_orders.specs.declared.stage.Stage.{Stage}
-use Rattle.campaign_orders.specs.declared.stage.Stage.TheVariants.{Begun, Open}
 use Rattle.campaign_orders.specs.Layers.{State, IsEntered, IsAlikeAt, behind_all, reached}
 use Rattle.campaign_orders.specs.Merging.{AreAlike, RoundsAlike}
 use Rattle.campaign_orders.specs.OpenRounds.{OpenRound, world_in}
@@ -28,15 +26,15 @@ module _ (K : Kind) (D : Outcome) (laws : IsExplorable K D) where
       ∙ ap (λ (c : Scenario). record (reached K (opening K c) rows names) { closed = r.closed; words = r.words; parts = r.parts }) (way_scenario K D laws s rows names)
 
   -- A state, given by its fields.
-  module _ (t : State) (rows : List (List ℕ)) (names : List ℕ) (stage : Stage) (ways : ℕ)
-      (seen : record { world = world_at K rows names stage; ways = ways; rows = rows; names = names } ≡ t) where
+  module _ (t : State) (s : Scenario) (rows : List (List ℕ)) (names : List ℕ) (stored : Option OpenRound) (ways : ℕ)
+      (seen : record { world = world_at K s rows names stored; ways = ways; rows = rows; names = names } ≡ t) where
     -- A state in an open round.
-    pub open_world : (o : OpenRound) → stage ≡ Open o → world_in K t.rows t.names o ≡ t.world
-    open_world o is = (λ i. world_in K (sym seen i).rows (sym seen i).names o) ∙ (ap (world_at K rows names) (sym is) ∙ ap (λ (u : State). u.world) seen)
+    pub open_world : (o : OpenRound) → stored ≡ Some o → world_in K t.rows t.names o ≡ t.world
+    open_world o is = (λ i. world_in K (sym seen i).rows (sym seen i).names o) ∙ (ap (world_at K s rows names) (sym is) ∙ ap (λ (u : State). u.world) seen)
 
-    -- A state at the start of a round.
-    pub begun_world : (s : Scenario) → stage ≡ Begun s → reached K (opening K s) t.rows t.names ≡ t.world
-    begun_world s is = (λ i. reached K (opening K s) (sym seen i).rows (sym seen i).names) ∙ (ap (world_at K rows names) (sym is) ∙ ap (λ (u : State). u.world) seen)
+    -- A state whose open round is not stored.
+    pub begun_world : stored ≡ None → reached K (opening K s) t.rows t.names ≡ t.world
+    begun_world is = (λ i. reached K (opening K s) (sym seen i).rows (sym seen i).names) ∙ (ap (world_at K s rows names) (sym is) ∙ ap (λ (u : State). u.world) seen)
 
   -- The campaign played again with copies of the state's contents.
   pub again_open : (t : State) (s c : Scenario) (rows : List (List ℕ)) (names : List ℕ) (o : OpenRound) → c ≡ s → rows ≡ t.rows → names ≡ t.names → reached K (opening K s) t.rows t.names ≡ t.world
@@ -47,11 +45,12 @@ module _ (K : Kind) (D : Outcome) (laws : IsExplorable K D) where
   pub again_is : (t : State) (s c : Scenario) (rows : List (List ℕ)) (names : List ℕ) (w : World) → c ≡ s → rows ≡ t.rows → names ≡ t.names → w ≡ reached K (opening K c) rows names → w ≡ reached K (opening K s) t.rows t.names
   again_is t s c rows names w same a b is = is ∙ (λ i. reached K (opening K (same i)) (a i) (b i))
 
-  -- The same state in another stage.
-  pub opened_is : (t : State) (rows : List (List ℕ)) (names : List ℕ) (stage later : Stage) (ways : ℕ) (rows' : List (List ℕ)) (names' : List ℕ) → rows' ≡ rows → names' ≡ names → world_at K rows' names' later ≡ world_at K rows' names' stage
-      → record { world = world_at K rows names stage; ways = ways; rows = rows; names = names } ≡ t → record { world = world_at K rows names later; ways = ways; rows = rows; names = names } ≡ t
-  opened_is t rows names stage later ways rows' names' a b same seen =
-      let e : world_at K rows names later ≡ world_at K rows names stage = (λ i. world_at K (sym a i) (sym b i) later) ∙ (same ∙ (λ i. world_at K (a i) (b i) stage)) in
+  -- The same state with its open round stored.
+  pub opened_is : (t : State) (s c : Scenario) (rows : List (List ℕ)) (names : List ℕ) (stored : Option OpenRound) (later : OpenRound) (ways : ℕ) (rows' : List (List ℕ)) (names' : List ℕ) → c ≡ s → rows' ≡ rows → names' ≡ names
+      → world_in K rows' names' later ≡ world_at K c rows' names' stored
+      → record { world = world_at K s rows names stored; ways = ways; rows = rows; names = names } ≡ t → record { world = world_in K rows names later; ways = ways; rows = rows; names = names } ≡ t
+  opened_is t s c rows names stored later ways rows' names' same a b is seen =
+      let e : world_in K rows names later ≡ world_at K s rows names stored = (λ i. world_in K (sym a i) (sym b i) later) ∙ (is ∙ (λ i. world_at K (same i) (a i) (b i) stored)) in
       (λ i. record { world = e i; ways = ways; rows = rows; names = names }) ∙ seen
 
   -- Returns the state at the start of a round.
