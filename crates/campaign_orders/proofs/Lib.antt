@@ -15,6 +15,7 @@ pub mod Tallying
 pub mod Visiting
 pub mod Passing
 pub mod Replaying
+pub mod OralReplays
 pub mod Stepping
 pub mod Planned
 pub mod Agreeing

@@ -34,32 +34,6 @@ module _ (K : Kind) (D : Outcome) (laws : IsExplorable K D) where
   if_ok_along (Ok x) f a b e h = h ∙ e
   if_ok_along (Err x) f a b e h = tt
 
-  -- Returns the world of the replay of these names.
-  abbrev pub replay_at : Scenario → Order → World
-  replay_at s names = kind.run K (kind.opening K s) (replayed K s names)
-
-  few_generals : (s : Scenario) → IsScenario s → (names : Order) → All (λ (a : Access). a.general < 256) (replay_at s names).ledger
-  few_generals s is names k d lt =
-      let h = (runs_are_replays K laws.campaigns).generals s (replayed K s names) is (replayed_complete K s (laws.campaigns s is) names) k d lt in
-      let few = is.few in
-      omega arith
-
-  -- The accesses and the outcome of the replay, for a copy of the scenario.
-  module _ (s t : Scenario) (names : Order) (replay : Replay) (copy : t ≡ s) (told : IsReplayOf K D t names replay) where
-    accesses_are : replay.accesses ≡ (replay_at s names).ledger
-    accesses_are = told.accesses ∙ ap (λ (v : Scenario). (replay_at v names).ledger) copy
-
-    pub accesses_few : IsScenario s → (accesses : List Access) → accesses ≡ replay.accesses → All (λ (a : Access). a.general < 256) accesses
-    accesses_few is accesses e =
-        let A : List Access → Type 0 = λ l. All (λ (a : Access). a.general < 256) l in
-        subst A (sym (e ∙ accesses_are)) (few_generals s is names)
-
-    pub decisions_are : (ds : List ℕ) → ds ≡ replay.outcome → ds ≡ outcome_in K D s (replayed K s names)
-    decisions_are ds e = e ∙ (told.outcome ∙ ap (λ (v : Scenario). outcome_in K D v (replayed K v names)) copy)
-
-    pub order_is : (order : Order) (accesses : List Access) (rounds : ℕ) → accesses ≡ replay.accesses → rounds ≡ suc s.bound → order ≡ names_in 1 accesses rounds → order ≡ order_of K s (replayed K s names)
-    order_is order accesses rounds e n o = o ∙ (λ i. names_in 1 ((e ∙ accesses_are) i) (n i))
-
   -- Orders are visited one after another.
   module _ (s : Scenario) (is : IsScenario s) where
     pub visits_begin : (names : List (Vec ℕ Global)) (findings : List Finding) → names ≡ [] → findings ≡ [] → IsVisited K D s 0 (lists_in names) findings

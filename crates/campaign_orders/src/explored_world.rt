@@ -8,6 +8,7 @@ ghost use Rattle.world.specs.Kind.{opening};
 ghost use Rattle.world.specs.Playing.{lists_in};
 ghost use Rattle.world.specs.Promises.{AgreeIfTolerable};
 
+use crate::order::order_in;
 use crate::replay::Replay;
 use arrayvec::ArrayVec;
 use round::{Round, Scenario};
@@ -87,8 +88,11 @@ impl ExploredWorld for World {
         scenario: Scenario,
         names: &[Vec<u8>],
     ) -> Result<Replay, AllocError> {
+        scenario.recall();
+        let rounds = scenario.bound() as u8 + 1;
         let chronicle = replay(alloc, scenario, names)?;
-        Replay::of(alloc, chronicle.accesses(), chronicle.decisions())
+        let order = order_in(alloc, chronicle.accesses(), rounds)?;
+        Replay::of(alloc, order, chronicle.decisions())
     }
 
     ghost explorable = { oral_explorable };

@@ -17,7 +17,6 @@ use crate::exploration::{Exploration, Reach};
 use crate::explored_world::ExploredWorld;
 use crate::finding::DecisionGroup;
 use crate::layers::last_states;
-use crate::order::order_in;
 use crate::succession::next_order;
 use round::Scenario;
 use std::alloc::{AllocError, Global};
@@ -165,11 +164,9 @@ fn visit<W: ExploredWorld>(
         (λ next. option_map (λ order. lists_in order.items) next
         ≡ next_order (order_of W.kind scenario.now (replayed W.kind scenario.now (lists_in names.now)))) }
 {
-    scenario.recall();
     let replay = W::replayed(alloc, scenario.copy(alloc)?, names)?;
-    let order = order_in(alloc, replay.accesses(), scenario.bound() + 1)?;
-    enter(alloc, findings, replay.decisions(), order.as_slice())?;
-    next_order(order)
+    enter(alloc, findings, replay.decisions(), replay.order())?;
+    next_order(replay.into_order())
 }
 
 /// Counts one more order of accesses that leads to these decisions. If no other order has led to them, it appends them
