@@ -27,7 +27,7 @@ use Rattle.campaign_orders.proofs.Branching.{ways_over, orders_over}
 use Rattle.campaign_orders.proofs.Deciding.{again, orders_decide}
 use Rattle.campaign_orders.proofs.Lesser.{order_total, least_then, then_first}
 use Rattle.campaign_orders.proofs.Listed.{orders_are_listed}
-use Rattle.campaign_orders.proofs.Telling.{rounds_same}
+use Rattle.campaign_orders.specs.Telling.{rounds_same}
 use Rattle.campaign_orders.specs.Merging.{RoundsAlike}
 use Rattle.campaign_orders.specs.Explorable.{IsExplorable}
 

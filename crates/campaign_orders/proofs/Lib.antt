@@ -7,7 +7,6 @@ pub mod Deciding
 pub mod Listed
 pub mod Bounded
 pub mod ScheduleLaws
-pub mod Telling
 pub mod Merging
 pub mod Rising
 pub mod Succeeding

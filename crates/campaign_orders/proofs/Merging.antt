@@ -18,7 +18,7 @@ use Rattle.campaign_orders.specs.Listing.{round_orders, orders_from, or_end, bra
 use Rattle.campaign_orders.specs.Outcomes.{Outcome}
 use Rattle.campaign_orders.specs.Merging.{TellAlike, RoundsAlike, AreAlike, AlikeWorldsGoOnAlike, AlikeWorldsHaveOneList}
 use Rattle.campaign_orders.specs.Explorable.{IsExplorable}
-use Rattle.campaign_orders.proofs.Telling.{rounds-append, rounds_long, tell-append}
+use Rattle.campaign_orders.specs.Telling.{rounds-append, rounds_long, tell-append}
 
 module _ (K : Kind) (D : Outcome) (laws : IsExplorable K D) where
   begins_alike : (s : Scenario) (a b : List (List Letter)) (g : ℕ) (o : Option (List Insn)) → RoundsAlike a b → begins K s a g o ≡ begins K s b g o

@@ -12,7 +12,7 @@ use Rattle.campaign_orders.specs.OpenRounds.{OpenRound, world_in}
 use Rattle.campaign_orders.specs.Outcomes.{Outcome}
 use Rattle.campaign_orders.specs.Stages.{world_at}
 use Rattle.campaign_orders.proofs.Reaching.{way_scenario}
-use Rattle.campaign_orders.proofs.Telling.{rounds_same}
+use Rattle.campaign_orders.specs.Telling.{rounds_same}
 use Rattle.campaign_orders.specs.Explorable.{IsExplorable}
 
 module _ (K : Kind) (D : Outcome) (laws : IsExplorable K D) where

@@ -10,6 +10,7 @@ pub mod Least
 pub mod Listing
 pub mod Merging
 pub mod OpenRounds
+pub mod OralAgreement
 pub mod Orders
 pub mod Outcomes
 pub mod Places
@@ -18,5 +19,6 @@ pub mod Replayed
 pub mod Schedules
 pub mod Stages
 pub mod Succession
+pub mod Telling
 pub mod Text
 pub mod Walks

@@ -60,8 +60,8 @@ pub trait ExploredWorld: PlayableWorld + Drop {
 }
 
 impl ExploredWorld for World {
-    ghost use Rattle.campaign_orders.proofs.Telling.{oral_explorable};
-    ghost use Rattle.campaign_orders.proofs.Agreeing.{oral_agree};
+    ghost use Rattle.campaign_orders.specs.Telling.{oral_explorable};
+    ghost use Rattle.campaign_orders.specs.OralAgreement.{oral_agree};
 
     ghost outcome = { oral_outcome };
 
