@@ -11,18 +11,24 @@ use crate::parts::{PartError, Parts};
 use std::alloc::{AllocError, Global};
 use text::{Stop, find};
 
-/// Cuts the bytes after the first line feed: returns the first line with its line feed, and the bytes after it. Returns
-/// `None` if there is no line feed.
-fn first_line(bytes: &[u8]) -> Option<(&[u8], &[u8])>
-    ensures line { IfSome result (λ cut. IsLine cut.0.now) }
-    ensures whole { IfSome result (λ cut. bytes.now ≡ cut.0.now ++ cut.1.now) }
-    ensures none { IfNone result (IsUnfed bytes.now) }
+/// How many campaigns are collected before they are added to the counts.
+const PIECE: usize = 16_384;
+
+/// Reads the next line of a file, with its line feed. Returns no bytes at the end of the file, and a line without a line
+/// feed if the file ends so.
+fn next_line<B: BufRead>(alloc: Global, reader: &mut B) -> Result<Vec<u8>, PartError>
+    ensures consumed { IfOk result (λ line. Consumes (B.remaining reader.old) (B.remaining reader.new) line.items) }
+    ensures end { IfOk result (λ line. line.items ≡ [] → IsAtEnd (B.remaining reader.new)) }
+    ensures whole { IfOk result (λ line. IsLine line.items
+        ⊎ (IsUnfed line.items × IsAtEnd (B.remaining reader.new))) }
+    ensures unread { IfErr result (λ e. (e ≡ PartError.Memory) ⊎ (e ≡ PartError.Unread)) }
 {
-    let end = find(Stop::Byte(b'\n'), bytes);
-    if end < bytes.len() {
-        return Some(bytes.split_at(end + 1));
+    let mut line = Vec::new(alloc);
+    match reader.read_until(b'\n', &mut line) {
+        Ok(_) => Ok(line),
+        Err(error) if error.kind() == ErrorKind::OutOfMemory => Err(PartError::Memory),
+        Err(_) => Err(PartError::Unread),
     }
-    None
 }
 
 /// Stores `line` as the head that all parts of the survey share. If a head is already stored, fails with `Family(1)`
@@ -112,73 +118,90 @@ fn add_row(
     Ok(())
 }
 
-/// Appends the campaigns' results that the lines after a head describe, up to the first invalid line, which it returns
-/// as an error. The line after the head has number 2.
-fn add_rows(
+/// Parses line `number` of a part: stores the first line as the head, and appends the result of the campaign that
+/// another line describes.
+fn add_line(
     alloc: Global,
-    head: &[u8],
-    lines: &[u8],
+    head: &mut Vec<u8>,
+    number: u64,
+    line: &[u8],
     seeds: (u64, u64),
     findings: &mut Vec<Finding>,
 ) -> Result<(), PartError>
-    requires head { IsHeadLine head.now }
-    requires few { length lines.now + 2 < 2 ^ 64 }
-    ensures added { OnOk result (AddsAll head.now lines.now seeds.0 seeds.1 findings.old.items findings.new.items) }
+    requires head { 1 < number → IsHeadLine head.old.items }
+    requires first { 1 ≤ number }
+    requires line { IsLine line.now ⊎ IsUnfed line.now }
+    requires some { line.now ≢ [] }
+    ensures first { number ≡ 1 → OnOk result (IsHeadLine line.now × (head.new.items ≡ line.now)
+        × (head.old.items ≢ [] → line.now ≡ head.old.items) × (findings.new.items ≡ findings.old.items)) }
+    ensures later { 1 < number → OnOk result ((head.new.items ≡ head.old.items)
+        × Adds head.old.items line.now seeds.0 seeds.1 findings.old.items findings.new.items) }
     ensures wrong { IfErr result (λ e. e ≢ PartError.Memory
-        → StopsAt head.now lines.now seeds.0 seeds.1 findings.old.items findings.new.items e) }
+        → IsWrong head.old.items line.now seeds.0 seeds.1 number e) }
+    ensures left { IfErr result (λ e. e ≢ PartError.Memory → (head.new.items ≡ head.old.items)
+        × (findings.new.items ≡ findings.old.items)) }
+    ensures read { IfErr result (λ e. e ≢ PartError.Unread) }
 {
-    let mut rest = lines;
-    let mut number: u64 = 2;
-    while !rest.is_empty() {
-        let Some((line, behind)) = first_line(rest) else {
-            return Err(PartError::Line(number));
-        };
-        add_row(alloc, head, number, line, seeds, findings)?;
-        rest = behind;
-        number += 1;
+    if line.last() != Some(&b'\n') {
+        return Err(PartError::Line(number));
     }
-    Ok(())
-}
-
-/// Reads a part of a survey, and appends its campaigns' results to `parts`. The first line is the head, which must be
-/// the same in all parts. Each other line describes a campaign whose seed is in the range `seeds`, both ends included,
-/// or repeats the head. A part may be empty.
-///
-/// # Errors
-///
-/// Returns the first invalid line and why it is invalid. The results of the lines before it are kept, and the lines
-/// after it are not read. Fails with `Memory` if it runs out of memory.
-pub fn read_part(
-    alloc: Global,
-    parts: &mut Parts,
-    bytes: &[u8],
-    seeds: (u64, u64),
-) -> Result<(), PartError>
-    ensures read { OnOk result (IsReadOn parts.old.head.items parts.new.head.items bytes.now seeds.0 seeds.1
-        parts.old.findings.items parts.new.findings.items) }
-    ensures wrong { IfErr result (λ e. e ≢ PartError.Memory → IsFaulty parts.old.head.items parts.new.head.items
-        bytes.now seeds.0 seeds.1 parts.old.findings.items parts.new.findings.items e) }
-    // A correct part is read without an error, and gives just the campaigns that it was written from.
-    ensures taken { (head : List ℕ) (told : List Found) → IsFurther parts.old.head.items head bytes.now
-        seeds.0 seeds.1 told → IfErr result (λ e. e ≡ PartError.Memory) }
-    ensures told { (head : List ℕ) (told : List Found) → IsFurther parts.old.head.items head bytes.now
-        seeds.0 seeds.1 told → OnOk result (parts.new.findings.items ≡ parts.old.findings.items ++ told) }
-{
-    if bytes.is_empty() {
-        return Ok(());
+    if number > 1 {
+        return add_row(alloc, head.as_slice(), number, line, seeds, findings);
     }
-    let Some((line, behind)) = first_line(bytes) else {
-        return Err(PartError::Line(1));
-    };
     if !is_head(line) {
         return Err(PartError::Line(1));
     }
-    take_head(&mut parts.head, line)?;
-    add_rows(
-        alloc,
-        parts.head.as_slice(),
-        behind,
-        seeds,
-        &mut parts.findings,
-    )
+    take_head(head, line)
+}
+
+/// Reads a part of a survey, and adds its campaigns to `parts`. The first line is the head, which must be the same in all
+/// parts. Each other line describes a campaign whose seed is in the range `seeds`, both ends included, or repeats the
+/// head. A part may be empty. At most 16,384 results are kept at a time.
+///
+/// # Errors
+///
+/// Returns the first invalid line and why it is invalid. Fails with `Unread` if the part cannot be read, and with
+/// `Memory` if it runs out of memory.
+pub fn read_part<B: BufRead>(
+    alloc: Global,
+    parts: Parts,
+    reader: &mut B,
+    seeds: (u64, u64),
+) -> Result<Parts, PartError>
+    ensures read { (old : List Found) → HasRead parts old → IfOk result (λ after. (bytes : List ℕ) × (new : List Found)
+        × AreBytesOf (B.remaining reader.old) bytes × HasRead after new
+        × IsReadOn parts.head.items after.head.items bytes seeds.0 seeds.1 old new) }
+    ensures wrong { (old : List Found) → HasRead parts old → IfErr result (λ e. IsRejection e
+        → (bytes head : List ℕ) × (new : List Found) × AreBytesOf (B.remaining reader.old) bytes
+        × IsFaulty parts.head.items head bytes seeds.0 seeds.1 old new e) }
+    // A correct part is read without an error, and gives just the campaigns that it was written from.
+    ensures taken { (head bytes : List ℕ) (told old : List Found) → HasRead parts old
+        → B.remaining reader.old ≡ Some bytes → IsFurther parts.head.items head bytes seeds.0 seeds.1 told
+        → IfErr result (λ e. (e ≡ PartError.Memory) ⊎ (e ≡ PartError.Unread)) }
+    ensures told { (head bytes : List ℕ) (told old : List Found) → HasRead parts old
+        → B.remaining reader.old ≡ Some bytes → IsFurther parts.head.items head bytes seeds.0 seeds.1 told
+        → IfOk result (λ after. HasRead after (old ++ told)) }
+{
+    let mut parts = parts;
+    let mut findings = Vec::new(alloc);
+    for number in 1..u64::MAX {
+        let line = next_line(alloc, reader)?;
+        if line.is_empty() {
+            parts.add(alloc, findings.as_slice())?;
+            return Ok(parts);
+        }
+        add_line(
+            alloc,
+            &mut parts.head,
+            number,
+            line.as_slice(),
+            seeds,
+            &mut findings,
+        )?;
+        if findings.len() >= PIECE {
+            parts.add(alloc, findings.as_slice())?;
+            findings.clear();
+        }
+    }
+    Err(PartError::Memory)
 }
