@@ -53,6 +53,27 @@ static const char *why(const struct program *program) {
     const char *last = sentence(text);
     return snprintf(line, sizeof line, "V%u %.*s", fault.number - 100, (int)strcspn(last, "\n"), last), line;
 }
+
+/* The same programs, verified once and run from a loaded program, on one board. */
+static struct byzlab_program kept;
+static uint64_t board[BYZLAB_BOARD_WORDS];
+
+static void *load_once(const struct program *program) {
+    struct byzlab_fault fault;
+    uint32_t status = byzlab_load(program->bytes, program->length, BYZLAB_BOARD_HELPERS, &kept, &fault);
+    return status == BYZLAB_DONE ? &kept : NULL;
+}
+
+static void unload_once(void *loaded) {
+    if (loaded) byzlab_unload(loaded);
+}
+
+static uint64_t run_loaded(void *loaded, const struct program *program, unsigned times) {
+    struct byzlab_outcome outcome = {0};
+    while (times--)
+        if (byzlab_run_loaded(loaded, program->context, CONTEXT, board, &outcome)) abort();
+    return outcome.r0;
+}
 #else
 static const char *absent(void) { return "no --library, and no checks/library/run"; }
 #define begin 0
@@ -61,6 +82,10 @@ static const char *absent(void) { return "no --library, and no checks/library/ru
 #define unload 0
 #define run 0
 #define why 0
+#define load_once 0
+#define unload_once 0
+#define run_loaded 0
 #endif
 
 const struct engine byzlab_engine = {"byzlab", absent, begin, end, load, unload, run, why, NULL, 0};
+const struct engine byzlab_loaded_engine = {"byzlab-loaded", absent, begin, end, load_once, unload_once, run_loaded, why, NULL, 0};

@@ -37,7 +37,7 @@ struct engine {
     int is_native;
 };
 
-extern const struct engine byzlab_engine, linux_engine, linux_lenient_engine, pcap_engine, go_engine;
+extern const struct engine byzlab_engine, byzlab_loaded_engine, linux_engine, linux_lenient_engine, pcap_engine, go_engine;
 extern const struct engine dpdk_engine, dpdk_jit_engine;
 
 #endif

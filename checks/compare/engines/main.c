@@ -31,7 +31,7 @@
 
 static const struct engine *const engines[] = {
     &byzlab_engine,        &dpdk_engine, &dpdk_jit_engine, &linux_engine,
-    &linux_lenient_engine, &pcap_engine, &go_engine,
+    &linux_lenient_engine, &pcap_engine, &go_engine,        &byzlab_loaded_engine,
 };
 #define ENGINES (sizeof engines / sizeof *engines)
 #define ROUNDS 64
